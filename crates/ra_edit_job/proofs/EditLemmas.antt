@@ -38,6 +38,7 @@ use Rattle.ra_model_text.proofs.Meaning.{text_accepted_whole}
 use Rattle.ra_model_text.specs.ModelTexts.{group_text, resource_text, machine_text, service_text, process_text}
 use Rattle.ra_model_text.specs.ModelTexts.{balance_text, weights_text, model_text}
 use Rattle.ra_io.specs.Outside.{Reading, Took}
+use Rattle.ra_token.proofs.ToldLemmas.{told_then}
 use Rattle.ra_jobs.specs.declared.refusals.File.TheVariants as file
 use Rattle.ra_jobs.specs.declared.refusals.Refusal.{Refusal}
 use Rattle.ra_jobs.specs.declared.refusals.Refusal.TheVariants.{Read, Model, Closed, Assign, Edits, Broken, Write}
@@ -50,27 +51,26 @@ use Rattle.ra_jobs.specs.Comes.{KnownTo}
 use Rattle.ra_jobs.specs.Complete.{NoFault}
 use Rattle.ra_jobs.specs.Commands.{over}
 use Rattle.ra_jobs.specs.Ends.{Does, Tries, Finishes, Leaves}
-use Rattle.ra_jobs.specs.Files.{Held, Faults, Names, name_of, Accepts, InstanceIs, edit_names}
+use Rattle.ra_jobs.specs.Files.{Held, Faults, Names, name_of, IsNamed, EndsAt, Accepts}
 use Rattle.ra_jobs.specs.Lines.{refusal_line}
 use Rattle.ra_jobs.specs.Output.{Output, BrokeOff, Put}
 use Rattle.ra_jobs.specs.Refusals.{Reason, CanTell, RoleBreaks}
-use Rattle.ra_jobs.specs.Stages.{JudgeReason, ListsReason, ReadsLists}
+use Rattle.ra_jobs.specs.Stages.{JudgeReason, WriteReason}
 use Rattle.ra_jobs.specs.Statuses.{status_of}
 use Rattle.ra_jobs.proofs.BareLemmas.{bare}
-use Rattle.ra_jobs.proofs.ComesLemmas.{Listed, breaks_listed, told_of}
+use Rattle.ra_jobs.proofs.ComesLemmas.{Listed, Went, breaks_listed, breaks_never, known_model, own_known, told_closed}
 use Rattle.ra_jobs.proofs.CompleteLemmas.{is_done, complete, contradiction}
 use Rattle.ra_jobs.proofs.DoesLemmas.{does_so, memory_refused}
 use Rattle.ra_jobs.proofs.EndLemmas.{Ends, EndsOver, finished, left_so}
-use Rattle.ra_jobs.proofs.MeaningLemmas.{no_model, no_closed, no_initial, no_changed, no_initial_break}
-use Rattle.ra_jobs.proofs.MeaningLemmas.{no_changed_break, instances_same}
+use Rattle.ra_jobs.proofs.MeaningLemmas.{told_gives, instances_same}
 use Rattle.ra_jobs.proofs.RowLemmas.{raw_of, bare_raw, raw_same}
-use Rattle.ra_jobs.proofs.StageLemmas.{rose_later, can_tell, reason_more}
+use Rattle.ra_jobs.proofs.StageLemmas.{rose_later, breaks_role, can_tell, reason_more}
 use Rattle.ra_edit_job.specs.declared.edit.Outcome.{Outcome}
 use Rattle.ra_edit_job.specs.EditedTexts.{model_part, edited_lines, edited_text}
 use Rattle.ra_edit_job.specs.Outcomes.{IsOutcome, outcome_text}
 use Rattle.ra_edit_job.specs.Editing.{left_of, text_left, edits_output, IsEdited, IsTaken, Edited, EditsRefused}
 use Rattle.ra_edit_job.specs.Editing.{EditsAccepted, EditOwn, EditComes, AreEditable, edits_as, EditsReason, HasEdits}
-use Rattle.ra_edit_job.specs.Editing.{EditReason, OverReason, editing}
+use Rattle.ra_edit_job.specs.Editing.{editing}
 
 -- ---- the text of instances with the same lists
 
@@ -179,106 +179,42 @@ edits_reason held name i before now (reader.Range at value least most) rose told
 edits_reason held name i before now (reader.TooMany at) rose told = ((λ e. cc, λ e. cc), told)
 edits_reason held name i before now reader.NoMemory rose told = tt
 
--- a refusal of the lists
-pub reason_listed : (held later : Held) (model : List ℕ) (closed : Option (List ℕ)) (initial current edits : List ℕ)
-    (i : Tables) (first before now : Faults) (own : Refusal → Type 0) → ((other : List ℕ) → later other ≡ held other) →
-    ((other : List ℕ) → first other ≤ before other) → InstanceIs held model closed i → (refusal : Refusal) →
-    ListsReason later initial current i before now refusal →
-    Reason held (edit_names model initial current edits closed) first now own refusal
-unfolding name_of
-reason_listed held later model closed initial current edits i first before now own same never_fell instance
-    (Read file.Initial) reason = record {
-      earlier = (i, instance);
-      named = refl;
-      rose = rose_later (first initial) (before initial) (now initial) (never_fell initial) reason;
-    }
-reason_listed held later model closed initial current edits i first before now own same never_fell instance
-    (Read file.Changed) reason = record {
-      earlier = (i, reason.0, instance, rw (sym (same initial)) reason.1);
-      named = refl;
-      rose = rose_later (first current) (before current) (now current) (never_fell current) reason.2;
-    }
-reason_listed held later model closed initial current edits i first before now own same never_fell instance
-    (Assign role.Initial fault) reason = record {
-      tables = i;
-      instance = instance;
-      name = initial;
-      named = refl;
-      refused = record { in_file = reason.in_file; refused = rw (sym (same initial)) reason.refused };
-    }
-reason_listed held later model closed initial current edits i first before now own same never_fell instance
-    (Assign role.Changed fault) reason = record {
-      tables = i;
-      a0 = reason.0;
-      instance = instance;
-      initial = rw (sym (same initial)) reason.1;
-      name = current;
-      named = refl;
-      refused = record { in_file = reason.2.in_file; refused = rw (sym (same current)) reason.2.refused };
-    }
-reason_listed held later model closed initial current edits i first before now own same never_fell instance Memory
-    reason = tt
-reason_listed held later model closed initial current edits i first before now own same never_fell instance refusal
-    reason = absurd reason
-
--- the lists were accepted
-pub accepts_lists : (held later : Held) (model : List ℕ) (closed : Option (List ℕ)) (initial current edits : List ℕ)
-    (i : Tables) (a0 a : List Machine) → ((other : List ℕ) → later other ≡ held other) →
-    InstanceIs held model closed i → ReadsLists later initial current i a0 a →
-    Accepts held (edit_names model initial current edits closed) i a0 a
-accepts_lists held later model closed initial current edits i a0 a same instance lists = record {
-  instance = instance;
-  initial = rw (sym (same initial)) lists.initial;
-  changed = rw (sym (same current)) lists.changed;
-}
-
 -- a refusal of the edits
-pub reason_edits : (held later : Held) (model : List ℕ) (closed : Option (List ℕ)) (initial current edits : List ℕ)
-    (i : Tables) (a0 a : List Machine) (first before now : Faults) (written : Type 0) →
-    ((other : List ℕ) → later other ≡ held other) → ((other : List ℕ) → first other ≤ before other) →
-    Accepts held (edit_names model initial current edits closed) i a0 a → (refusal : Refusal) →
-    EditsReason later edits i before now refusal
-    → Reason held (edit_names model initial current edits closed) first now
-    (EditOwn held (edit_names model initial current edits closed) written) refusal
-unfolding name_of
-reason_edits held later model closed initial current edits i a0 a first before now written same never_fell accepts
-    (Read file.Edits) reason = record {
+pub reason_edits : (held later : Held) (names : Names) (i : Tables) (a0 a : List Machine) (first before now : Faults)
+    (written : Type 0) → ((other : List ℕ) → later other ≡ held other) →
+    ((other : List ℕ) → first other ≤ before other) → IsNamed names file.Edits → Accepts held names i a0 a →
+    (refusal : Refusal) → EditsReason later (name_of names file.Edits) i before now refusal →
+    Reason held names first now (EditOwn held names written) refusal
+reason_edits held later names i a0 a first before now written same never_fell named accepts (Read file.Edits) reason =
+    record {
       earlier = (i, a0, a, accepts);
-      named = refl;
-      rose = rose_later (first edits) (before edits) (now edits) (never_fell edits) reason;
+      named = named;
+      rose = rose_later _ _ _ (never_fell (name_of names file.Edits)) reason;
     }
-reason_edits held later model closed initial current edits i a0 a first before now written same never_fell accepts
-    (Edits fault) reason = record {
+reason_edits held later names i a0 a first before now written same never_fell named accepts (Edits fault) reason =
+    record {
       tables = i;
       a0 = a0;
       a = a;
       accepts = accepts;
-      named = refl;
+      named = named;
       in_file = reason.0;
-      refused = rw (sym (same edits)) reason.1;
+      refused = rw (sym (same (name_of names file.Edits))) reason.1;
     }
-reason_edits held later model closed initial current edits i a0 a first before now written same never_fell accepts
-    Memory reason = tt
-reason_edits held later model closed initial current edits i a0 a first before now written same never_fell accepts
-    refusal reason = absurd reason
+reason_edits held later names i a0 a first before now written same never_fell named accepts Memory reason = tt
+reason_edits held later names i a0 a first before now written same never_fell named accepts refusal reason =
+    absurd reason
 
-pub taken_all : (held later : Held) (model : List ℕ) (closed : Option (List ℕ)) (initial current edits : List ℕ)
-    (i : Tables) (a0 a : List Machine) (e : EditLists) → ((other : List ℕ) → later other ≡ held other) →
-    Accepts held (edit_names model initial current edits closed) i a0 a → IsAssignment i a0 → IsAssignment i a →
-    HasEdits later edits i e → IsTaken held (edit_names model initial current edits closed) i a0 a e
-unfolding name_of
-taken_all held later model closed initial current edits i a0 a e same accepts first second has = record {
+pub taken_all : (held later : Held) (names : Names) (i : Tables) (a0 a : List Machine) (e : EditLists) →
+    ((other : List ℕ) → later other ≡ held other) → Accepts held names i a0 a → IsAssignment i a0 → IsAssignment i a →
+    HasEdits later (name_of names file.Edits) i e → IsTaken held names i a0 a e
+taken_all held later names i a0 a e same accepts first second has = record {
   accepts = accepts;
   initial = first;
   current = second;
-  edits = rw (sym (same edits)) has.edits;
+  edits = rw (sym (same (name_of names file.Edits))) has.edits;
   fits = has.fits;
 }
-
-some_then : (told : Option (List ℕ)) (P Q : List ℕ → Type 0) → ((bytes : List ℕ) → P bytes → Q bytes) → IfSome told P →
-    IfSome told Q
-some_then None P Q step is = tt
-some_then (Some bytes) P Q step is = step bytes is
 
 accepted_of : (held : Held) (names : Names) (i : Tables) (a0 a : List Machine) (e : EditLists) →
     IsTaken held names i a0 a e → EditsAccepted held names
@@ -287,40 +223,20 @@ accepted_of held names i a0 a e taken = record {
   a0 = a0;
   a = a;
   accepts = taken.accepts;
-  none = some_then (held (name_of names file.Edits)) (λ bytes. AreEditsOf bytes i e)
-      (λ bytes. edits_refusal bytes i ≡ None) (λ bytes is. (edits_accept bytes i).1 (is.count, is.file)) taken.edits;
+  none = told_then {P = λ bytes. AreEditsOf bytes i e} {Q = λ bytes. edits_refusal bytes i ≡ None}
+      (held (name_of names file.Edits)) taken.edits (λ bytes is. (edits_accept bytes i).1 (is.count, is.file));
 }
 
 -- a refusal of the run
 pub reason_run : (held : Held) (names : Names) (i : Tables) (a0 a : List Machine) (e : EditLists) (before now : Faults)
-    (sent : List ℕ → Type 0) → IsSome names.initial → IsSome names.changed → IsTaken held names i a0 a e →
-    (refusal : Refusal) → EditReason i a0 a (IsEdited i a0 a e sent) refusal →
+    (sent : List ℕ → Type 0) → IsNamed names file.Initial → IsNamed names file.Changed →
+    IsTaken held names i a0 a e → (refusal : Refusal) → JudgeReason i a0 a (IsEdited i a0 a e sent) refusal →
     Reason held names before now (EditOwn held names (Edited held names sent)) refusal
-reason_run held names i a0 a e before now sent has_initial has_changed taken (Broken role.Initial cause) reason = (
+reason_run held names i a0 a e before now sent initial changed taken (Broken which cause) reason = (
   accepted_of held names i a0 a e taken,
-  record {
-    tables = i;
-    a0 = a0;
-    a = a;
-    named = has_initial;
-    accepts = taken.accepts;
-    broken = reason;
-  },
+  breaks_role held names i a0 a initial changed taken.accepts which cause reason,
 )
-reason_run held names i a0 a e before now sent has_initial has_changed taken (Broken role.Changed cause) reason = (
-  accepted_of held names i a0 a e taken,
-  record {
-    tables = i;
-    a0 = a0;
-    a = a;
-    start_named = has_initial;
-    named = has_changed;
-    accepts = taken.accepts;
-    initial = reason.0;
-    broken = reason.1;
-  },
-)
-reason_run held names i a0 a e before now sent has_initial has_changed taken Write reason = record {
+reason_run held names i a0 a e before now sent initial changed taken Write reason = record {
   tables = i;
   a0 = a0;
   a = a;
@@ -328,8 +244,8 @@ reason_run held names i a0 a e before now sent has_initial has_changed taken Wri
   taken = taken;
   run = reason;
 }
-reason_run held names i a0 a e before now sent has_initial has_changed taken Memory reason = tt
-reason_run held names i a0 a e before now sent has_initial has_changed taken refusal reason = absurd reason
+reason_run held names i a0 a e before now sent initial changed taken Memory reason = tt
+reason_run held names i a0 a e before now sent initial changed taken refusal reason = absurd reason
 
 pub edited_all : (held : Held) (names : Names) (i : Tables) (a0 a : List Machine) (e : EditLists)
     (sent : List ℕ → Type 0) → IsTaken held names i a0 a e → IsEdited i a0 a e sent → Edited held names sent
@@ -342,23 +258,8 @@ edited_all held names i a0 a e sent taken run = record {
   run = run;
 }
 
-pub judge_reason : (i : Tables) (a0 a : List Machine) (written : Type 0) (refusal : Refusal) →
-    JudgeReason i a0 a refusal → EditReason i a0 a written refusal
-judge_reason i a0 a written (Broken role.Initial cause) reason = reason
-judge_reason i a0 a written (Broken role.Changed cause) reason = reason
-judge_reason i a0 a written Memory reason = tt
-judge_reason i a0 a written refusal reason = absurd reason
-
-pub outcome_reason : (i : Tables) (a0 a : List Machine) (written : Type 0) (refusal : Refusal) →
-    EditReason i a0 a ⊥ refusal → EditReason i a0 a written refusal
-outcome_reason i a0 a written (Broken role.Initial cause) reason = reason
-outcome_reason i a0 a written (Broken role.Changed cause) reason = reason
-outcome_reason i a0 a written Write reason = absurd reason
-outcome_reason i a0 a written Memory reason = tt
-outcome_reason i a0 a written refusal reason = absurd reason
-
 pub over_more : (i : Tables) (a0 a : List Machine) (broke written : Type 0) (step : broke → written)
-    (refusal : Refusal) → OverReason broke refusal → EditReason i a0 a written refusal
+    (refusal : Refusal) → WriteReason broke refusal → JudgeReason i a0 a written refusal
 over_more i a0 a broke written step Write reason = step reason
 over_more i a0 a broke written step Memory reason = tt
 over_more i a0 a broke written step refusal reason = absurd reason
@@ -379,8 +280,7 @@ reason_untaken held names before now written refusal reason = reason_more held n
 own_tells : (held : Held) (names : Names) (written : Type 0) (r : Refusal) → EditOwn held names written r →
     CanTell names r
 own_tells held names written (Edits fault) reason = (reason.named, reason.in_file)
-own_tells held names written (Broken role.Initial cause) reason = reason.1.named
-own_tells held names written (Broken role.Changed cause) reason = reason.1.named
+own_tells held names written (Broken which cause) reason = reason.1.named
 own_tells held names written Write reason = tt
 own_tells held names written refusal reason = absurd reason
 
@@ -391,8 +291,16 @@ can_tell_edits held names before now written =
 
 -- ---- when its statuses come
 
+-- a run is written of feasible lists alone
+edited_went : (held : Held) (names : Names) (sent : List ℕ → Type 0) → Edited held names sent → Went held names
+edited_went held names sent is = record {
+  listed = record { tables = is.tables; a0 = is.a0; a = is.a; accepts = is.taken.accepts };
+  initial = λ named. is.run.start;
+  changed = λ named. is.run.current;
+}
+
 pub edited_listed : (held : Held) (names : Names) (sent : List ℕ → Type 0) → Edited held names sent → Listed held names
-edited_listed held names sent is = record { tables = is.tables; a0 = is.a0; a = is.a; accepts = is.taken.accepts }
+edited_listed held names sent is = (edited_went held names sent is).listed
 
 pub own_listed : (held : Held) (names : Names) (sent : List ℕ → Type 0) (r : Refusal) →
     EditOwn held names (Edited held names sent) r → Listed held names
@@ -425,12 +333,12 @@ valid_none held names sent editable wrote (Edits fault) reason =
 valid_none held names sent editable wrote (Broken role.Initial cause) reason =
     let b = reason.1 in
     let none = unbroken_from_feasible b.tables b.a0 b.a0 (editable.valid.initial b.named b.tables b.a0 b.a b.accepts) in
-    let both : None ≡ Some cause = sym none ∙ b.broken in
+    let both : None ≡ Some cause = sym none ∙ b.breaks in
     cc
 valid_none held names sent editable wrote (Broken role.Changed cause) reason =
     let b = reason.1 in
     let none = unbroken_from_feasible b.tables b.a0 b.a (editable.valid.changed b.named b.tables b.a0 b.a b.accepts) in
-    let both : None ≡ Some cause = sym none ∙ b.broken in
+    let both : None ≡ Some cause = sym none ∙ b.breaks.1 in
     cc
 valid_none held names sent editable wrote Write reason = wrote _ reason.run.text
 valid_none held names sent editable wrote refusal reason = reason
@@ -443,114 +351,44 @@ pub complete_edits : {held : Held} {names : Names} {before now : Faults} {sent :
 complete_edits {held} {names} {before} {now} {sent} ends editable sound wrote =
     complete ends editable.valid.accepted sound (valid_none held names sent editable wrote)
 
--- over known files that are accepted, a refusal is one of the job's own, or of memory
-own_known : (held : Held) (model : List ℕ) (closed : Option (List ℕ)) (initial current edits : List ℕ)
-    (before now : Faults) (own : Refusal → Type 0) → KnownTo held (edit_names model initial current edits closed) before
-    now file.Edits → (i : Tables) (a0 a : List Machine) →
-    Accepts held (edit_names model initial current edits closed) i a0 a → (refusal : Refusal) →
-    Reason held (edit_names model initial current edits closed) before now own refusal → own refusal
-    ⊎ (status_of refusal ≡ NoMemory)
-unfolding status_of name_of
-own_known held model closed initial current edits before now own known i a0 a accepts (Read file.Model) reason =
-    absurd ((known file.Model refl tt).1 reason.rose)
-own_known held model closed initial current edits before now own known i a0 a accepts (Read file.Closed) reason =
-    absurd ((known file.Closed refl reason.named).1 reason.rose)
-own_known held model closed initial current edits before now own known i a0 a accepts (Read file.Initial) reason =
-    absurd ((known file.Initial refl reason.named).1 reason.rose)
-own_known held model closed initial current edits before now own known i a0 a accepts (Read file.Changed) reason =
-    absurd ((known file.Changed refl reason.named).1 reason.rose)
-own_known held model closed initial current edits before now own known i a0 a accepts (Read file.Report) reason =
-    absurd (let none = reason.named in cc)
-own_known held model closed initial current edits before now own known i a0 a accepts (Read file.Edits) reason =
-    absurd ((known file.Edits refl reason.named).1 reason.rose)
-own_known held model closed initial current edits before now own known i a0 a accepts (Model fault) reason =
-    absurd (no_model held model (known file.Model refl tt).0 fault reason accepts.instance.model accepts.instance.read)
-own_known held model closed initial current edits before now own known i a0 a accepts (Closed fault) reason =
-    absurd (no_closed held model closed (known file.Model refl tt).0 (told_of held closed _ (known file.Closed refl))
-    fault reason i accepts.instance)
-own_known held model closed initial current edits before now own known i a0 a accepts (Assign role.Initial fault)
-    reason = absurd
-    (no_initial held (edit_names model initial current edits closed) (known file.Model refl tt).0
-    (told_of held closed _ (known file.Closed refl))
-    (told_of held (Some initial) _ (known file.Initial refl)) fault reason i a0 accepts.instance accepts.initial)
-own_known held model closed initial current edits before now own known i a0 a accepts (Assign role.Changed fault)
-    reason = absurd
-    (no_changed held (edit_names model initial current edits closed) (known file.Model refl tt).0
-    (told_of held closed _ (known file.Closed refl))
-    (told_of held (Some current) _ (known file.Changed refl)) fault reason i a accepts.instance accepts.changed)
-own_known held model closed initial current edits before now own known i a0 a accepts Memory reason = inr refl
-own_known held model closed initial current edits before now own known i a0 a accepts refusal reason = inl reason
-
 -- no edits file is refused and accepted at once
-told_not : (told : Option (List ℕ)) → IsSome told → (P Q : List ℕ → Type 0) →
-    ((bytes : List ℕ) → P bytes → Q bytes → ⊥) → IfSome told P → IfSome told Q → ⊥
-told_not None some P Q never p q = absurd (cc)
-told_not (Some bytes) some P Q never p q = never bytes p q
-
-not_both : (held : Held) (model : List ℕ) (closed : Option (List ℕ)) (initial current edits : List ℕ)
-    (before now : Faults) → KnownTo held (edit_names model initial current edits closed) before now file.Edits →
-    (fault : EditsFault) → EditsRefused held (edit_names model initial current edits closed) fault →
-    EditsAccepted held (edit_names model initial current edits closed) → ⊥
-unfolding name_of
-not_both held model closed initial current edits before now known fault refused accepted =
-    let same = instances_same held model closed (known file.Model refl tt).0
-    (told_of held closed _ (known file.Closed refl)) refused.tables
-    accepted.tables refused.accepts.instance accepted.accepts.instance in
-    told_not (held edits) (known file.Edits refl refl).0 (λ bytes. edits_refusal bytes refused.tables ≡ Some fault)
-    (λ bytes. edits_refusal bytes accepted.tables ≡ None)
+not_both : (held : Held) (names : Names) (before now : Faults) → KnownTo held names before now file.Edits →
+    (fault : EditsFault) → EditsRefused held names fault → EditsAccepted held names → ⊥
+not_both held names before now known fault refused accepted =
+    let same = instances_same held names.model names.closed (known_model held names before now file.Edits known)
+    (told_closed held names before now file.Edits refl known) refused.tables accepted.tables
+    refused.accepts.instance accepted.accepts.instance in
+    told_gives ⊥ (λ bytes. edits_refusal bytes refused.tables ≡ Some fault)
+    (λ bytes. edits_refusal bytes accepted.tables ≡ None) (held (name_of names file.Edits))
+    (known file.Edits refl refused.named).0
     (λ bytes some none. let both : None ≡ Some fault = sym none
     ∙ (sym (edits_same bytes refused.tables accepted.tables same) ∙ some) in cc)
     refused.refused accepted.none
 
-bad_own : (held : Held) (model : List ℕ) (closed : Option (List ℕ)) (initial current edits : List ℕ)
-    (before now : Faults) (sent : List ℕ → Type 0) → KnownTo held (edit_names model initial current edits closed) before
-    now file.Edits → (fault : EditsFault) → EditsRefused held (edit_names model initial current edits closed) fault →
-    (refusal : Refusal) → EditOwn held (edit_names model initial current edits closed)
-    (Edited held (edit_names model initial current edits closed) sent) refusal → status_of refusal ≡ BadEdits
+bad_own : (held : Held) (names : Names) (before now : Faults) (sent : List ℕ → Type 0) →
+    KnownTo held names before now file.Edits → (fault : EditsFault) → EditsRefused held names fault →
+    (refusal : Refusal) → EditOwn held names (Edited held names sent) refusal → status_of refusal ≡ BadEdits
 unfolding status_of
-bad_own held model closed initial current edits before now sent known fault refused (Edits other) reason = refl
-bad_own held model closed initial current edits before now sent known fault refused (Broken which cause) reason =
-    absurd (not_both held model closed initial current edits before now known fault refused reason.0)
-bad_own held model closed initial current edits before now sent known fault refused Write reason =
-    absurd (not_both held model closed initial current edits before now known fault refused
-    (accepted_of held (edit_names model initial current edits closed) reason.tables reason.a0 reason.a reason.edits
-    reason.taken))
-bad_own held model closed initial current edits before now sent known fault refused refusal reason = absurd reason
+bad_own held names before now sent known fault refused (Edits other) reason = refl
+bad_own held names before now sent known fault refused (Broken which cause) reason =
+    absurd (not_both held names before now known fault refused reason.0)
+bad_own held names before now sent known fault refused Write reason =
+    absurd (not_both held names before now known fault refused
+    (accepted_of held names reason.tables reason.a0 reason.a reason.edits reason.taken))
+bad_own held names before now sent known fault refused refusal reason = absurd reason
 
 -- no run is written of lists that break a constraint
-broken_not : (held : Held) (model : List ℕ) (closed : Option (List ℕ)) (initial current edits : List ℕ)
-    (before now : Faults) (sent : List ℕ → Type 0) → KnownTo held (edit_names model initial current edits closed) before
-    now file.Edits → (which : Role) (cause : Cause) →
-    RoleBreaks held (edit_names model initial current edits closed) which cause →
-    Edited held (edit_names model initial current edits closed) sent → ⊥
-unfolding name_of
-broken_not held model closed initial current edits before now sent known role.Initial cause breaks is =
-    no_initial_break held (edit_names model initial current edits closed) (known file.Model refl tt).0
-    (told_of held closed _ (known file.Closed refl))
-    (told_of held (Some initial) _ (known file.Initial refl)) cause breaks is.tables is.a0 is.a is.taken.accepts
-    is.run.start
-broken_not held model closed initial current edits before now sent known role.Changed cause breaks is =
-    no_changed_break held (edit_names model initial current edits closed) (known file.Model refl tt).0
-    (told_of held closed _ (known file.Closed refl))
-    (told_of held (Some initial) _ (known file.Initial refl))
-    (told_of held (Some current) _ (known file.Changed refl)) cause breaks is.tables is.a0 is.a
-    is.taken.accepts is.run.current
-
-broken_own : (held : Held) (model : List ℕ) (closed : Option (List ℕ)) (initial current edits : List ℕ)
-    (before now : Faults) (sent : List ℕ → Type 0) → KnownTo held (edit_names model initial current edits closed) before
-    now file.Edits → EditsAccepted held (edit_names model initial current edits closed) →
-    (which : Role) (cause : Cause) → RoleBreaks held (edit_names model initial current edits closed) which cause →
-    (refusal : Refusal) → EditOwn held (edit_names model initial current edits closed)
-    (Edited held (edit_names model initial current edits closed) sent) refusal → status_of refusal ≡ Infeasible
+broken_own : (held : Held) (names : Names) (before now : Faults) (sent : List ℕ → Type 0) →
+    KnownTo held names before now file.Edits → EditsAccepted held names → (which : Role) (cause : Cause) →
+    RoleBreaks held names which cause → (refusal : Refusal) → EditOwn held names (Edited held names sent) refusal →
+    status_of refusal ≡ Infeasible
 unfolding status_of
-broken_own held model closed initial current edits before now sent known accepted which cause breaks (Edits fault)
-    reason = absurd (not_both held model closed initial current edits before now known fault reason accepted)
-broken_own held model closed initial current edits before now sent known accepted which cause breaks (Broken one other)
-    reason = refl
-broken_own held model closed initial current edits before now sent known accepted which cause breaks Write reason =
-    absurd (broken_not held model closed initial current edits before now sent known which cause breaks reason)
-broken_own held model closed initial current edits before now sent known accepted which cause breaks refusal reason =
-    absurd reason
+broken_own held names before now sent known accepted which cause breaks (Edits fault) reason =
+    absurd (not_both held names before now known fault reason accepted)
+broken_own held names before now sent known accepted which cause breaks (Broken one other) reason = refl
+broken_own held names before now sent known accepted which cause breaks Write reason =
+    absurd (breaks_never held names before now known which cause breaks (edited_went held names sent reason))
+broken_own held names before now sent known accepted which cause breaks refusal reason = absurd reason
 
 -- what each of its own statuses says
 reason_bad : (held : Held) (names : Names) (written : Type 0) (before now : Faults) (refusal : Refusal) →
@@ -569,37 +407,28 @@ reason_broken held names written before now refusal reason e =
     absurd (let both : status_of refusal ≡ Infeasible = e in cc)
 
 -- a job that isn't done has a status that its own refusals give it, or that of memory
-stops : (held : Held) (model : List ℕ) (closed : Option (List ℕ)) (initial current edits : List ℕ) (before now : Faults)
-    (output : Type 0) (own : Refusal → Type 0) (tells : List ℕ → Type 0) (out_same err_same : Type 0)
-    (status this : Status) → Ends held (edit_names model initial current edits closed) before now output own tells
-    out_same err_same status → KnownTo held (edit_names model initial current edits closed) before now file.Edits →
-    Listed held (edit_names model initial current edits closed) → (output → ⊥) →
+stops : {held : Held} {names : Names} {before now : Faults} {output : Type 0} {own : Refusal → Type 0}
+    {tells : List ℕ → Type 0} {out_same err_same : Type 0} {status : Status} →
+    Ends held names before now output own tells out_same err_same status → EndsAt names file.Edits →
+    KnownTo held names before now file.Edits → Listed held names → (this : Status) → (output → ⊥) →
     ((refusal : Refusal) → own refusal → status_of refusal ≡ this) → (status ≡ this) ⊎ (status ≡ NoMemory)
-stops held model closed initial current edits before now output own tells out_same err_same status this ends known
-    listed undone step = ⊎_elim
+stops {held} {names} {before} {now} {output} {own} {tells} {out_same} {err_same} {status} ends last known listed this
+    undone step = ⊎_elim
     (λ (done : status ≡ Done). absurd (undone (ends.printed done)))
     (λ (other : status ≢ Done).
     let refused = ends.refused other in
     ⊎_elim
     (λ (reason : own refused.refusal). inl (refused.is ∙ step refused.refusal reason))
     (λ (memory : status_of refused.refusal ≡ NoMemory). inr (refused.is ∙ memory))
-    (own_known held model closed initial current edits before now own known listed.tables listed.a0 listed.a
-    listed.accepts refused.refusal refused.reason))
+    (own_known held names before now own file.Edits known (λ f named _. last f named) listed refused.refusal
+    refused.reason))
     (is_done status)
 
 pub edit_comes : {held : Held} {before now : Faults} {tells : List ℕ → Type 0} {out_same err_same : Type 0}
-    {status : Status} (model : List ℕ) (closed : Option (List ℕ)) (initial current edits : List ℕ)
-    (prints breaks : List ℕ → Type 0)
-    → Ends held (edit_names model initial current edits closed) before now
-    (Edited held (edit_names model initial current edits closed) prints)
-    (EditOwn held (edit_names model initial current edits closed)
-    (Edited held (edit_names model initial current edits closed) breaks)) tells out_same err_same status
-    → EditComes held (edit_names model initial current edits closed) before now status
-edit_comes {held} {before} {now} {tells} {out_same} {err_same} {status} model closed initial current edits prints breaks
-    ends =
-    let names = (edit_names model initial current edits closed) in
-    let output = Edited held names prints in
-    let own : Refusal → Type 0 = EditOwn held names (Edited held names breaks) in
+    {status : Status} (names : Names) (prints breaks : List ℕ → Type 0) → EndsAt names file.Edits →
+    Ends held names before now (Edited held names prints) (EditOwn held names (Edited held names breaks)) tells out_same
+    err_same status → EditComes held names before now status
+edit_comes {held} {before} {now} {tells} {out_same} {err_same} {status} names prints breaks last ends =
     record {
       bad_edits = record {
         only = λ (is : status ≡ BadEdits).
@@ -608,16 +437,10 @@ edit_comes {held} {before} {now} {tells} {out_same} {err_same} {status} model cl
             (sym refused.is ∙ is);
         always = λ known cause.
             let r = cause.1 in
-            stops held model closed initial current edits before now output own tells out_same err_same status BadEdits
-            ends known (record {
-              tables = r.tables;
-              a0 = r.a0;
-              a = r.a;
-              accepts = r.accepts;
-            })
-            (λ o. not_both held model closed initial current edits before now known cause.0 r
+            stops ends last known (record { tables = r.tables; a0 = r.a0; a = r.a; accepts = r.accepts }) BadEdits
+            (λ o. not_both held names before now known cause.0 r
             (accepted_of held names o.tables o.a0 o.a o.edits o.taken))
-            (bad_own held model closed initial current edits before now breaks known cause.0 r);
+            (bad_own held names before now breaks known cause.0 r);
       };
       infeasible = record {
         only = λ (is : status ≡ Infeasible).
@@ -626,26 +449,17 @@ edit_comes {held} {before} {now} {tells} {out_same} {err_same} {status} model cl
             (sym refused.is ∙ is);
         always = λ known cause.
             let r = cause.0 in
-            stops held model closed initial current edits before now output own tells out_same err_same status
-            Infeasible ends known (record {
-              tables = r.tables;
-              a0 = r.a0;
-              a = r.a;
-              accepts = r.accepts;
-            })
-            (broken_not held model closed initial current edits before now prints known cause.1.0 cause.1.1 cause.1.2)
-            (broken_own held model closed initial current edits before now breaks known r cause.1.0 cause.1.1
-            cause.1.2);
+            stops ends last known (record { tables = r.tables; a0 = r.a0; a = r.a; accepts = r.accepts }) Infeasible
+            (λ o. breaks_never held names before now known cause.1.0 cause.1.1 cause.1.2
+            (edited_went held names prints o))
+            (broken_own held names before now breaks known r cause.1.0 cause.1.1 cause.1.2);
       };
     }
 
-pub edit_so : (model : List ℕ) (closed : Option (List ℕ)) (initial current edits : List ℕ) (files : Reading)
-    (out err : Output) (ended : Result (Unit {0}) Refusal) (status : Status) →
-    Tries (over (editing (edit_names model initial current edits closed))) files out ended →
-    Finishes (edit_names model initial current edits closed) ended err status →
-    Does (over (editing (edit_names model initial current edits closed))) files out err status
-edit_so model closed initial current edits files out err ended status tries finishes =
-    let names = edit_names model initial current edits closed in
+pub edit_so : (names : Names) → EndsAt names file.Edits → (files : Reading) (out err : Output)
+    (ended : Result (Unit {0}) Refusal) (status : Status) → Tries (over (editing names)) files out ended →
+    Finishes names ended err status → Does (over (editing names)) files out err status
+edit_so names last files out err ended status tries finishes =
     let c = editing names in
     let prints : List ℕ → Type 0 = Took out.sink in
     let breaks : List ℕ → Type 0 = BrokeOff out.sink in
@@ -653,7 +467,7 @@ edit_so model closed initial current edits files out err ended status tries fini
     does_so c files out err status ends
     (edited_listed files.held names prints)
     (own_listed files.held names breaks)
-    (edit_comes model closed initial current edits prints breaks ends)
+    (edit_comes names prints breaks last ends)
     (λ editable sound wrote. complete_edits ends editable sound (λ text broken. wrote broken.1))
     (left_so c files out err ended status tries finishes)
 

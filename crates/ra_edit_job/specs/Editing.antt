@@ -145,6 +145,7 @@ edits_as reader.ReadFault = Read file.Edits
 edits_as reader.NoMemory = Memory
 edits_as fault = Edits fault
 
+-- the edits file
 abbrev pub EditsReason : Held → List ℕ → Tables → Faults → Faults → Refusal → Type 0
 EditsReason held name i before now (Read file.Edits) = Rose (before name) (now name)
 EditsReason held name i before now (Edits fault) =
@@ -156,18 +157,3 @@ EditsReason held name i before now refusal = ⊥
 pub record HasEdits (held : Held) (name : List ℕ) (i : Tables) (e : EditLists) : Type 0 where
   pub edits : IfSome (held name) (λ bytes. AreEditsOf bytes i e)
   pub fits : AreEditsFor i e
-
--- why the run is refused
-abbrev pub EditReason : Tables → List Machine → List Machine → Type 0 → Refusal → Type 0
-EditReason i a0 a written (Broken role.Initial cause) = first_broken i a0 a0 ≡ Some cause
-EditReason i a0 a written (Broken role.Changed cause) =
-    Feasible i a0 a0 × (first_broken i a0 a ≡ Some cause)
-EditReason i a0 a written Write = written
-EditReason i a0 a written Memory = Unit {0}
-EditReason i a0 a written refusal = ⊥
-
--- of the run of feasible lists
-abbrev pub OverReason : Type 0 → Refusal → Type 0
-OverReason written Write = written
-OverReason written Memory = Unit {0}
-OverReason written refusal = ⊥

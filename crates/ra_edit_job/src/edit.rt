@@ -4,12 +4,13 @@ ghost use Rattle.ra_edit_read.specs.EditLists.{AreEditsFor};
 ghost use Rattle.ra_io.specs.Outside.{LeavesFiles, reading, writing, Took};
 ghost use Rattle.ra_model.specs.Assignments.{IsAssignment};
 ghost use Rattle.ra_topology.specs.Fits.{IsTopologyOf};
-ghost use Rattle.ra_jobs.specs.Ends.{Does, Tries};
-ghost use Rattle.ra_jobs.specs.Files.{edit_names};
+ghost use Rattle.ra_jobs.specs.Commands.{over};
+ghost use Rattle.ra_jobs.specs.Ends.{Does, DoesOutside, Tries};
+ghost use Rattle.ra_jobs.specs.Files.{names_of, IsNamed, EndsAt};
 ghost use Rattle.ra_jobs.specs.Output.{output, BrokeOff};
 ghost use Rattle.ra_jobs.specs.Refusals.{Reason};
-ghost use Rattle.ra_jobs.specs.Stages.{Judged};
-ghost use Rattle.ra_edit_job.specs.Editing.{EditOwn, EditReason, EditsReason, HasEdits, IsEdited, IsTaken, OverReason, edits_as, edit_command};
+ghost use Rattle.ra_jobs.specs.Stages.{Judged, JudgeReason, WriteReason};
+ghost use Rattle.ra_edit_job.specs.Editing.{EditOwn, EditsReason, HasEdits, IsEdited, IsTaken, edits_as, edit_command, editing};
 ghost use Rattle.ra_edit_job.specs.Outcomes.{IsOutcome, IsWritable, outcome_text};
 
 use crate::edited::write_edited;
@@ -17,7 +18,9 @@ use ra_base::{Fixed, Name, NoMemory, Parts};
 use ra_edit::{Draft, EditReply, Edited, Left};
 use ra_edit_read::{Edits, EditsFault, read_edits};
 use ra_io::{Files, Sink};
-use ra_jobs::{File, JobFiles, Lists, Refusal, Status, finish, judge, read_instance, read_lists};
+use ra_jobs::{
+    File, JobFiles, Lists, Outside, Refusal, Status, finish, judge, read_instance, read_lists,
+};
 use ra_model::Instance;
 use ra_topology::Topology;
 use std::alloc::Global;
@@ -41,34 +44,42 @@ pub fn edit_run<'n, F: Files, O: Sink, E: Sink>(
         (reading F.Files files.old files.new) (output O.Sink out.old out.new)
         (output E.Sink err.old err.new) result }
 {
-    let names = JobFiles {
-        model,
-        closed,
-        initial: Some(initial),
-        changed: Some(current),
-        report: None,
-        edits: Some(edits),
-    };
-    let ended = edit(alloc, model, initial, current, edits, closed, files, out);
-    finish(err, &names, ended)
+    let names = JobFiles::of_edit(model, initial, current, edits, closed);
+    edit_job(alloc, &names, Outside { files, out, err })
 }
 
-/// The same but for the line of its refusal.
+/// Does what `edit_run` does, over the files of these names.
+pub fn edit_job<F: Files, O: Sink, E: Sink>(
+    alloc: Global,
+    names: &JobFiles<'_>,
+    outside: Outside<'_, F, O, E>,
+) -> Status
+    requires initial { IsNamed (names_of names.now) File.Initial }
+    requires changed { IsNamed (names_of names.now) File.Changed }
+    requires edits { IsNamed (names_of names.now) File.Edits }
+    requires last { EndsAt (names_of names.now) File.Edits }
+    ensures { DoesOutside F.Files O.Sink E.Sink (over (editing (names_of names.now)))
+        outside.entry outside.exit result }
+{
+    let Outside { files, out, err } = outside;
+    let ended = edit(alloc, names, files, out);
+    finish(err, names, ended)
+}
+
+/// Makes the edits of the files, and prints what they leave.
 fn edit<F: Files, O: Sink>(
     alloc: Global,
-    model: &Name,
-    initial: &Name,
-    current: &Name,
-    edits: &Name,
-    closed: Option<&Name>,
+    names: &JobFiles<'_>,
     files: &mut F,
     out: &mut O,
 ) -> Result<(), Refusal>
-    ensures { Tries (edit_command model.now initial.now current.now edits.now
-        (option_copied closed.entry))
+    requires initial { IsNamed (names_of names.now) File.Initial }
+    requires changed { IsNamed (names_of names.now) File.Changed }
+    requires edits { IsNamed (names_of names.now) File.Edits }
+    ensures { Tries (over (editing (names_of names.now)))
         (reading F.Files files.old files.new) (output O.Sink out.old out.new) result }
 {
-    let taken = read_taken(alloc, model, initial, current, edits, closed, files)?;
+    let taken = read_taken(alloc, names, files)?;
     edit_from(alloc, taken, out)
 }
 
@@ -83,26 +94,22 @@ struct Taken {
 /// The instance, the two lists and the edits, if all files are accepted.
 fn read_taken<F: Files>(
     alloc: Global,
-    model: &Name,
-    initial: &Name,
-    current: &Name,
-    edits: &Name,
-    closed: Option<&Name>,
+    names: &JobFiles<'_>,
     files: &mut F,
 ) -> Result<Taken, Refusal>
-    ensures read { IfOk result (λ t. IsTaken (F.held files.old)
-        (edit_names model.now initial.now current.now edits.now (option_copied closed.entry))
+    requires initial { IsNamed (names_of names.now) File.Initial }
+    requires changed { IsNamed (names_of names.now) File.Changed }
+    requires edits { IsNamed (names_of names.now) File.Edits }
+    ensures read { IfOk result (λ t. IsTaken (F.held files.old) (names_of names.now)
         t.inst.tables t.lists.initial.items t.lists.changed.items t.edits) }
-    ensures refused { IfErr result (Reason (F.held files.old)
-        (edit_names model.now initial.now current.now edits.now (option_copied closed.entry))
+    ensures refused { IfErr result (Reason (F.held files.old) (names_of names.now)
         (F.faults files.old) (F.faults files.new)
-        (EditOwn (F.held files.old)
-        (edit_names model.now initial.now current.now edits.now (option_copied closed.entry)) ⊥)) }
+        (EditOwn (F.held files.old) (names_of names.now) ⊥)) }
     ensures leaves { LeavesFiles (reading F.Files files.old files.new) }
 {
-    let inst = read_instance(alloc, files, model, closed)?;
-    let lists = read_lists(alloc, files, initial, current, &inst)?;
-    let edits = take_edits(alloc, files, edits, &inst)?;
+    let inst = read_instance(alloc, files, names.model, names.closed)?;
+    let lists = read_lists(alloc, files, names, &inst)?;
+    let edits = take_edits(alloc, files, names.name(File::Edits), &inst)?;
     Ok(Taken { inst, lists, edits })
 }
 
@@ -143,7 +150,7 @@ fn edit_from<O: Sink>(alloc: Global, taken: Taken, out: &mut O) -> Result<(), Re
     requires edits { AreEditsFor taken.inst.tables taken.edits }
     ensures printed { OnOk result (IsEdited taken.inst.tables taken.lists.initial.items
         taken.lists.changed.items taken.edits (Took (writing O.Sink out.old out.new))) }
-    ensures refused { IfErr result (EditReason taken.inst.tables taken.lists.initial.items
+    ensures refused { IfErr result (JudgeReason taken.inst.tables taken.lists.initial.items
         taken.lists.changed.items
         (IsEdited taken.inst.tables taken.lists.initial.items taken.lists.changed.items taken.edits
         (BrokeOff (writing O.Sink out.old out.new)))) }
@@ -177,7 +184,7 @@ fn outcome_of(
     requires edits { AreEditsFor inst.now.tables edits.now }
     ensures done { IfOk result (IsOutcome inst.now.tables lists.now.initial.items
         lists.now.changed.items edits.now) }
-    ensures refused { IfErr result (EditReason inst.now.tables lists.now.initial.items
+    ensures refused { IfErr result (JudgeReason inst.now.tables lists.now.initial.items
         lists.now.changed.items ⊥) }
 {
     let start = judge(alloc, inst, &lists.initial, &lists.changed)?;
@@ -185,7 +192,7 @@ fn outcome_of(
     Ok(outcome_over(alloc, inst, &topo, lists, start, edits)?)
 }
 
-/// The same over the topology of the instance. The current list is feasible, and its cost has these parts.
+/// What the edits leave, over the topology of the instance. The current list is feasible, and its cost has these parts.
 fn outcome_over(
     alloc: Global,
     inst: &Instance,
@@ -217,7 +224,7 @@ fn write_outcome<O: Sink>(inst: Instance, outcome: Outcome, out: &mut O) -> Resu
     requires { IsWritable inst.tables outcome }
     ensures printed { OnOk result (Took (writing O.Sink out.old out.new)
         (outcome_text inst.tables outcome)) }
-    ensures refused { IfErr result (OverReason (BrokeOff (writing O.Sink out.old out.new)
+    ensures refused { IfErr result (WriteReason (BrokeOff (writing O.Sink out.old out.new)
         (outcome_text inst.tables outcome))) }
     ensures no_output { IfErr result (λ refusal. refusal ≢ Refusal.Write → out.new ≡ out.old) }
     ensures out_never_falls { O.faults out.old ≤ O.faults out.new }

@@ -5,5 +5,5 @@
 mod edit;
 mod edited;
 
-pub use edit::edit_run;
+pub use edit::{edit_job, edit_run};
 pub use edited::write_edited;

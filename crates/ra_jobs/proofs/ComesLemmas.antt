@@ -1,10 +1,12 @@
 -- When each status comes, from how a job ends.
 use Rattle.std.specs.Prelude.{unwrap_or}
-use Rattle.std.proofs.Common.{◌≡◌, ◌≢◌, ◌⊎◌, ℕ, false, List, [], Option, Some, None, IsSome, inl, inr, ⊎_elim, refl}
-use Rattle.std.proofs.Common.{sym, ◌∙◌, subst}
+use Rattle.std.proofs.Common.{◌≡◌, ◌≢◌, ◌⊎◌, ℕ, true, false, List, [], Option, Some, None, IsSome, inl, inr, ⊎_elim}
+use Rattle.std.proofs.Common.{refl, sym, ◌∙◌, subst, le_trans}
+use Rattle.std.proofs.lemmas.Bool.{cases_Bool, leb-true, le-leb}
 use Rattle.ra_base.specs.declared.causes.Cause.{Cause}
 use Rattle.ra_base.specs.declared.ids.Machine.{Machine}
 use Rattle.ra_io.specs.Faults.{Rose}
+use Rattle.ra_bounds.specs.declared.costs.Bound.{Bound}
 use Rattle.ra_model.specs.declared.raw.Tables.{Tables}
 use Rattle.ra_model.specs.Feasible.{Feasible}
 use Rattle.ra_model_read.specs.declared.faults.ModelFault.{ModelFault}
@@ -20,18 +22,17 @@ use Rattle.ra_jobs.specs.declared.refusals.Role.TheVariants as role
 use Rattle.ra_jobs.specs.declared.status.Status.{Status}
 use Rattle.ra_jobs.specs.declared.status.Status.TheVariants.{Done, ReadFault, BadModel, BadAssignment, Infeasible}
 use Rattle.ra_jobs.specs.declared.status.Status.TheVariants.{WriteFault, NoMemory, BadClosed, Unrepaired}
-use Rattle.ra_jobs.specs.Comes.{IsKnown, KnownTo, Comes, InfeasibleComes}
+use Rattle.ra_jobs.specs.Comes.{KnownTo, Comes, InfeasibleComes}
 use Rattle.ra_jobs.specs.Ends.{puts_first}
-use Rattle.ra_jobs.specs.Files.{Held, Faults, Names, name_of, file_of, ModelIs, InstanceIs, NamedListIs, Accepts}
-use Rattle.ra_jobs.specs.Files.{Passes, bound_names}
-use Rattle.ra_jobs.specs.Outputs.{CheckPrinted, BoundPrinted}
-use Rattle.ra_jobs.specs.Refusals.{Reason, Judges, OnlyWrites, ReadFailed, ModelRefused, ClosedRefused, InitialRefused}
-use Rattle.ra_jobs.specs.Refusals.{ChangedRefused, RoleRefused, InitialBreaks, ChangedBreaks, RoleBreaks}
+use Rattle.ra_jobs.specs.Files.{Held, Faults, Names, name_of, file_of, rank_of, is_up_to, IsNamed, EndsAt, ModelIs}
+use Rattle.ra_jobs.specs.Files.{InstanceIs, NamedListIs, Accepts, Passes}
+use Rattle.ra_jobs.specs.Outputs.{CheckPrinted, BoundIs, BoundPrinted}
+use Rattle.ra_jobs.specs.Refusals.{Reason, Judges, OnlyWrites, ReadBefore, ReadFailed, ModelRefused, ClosedRefused}
+use Rattle.ra_jobs.specs.Refusals.{RoleRefused, RoleBreaks}
 use Rattle.ra_jobs.specs.Statuses.{status_of}
 use Rattle.ra_jobs.proofs.CompleteLemmas.{is_done}
 use Rattle.ra_jobs.proofs.EndLemmas.{Ends}
-use Rattle.ra_jobs.proofs.MeaningLemmas.{Told, no_model, no_closed, no_role, no_initial, no_changed, no_initial_break}
-use Rattle.ra_jobs.proofs.MeaningLemmas.{no_changed_break}
+use Rattle.ra_jobs.proofs.MeaningLemmas.{Told, list_in, of_role, no_model, no_closed, no_role, no_break}
 
 -- all files of a job before the edits and the report were accepted
 pub record Listed (held : Held) (names : Names) : Type 0 where
@@ -74,321 +75,243 @@ cause_of held names before now own (Assign which fault) reason = (which, fault, 
 cause_of held names before now own Write reason = reason
 cause_of held names before now own refusal reason = tt
 
--- The reason of another status than one whose cause stands is not so of the files. `never` says that a file was not
--- accepted, `sound` that reading it didn't fail, and `listed` that the job's own refusals come behind all lists
+-- ---- what is known of files
 
--- the model file is no model
-not_model : (held : Held) (names : Names) (before now : Faults) (own : Refusal → Type 0) →
-    ((r : Refusal) → own r → Listed held names) → (Rose (before names.model) (now names.model) → ⊥) →
-    ((i : Tables) → ModelIs held names.model i → ⊥) → (refusal : Refusal) → Reason held names before now own refusal →
-    (status_of refusal ≡ BadModel) ⊎ (status_of refusal ≡ NoMemory)
-unfolding status_of name_of
-not_model held names before now own listed sound never (Read file.Model) reason = absurd (sound reason.rose)
-not_model held names before now own listed sound never (Read file.Closed) reason =
-    absurd (never reason.earlier.0 reason.earlier.1)
-not_model held names before now own listed sound never (Read file.Initial) reason =
-    absurd (never reason.earlier.1.model reason.earlier.1.read)
-not_model held names before now own listed sound never (Read file.Changed) reason =
-    absurd (never reason.earlier.2.model reason.earlier.2.read)
-not_model held names before now own listed sound never (Read file.Report) reason =
-    absurd (never reason.earlier.2.accepts.instance.model reason.earlier.2.accepts.instance.read)
-not_model held names before now own listed sound never (Read file.Edits) reason =
-    absurd (never reason.earlier.3.instance.model reason.earlier.3.instance.read)
-not_model held names before now own listed sound never (Model fault) reason = inl refl
-not_model held names before now own listed sound never (Closed fault) reason = absurd (never reason.model reason.read)
-not_model held names before now own listed sound never (Assign role.Initial fault) reason =
-    absurd (never reason.instance.model reason.instance.read)
-not_model held names before now own listed sound never (Assign role.Changed fault) reason =
-    absurd (never reason.instance.model reason.instance.read)
-not_model held names before now own listed sound never Memory reason = inr refl
-not_model held names before now own listed sound never refusal reason =
-    let done = listed refusal reason in absurd (never done.accepts.instance.model done.accepts.instance.read)
+-- a file before another one is read up to where that is
+up_to_more : (f g last : File) → is_up_to f g ≡ true → is_up_to g last ≡ true → is_up_to f last ≡ true
+up_to_more f g last one two =
+    le-leb (rank_of f) (rank_of last) (le_trans (leb-true (rank_of f) (rank_of g) one)
+    (leb-true (rank_of g) (rank_of last) two))
 
--- the closed list is none
-not_closed : (held : Held) (names : Names) (before now : Faults) (own : Refusal → Type 0) →
-    ((r : Refusal) → own r → Listed held names) → (Rose (before names.model) (now names.model) → ⊥) →
-    (IsSome names.closed → Rose (before (unwrap_or names.closed [])) (now (unwrap_or names.closed [])) → ⊥) →
-    ((fault : ModelFault) → ModelRefused held names.model fault → ⊥) →
-    ((i : Tables) → InstanceIs held names.model names.closed i → ⊥) → (refusal : Refusal) →
-    Reason held names before now own refusal → (status_of refusal ≡ BadClosed) ⊎ (status_of refusal ≡ NoMemory)
-unfolding status_of name_of
-not_closed held names before now own listed sound sound_closed no_m never (Read file.Model) reason =
-    absurd (sound reason.rose)
-not_closed held names before now own listed sound sound_closed no_m never (Read file.Closed) reason =
-    absurd (sound_closed reason.named reason.rose)
-not_closed held names before now own listed sound sound_closed no_m never (Read file.Initial) reason =
-    absurd (never reason.earlier.0 reason.earlier.1)
-not_closed held names before now own listed sound sound_closed no_m never (Read file.Changed) reason =
-    absurd (never reason.earlier.0 reason.earlier.2)
-not_closed held names before now own listed sound sound_closed no_m never (Read file.Report) reason =
-    absurd (never reason.earlier.0 reason.earlier.2.accepts.instance)
-not_closed held names before now own listed sound sound_closed no_m never (Read file.Edits) reason =
-    absurd (never reason.earlier.0 reason.earlier.3.instance)
-not_closed held names before now own listed sound sound_closed no_m never (Model fault) reason =
-    absurd (no_m fault reason)
-not_closed held names before now own listed sound sound_closed no_m never (Closed fault) reason = inl refl
-not_closed held names before now own listed sound sound_closed no_m never (Assign role.Initial fault) reason =
-    absurd (never reason.tables reason.instance)
-not_closed held names before now own listed sound sound_closed no_m never (Assign role.Changed fault) reason =
-    absurd (never reason.tables reason.instance)
-not_closed held names before now own listed sound sound_closed no_m never Memory reason = inr refl
-not_closed held names before now own listed sound sound_closed no_m never refusal reason =
-    let done = listed refusal reason in absurd (never done.tables done.accepts.instance)
+model_first : (last : File) → is_up_to file.Model last ≡ true
+model_first file.Model = refl
+model_first last = refl
 
--- the initial list is none
-not_initial : (held : Held) (names : Names) (before now : Faults) (own : Refusal → Type 0) →
-    ((r : Refusal) → own r → Listed held names) → (Rose (before names.model) (now names.model) → ⊥) →
-    (IsSome names.closed → Rose (before (unwrap_or names.closed [])) (now (unwrap_or names.closed [])) → ⊥) →
-    (IsSome names.initial → Rose (before (unwrap_or names.initial [])) (now (unwrap_or names.initial [])) → ⊥) →
-    ((fault : ModelFault) → ModelRefused held names.model fault → ⊥) →
-    ((fault : ClosedFault) → ClosedRefused held names.model names.closed fault → ⊥) →
-    ((i : Tables) (a0 : List Machine) → InstanceIs held names.model names.closed i →
-    NamedListIs held names.initial i a0 → ⊥) → (refusal : Refusal) → Reason held names before now own refusal →
-    (status_of refusal ≡ BadAssignment) ⊎ (status_of refusal ≡ NoMemory)
-unfolding status_of name_of
-not_initial held names before now own listed sound sound_closed sound_initial no_m no_c never (Read file.Model) reason =
-    absurd (sound reason.rose)
-not_initial held names before now own listed sound sound_closed sound_initial no_m no_c never (Read file.Closed)
-    reason = absurd (sound_closed reason.named reason.rose)
-not_initial held names before now own listed sound sound_closed sound_initial no_m no_c never (Read file.Initial)
-    reason = absurd (sound_initial reason.named reason.rose)
-not_initial held names before now own listed sound sound_closed sound_initial no_m no_c never (Read file.Changed)
-    reason = absurd (never reason.earlier.0 reason.earlier.1 reason.earlier.2 reason.earlier.3)
-not_initial held names before now own listed sound sound_closed sound_initial no_m no_c never (Read file.Report)
-    reason =
-    absurd (never reason.earlier.0 reason.earlier.1 reason.earlier.2.accepts.instance reason.earlier.2.accepts.initial)
-not_initial held names before now own listed sound sound_closed sound_initial no_m no_c never (Read file.Edits) reason =
-    absurd (never reason.earlier.0 reason.earlier.1 reason.earlier.3.instance reason.earlier.3.initial)
-not_initial held names before now own listed sound sound_closed sound_initial no_m no_c never (Model fault) reason =
-    absurd (no_m fault reason)
-not_initial held names before now own listed sound sound_closed sound_initial no_m no_c never (Closed fault) reason =
-    absurd (no_c fault reason)
-not_initial held names before now own listed sound sound_closed sound_initial no_m no_c never (Assign which fault)
-    reason = inl refl
-not_initial held names before now own listed sound sound_closed sound_initial no_m no_c never Memory reason = inr refl
-not_initial held names before now own listed sound sound_closed sound_initial no_m no_c never refusal reason =
-    let done = listed refusal reason in absurd (never done.tables done.a0 done.accepts.instance done.accepts.initial)
+pub known_less : (held : Held) (names : Names) (before now : Faults) (f last : File) → is_up_to f last ≡ true →
+    KnownTo held names before now last → KnownTo held names before now f
+known_less held names before now f last up known g below = known g (up_to_more g f last below up)
 
--- a list is none
-not_listed : (held : Held) (names : Names) (before now : Faults) (own : Refusal → Type 0) →
-    ((r : Refusal) → own r → Listed held names) → (Rose (before names.model) (now names.model) → ⊥) →
-    (IsSome names.closed → Rose (before (unwrap_or names.closed [])) (now (unwrap_or names.closed [])) → ⊥) →
-    (IsSome names.initial → Rose (before (unwrap_or names.initial [])) (now (unwrap_or names.initial [])) → ⊥) →
-    (IsSome names.changed → Rose (before (unwrap_or names.changed [])) (now (unwrap_or names.changed [])) → ⊥) →
-    ((fault : ModelFault) → ModelRefused held names.model fault → ⊥) →
-    ((fault : ClosedFault) → ClosedRefused held names.model names.closed fault → ⊥) →
-    ((i : Tables) (a0 a : List Machine) → Accepts held names i a0 a → ⊥) → (refusal : Refusal) →
-    Reason held names before now own refusal → (status_of refusal ≡ BadAssignment) ⊎ (status_of refusal ≡ NoMemory)
-unfolding status_of name_of
-not_listed held names before now own listed sound sound_closed sound_initial sound_changed no_m no_c never
-    (Read file.Model) reason = absurd (sound reason.rose)
-not_listed held names before now own listed sound sound_closed sound_initial sound_changed no_m no_c never
-    (Read file.Closed) reason = absurd (sound_closed reason.named reason.rose)
-not_listed held names before now own listed sound sound_closed sound_initial sound_changed no_m no_c never
-    (Read file.Initial) reason = absurd (sound_initial reason.named reason.rose)
-not_listed held names before now own listed sound sound_closed sound_initial sound_changed no_m no_c never
-    (Read file.Changed) reason = absurd (sound_changed reason.named reason.rose)
-not_listed held names before now own listed sound sound_closed sound_initial sound_changed no_m no_c never
-    (Read file.Report) reason =
-    absurd (never reason.earlier.0 reason.earlier.1 reason.earlier.1 reason.earlier.2.accepts)
-not_listed held names before now own listed sound sound_closed sound_initial sound_changed no_m no_c never
-    (Read file.Edits) reason = absurd (never reason.earlier.0 reason.earlier.1 reason.earlier.2 reason.earlier.3)
-not_listed held names before now own listed sound sound_closed sound_initial sound_changed no_m no_c never (Model fault)
-    reason = absurd (no_m fault reason)
-not_listed held names before now own listed sound sound_closed sound_initial sound_changed no_m no_c never
-    (Closed fault) reason = absurd (no_c fault reason)
-not_listed held names before now own listed sound sound_closed sound_initial sound_changed no_m no_c never
-    (Assign which fault) reason = inl refl
-not_listed held names before now own listed sound sound_closed sound_initial sound_changed no_m no_c never Memory
-    reason = inr refl
-not_listed held names before now own listed sound sound_closed sound_initial sound_changed no_m no_c never refusal
-    reason = let done = listed refusal reason in absurd (never done.tables done.a0 done.a done.accepts)
-
--- a list is not feasible; `stops` says so of the job's own refusals
-not_feasible : (held : Held) (names : Names) (before now : Faults) (own : Refusal → Type 0) →
-    ((r : Refusal) → own r → status_of r ≡ Infeasible) → (Rose (before names.model) (now names.model) → ⊥) →
-    (IsSome names.closed → Rose (before (unwrap_or names.closed [])) (now (unwrap_or names.closed [])) → ⊥) →
-    (IsSome names.initial → Rose (before (unwrap_or names.initial [])) (now (unwrap_or names.initial [])) → ⊥) →
-    (IsSome names.changed → Rose (before (unwrap_or names.changed [])) (now (unwrap_or names.changed [])) → ⊥) →
-    (IsSome names.edits → Rose (before (unwrap_or names.edits [])) (now (unwrap_or names.edits [])) → ⊥) →
-    ((fault : ModelFault) → ModelRefused held names.model fault → ⊥) →
-    ((fault : ClosedFault) → ClosedRefused held names.model names.closed fault → ⊥) →
-    ((which : Role) (fault : AssignFault) → RoleRefused held names which fault → ⊥) → (Went held names → ⊥) →
-    (refusal : Refusal) → Reason held names before now own refusal → (status_of refusal ≡ Infeasible)
-    ⊎ (status_of refusal ≡ NoMemory)
-unfolding status_of name_of
-not_feasible held names before now own stops sound sound_closed sound_initial sound_changed sound_edits no_m no_c no_l
-    never (Read file.Model) reason = absurd (sound reason.rose)
-not_feasible held names before now own stops sound sound_closed sound_initial sound_changed sound_edits no_m no_c no_l
-    never (Read file.Closed) reason = absurd (sound_closed reason.named reason.rose)
-not_feasible held names before now own stops sound sound_closed sound_initial sound_changed sound_edits no_m no_c no_l
-    never (Read file.Initial) reason = absurd (sound_initial reason.named reason.rose)
-not_feasible held names before now own stops sound sound_closed sound_initial sound_changed sound_edits no_m no_c no_l
-    never (Read file.Changed) reason = absurd (sound_changed reason.named reason.rose)
-not_feasible held names before now own stops sound sound_closed sound_initial sound_changed sound_edits no_m no_c no_l
-    never (Read file.Edits) reason = absurd (sound_edits reason.named reason.rose)
-not_feasible held names before now own stops sound sound_closed sound_initial sound_changed sound_edits no_m no_c no_l
-    never (Read file.Report) reason =
-    absurd (never (passed_went held names reason.earlier.0 reason.earlier.1 reason.earlier.1 reason.earlier.2))
-not_feasible held names before now own stops sound sound_closed sound_initial sound_changed sound_edits no_m no_c no_l
-    never (Model fault) reason = absurd (no_m fault reason)
-not_feasible held names before now own stops sound sound_closed sound_initial sound_changed sound_edits no_m no_c no_l
-    never (Closed fault) reason = absurd (no_c fault reason)
-not_feasible held names before now own stops sound sound_closed sound_initial sound_changed sound_edits no_m no_c no_l
-    never (Assign which fault) reason = absurd (no_l which fault reason)
-not_feasible held names before now own stops sound sound_closed sound_initial sound_changed sound_edits no_m no_c no_l
-    never Memory reason = inr refl
-not_feasible held names before now own stops sound sound_closed sound_initial sound_changed sound_edits no_m no_c no_l
-    never refusal reason = inl (stops refusal reason)
-
--- a job that went so far has this status, or that of refused memory
-abbrev Stops : Held → Names → Faults → Faults → (Refusal → Type 0) → Status → Type 0
-Stops held names before now own this = (Listed held names → ⊥)
-    × ((refusal : Refusal) → Reason held names before now own refusal → (status_of refusal ≡ this)
-    ⊎ (status_of refusal ≡ NoMemory))
-
--- what is known of a file
-
-pub known_model : (held : Held) (names : Names) (before now : Faults) → IsKnown held names before now file.Model →
-    IsSome (held names.model) × (Rose (before names.model) (now names.model) → ⊥)
+pub known_model : (held : Held) (names : Names) (before now : Faults) (last : File) →
+    KnownTo held names before now last → IsSome (held names.model)
 unfolding name_of
-known_model held names before now known = known tt
+known_model held names before now last known = (known file.Model (model_first last) tt).0
 
--- of one that a job may not have
+-- a file that a job may not have is told, if it has it
 pub told_of : (held : Held) (named : Option (List ℕ)) (X : Type 0) →
     (IsSome named → IsSome (held (unwrap_or named [])) × X) → Told held named
 told_of held named X known name is =
     subst (λ (o : Option (List ℕ)). IsSome (held (unwrap_or o []))) is (known (subst IsSome (sym is) refl)).0
 
--- a cause that stands over known files
-
-model_stops : (held : Held) (names : Names) (before now : Faults) (own : Refusal → Type 0) →
-    ((r : Refusal) → own r → Listed held names) → KnownTo held names before now file.Model → (fault : ModelFault) →
-    ModelRefused held names.model fault → Stops held names before now own BadModel
-model_stops held names before now own listed known fault refused =
-    let k = known_model held names before now (known file.Model refl) in
-    let never = no_model held names.model k.0 fault refused in (
-      λ done. never done.accepts.instance.model done.accepts.instance.read,
-      not_model held names before now own listed k.1 never,
-    )
-
-closed_stops : (held : Held) (names : Names) (before now : Faults) (own : Refusal → Type 0) →
-    ((r : Refusal) → own r → Listed held names) → KnownTo held names before now file.Closed → (fault : ClosedFault) →
-    ClosedRefused held names.model names.closed fault → Stops held names before now own BadClosed
+pub told_closed : (held : Held) (names : Names) (before now : Faults) (last : File) → is_up_to file.Closed last ≡ true →
+    KnownTo held names before now last → Told held names.closed
 unfolding name_of
-closed_stops held names before now own listed known fault refused =
-    let k = known_model held names before now (known file.Model refl) in
-    let closed = told_of held names.closed _ (known file.Closed refl) in
-    let never = no_closed held names.model names.closed k.0 closed fault refused in (
-      λ done. never done.tables done.accepts.instance,
-      not_closed held names before now own listed k.1 (λ named. (known file.Closed refl named).1)
-          (λ f r. no_model held names.model k.0 f r refused.model refused.read) never,
-    )
+told_closed held names before now last up known = told_of held names.closed _ (known file.Closed up)
 
-initial_stops : (held : Held) (names : Names) (before now : Faults) (own : Refusal → Type 0) →
-    ((r : Refusal) → own r → Listed held names) → KnownTo held names before now file.Initial → (fault : AssignFault) →
-    InitialRefused held names fault → Stops held names before now own BadAssignment
+pub told_role : (held : Held) (names : Names) (before now : Faults) (which : Role) (last : File) →
+    is_up_to (file_of which) last ≡ true → KnownTo held names before now last → Told held (list_in names which)
 unfolding name_of
-initial_stops held names before now own listed known fault refused =
-    let k = known_model held names before now (known file.Model refl) in
-    let closed = told_of held names.closed _ (known file.Closed refl) in
-    let initial = told_of held names.initial _ (known file.Initial refl) in
-    let never = no_initial held names k.0 closed initial fault refused in (
-      λ done. never done.tables done.a0 done.accepts.instance done.accepts.initial,
-      not_initial held names before now own listed k.1 (λ named. (known file.Closed refl named).1)
-          (λ named. (known file.Initial refl named).1)
-          (λ f r. no_model held names.model k.0 f r refused.instance.model refused.instance.read)
-          (λ f r. no_closed held names.model names.closed k.0 closed f r refused.tables refused.instance) never,
-    )
+told_role held names before now role.Initial last up known = told_of held names.initial _ (known file.Initial up)
+told_role held names before now role.Changed last up known = told_of held names.changed _ (known file.Changed up)
 
-changed_stops : (held : Held) (names : Names) (before now : Faults) (own : Refusal → Type 0) →
-    ((r : Refusal) → own r → Listed held names) → KnownTo held names before now file.Changed → (fault : AssignFault) →
-    ChangedRefused held names fault → Stops held names before now own BadAssignment
-unfolding name_of
-changed_stops held names before now own listed known fault refused =
-    let k = known_model held names before now (known file.Model refl) in
-    let closed = told_of held names.closed _ (known file.Closed refl) in
-    let changed = told_of held names.changed _ (known file.Changed refl) in
-    let never : (i : Tables) (a0 a : List Machine) → Accepts held names i a0 a → ⊥ = λ i a0 a accepts.
-    no_changed held names k.0 closed changed fault refused i a accepts.instance accepts.changed in (
-      λ done. never done.tables done.a0 done.a done.accepts,
-      not_listed held names before now own listed k.1 (λ named. (known file.Closed refl named).1)
-          (λ named. (known file.Initial refl named).1)
-          (λ named. (known file.Changed refl named).1)
-          (λ f r. no_model held names.model k.0 f r refused.instance.model refused.instance.read)
-          (λ f r. no_closed held names.model names.closed k.0 closed f r refused.tables refused.instance) never,
-    )
+-- ---- the files of a job, one after another: the edits and the report are the job's own
 
-role_stops : (held : Held) (names : Names) (before now : Faults) (own : Refusal → Type 0) →
-    ((r : Refusal) → own r → Listed held names) → (which : Role) → KnownTo held names before now (file_of which) →
-    (fault : AssignFault) → RoleRefused held names which fault → Stops held names before now own BadAssignment
-role_stops held names before now own listed role.Initial known fault refused =
-    initial_stops held names before now own listed known fault refused
-role_stops held names before now own listed role.Changed known fault refused =
-    changed_stops held names before now own listed known fault refused
+-- a file is refused
+abbrev pub IsRefusedAt : Held → Names → File → Type 0
+IsRefusedAt held names file.Model = (fault : ModelFault) × ModelRefused held names.model fault
+IsRefusedAt held names file.Closed = (fault : ClosedFault) × ClosedRefused held names.model names.closed fault
+IsRefusedAt held names file.Initial = (fault : AssignFault) × RoleRefused held names role.Initial fault
+IsRefusedAt held names file.Changed = (fault : AssignFault) × RoleRefused held names role.Changed fault
+IsRefusedAt held names f = ⊥
 
--- if all files were accepted, and no list is feasible that would have to be
-accepted_stops : (held : Held) (names : Names) (before now : Faults) (own : Refusal → Type 0) →
-    ((r : Refusal) → own r → status_of r ≡ Infeasible) → KnownTo held names before now file.Edits →
-    (i : Tables) (a0 a : List Machine) → Accepts held names i a0 a → (Went held names → ⊥) → (refusal : Refusal) →
-    Reason held names before now own refusal → (status_of refusal ≡ Infeasible) ⊎ (status_of refusal ≡ NoMemory)
-unfolding name_of
-accepted_stops held names before now own stops known i a0 a accepts never =
-    let k = known_model held names before now (known file.Model refl) in
-    let closed = told_of held names.closed _ (known file.Closed refl) in
-    let initial = told_of held names.initial _ (known file.Initial refl) in
-    let changed = told_of held names.changed _ (known file.Changed refl) in
-    not_feasible held names before now own stops k.1 (λ named. (known file.Closed refl named).1)
-    (λ named. (known file.Initial refl named).1)
-    (λ named. (known file.Changed refl named).1) (λ named. (known file.Edits refl named).1)
-    (λ f r. no_model held names.model k.0 f r accepts.instance.model accepts.instance.read)
-    (λ f r. no_closed held names.model names.closed k.0 closed f r i accepts.instance)
-    (λ which f r. no_role held names k.0 closed initial changed which f r i a0 a accepts) never
+-- it and all before it were accepted
+abbrev pub IsReadAt : Held → Names → File → Type 0
+IsReadAt held names file.Model = (i : Tables) × ModelIs held names.model i
+IsReadAt held names file.Closed = (i : Tables) × InstanceIs held names.model names.closed i
+IsReadAt held names file.Initial =
+    (i : Tables) × (a0 : List Machine) × InstanceIs held names.model names.closed i × NamedListIs held names.initial i a0
+IsReadAt held names f = Listed held names
+
+-- all lists were
+listed_read : (held : Held) (names : Names) (f : File) → Listed held names → IsReadAt held names f
+listed_read held names file.Model done = (done.accepts.instance.model, done.accepts.instance.read)
+listed_read held names file.Closed done = (done.tables, done.accepts.instance)
+listed_read held names file.Initial done = (done.tables, done.a0, done.accepts.instance, done.accepts.initial)
+listed_read held names f done = done
+
+-- before a file is read, each earlier one was accepted
+read_before : (held : Held) (names : Names) (f g : File) → is_up_to g f ≡ false → ReadBefore held names g →
+    IsReadAt held names f
+read_before held names file.Model file.Closed later read = read
+read_before held names file.Model file.Initial later read = (read.1.model, read.1.read)
+read_before held names file.Closed file.Initial later read = read
+read_before held names file.Model file.Changed later read = (read.2.model, read.2.read)
+read_before held names file.Closed file.Changed later read = (read.0, read.2)
+read_before held names file.Initial file.Changed later read = read
+read_before held names f file.Edits later read =
+    listed_read held names f (record { tables = read.0; a0 = read.1; a = read.2; accepts = read.3 })
+read_before held names f file.Report later read =
+    listed_read held names f (record { tables = read.0; a0 = read.1; a = read.1; accepts = read.2.accepts })
+read_before held names f g later read = absurd (let both : true ≡ false = later in cc)
+
+refused_before : (held : Held) (names : Names) (g : File) → IsRefusedAt held names g → ReadBefore held names g
+refused_before held names file.Model refused = tt
+refused_before held names file.Closed refused = (refused.1.model, refused.1.read)
+refused_before held names file.Initial refused = (refused.1.tables, refused.1.instance)
+refused_before held names file.Changed refused =
+    (refused.1.tables, refused.1.a0, refused.1.instance, refused.1.earlier refl)
+refused_before held names g refused = absurd refused
+
+-- a known file is not refused and accepted at once
+never_both : (held : Held) (names : Names) (before now : Faults) (f : File) → KnownTo held names before now f →
+    IsRefusedAt held names f → IsReadAt held names f → ⊥
+never_both held names before now file.Model known refused read =
+    no_model held names.model (known_model held names before now file.Model known) refused.0 refused.1 read.0 read.1
+never_both held names before now file.Closed known refused read =
+    no_closed held names.model names.closed (known_model held names before now file.Closed known)
+    (told_closed held names before now file.Closed refl known) refused.0 refused.1 read.0 read.1
+never_both held names before now file.Initial known refused read =
+    no_role held names role.Initial (known_model held names before now file.Initial known)
+    (told_closed held names before now file.Initial refl known)
+    (told_role held names before now role.Initial file.Initial refl known) refused.0 refused.1 read.0 read.1 read.2
+    read.3
+never_both held names before now file.Changed known refused read =
+    no_role held names role.Changed (known_model held names before now file.Changed known)
+    (told_closed held names before now file.Changed refl known)
+    (told_role held names before now role.Changed file.Changed refl known) refused.0 refused.1 read.tables read.a
+    read.accepts.instance read.accepts.changed
+never_both held names before now f known refused read = absurd refused
+
+-- ---- The reason of another status than one whose cause stands is not so of the files
+
+-- the status if a file is refused; of the edits and the report it doesn't matter
+abbrev bad_status : File → Status
+bad_status file.Model = BadModel
+bad_status file.Closed = BadClosed
+bad_status f = BadAssignment
+
+same_status : (f g : File) → is_up_to f g ≡ true → is_up_to g f ≡ true → bad_status f ≡ bad_status g
+same_status file.Model file.Model one two = refl
+same_status file.Closed file.Closed one two = refl
+same_status file.Closed file.Model one two = absurd (let both : false ≡ true = one in cc)
+same_status file.Model g one two = absurd (let both : false ≡ true = two in cc)
+same_status file.Closed g one two = absurd (let both : false ≡ true = two in cc)
+same_status f file.Model one two = absurd (let both : false ≡ true = one in cc)
+same_status f file.Closed one two = absurd (let both : false ≡ true = one in cc)
+same_status f g one two = refl
+
+-- if two files are refused, the later one is not known, or it is the same
+one_status : (held : Held) (names : Names) (before now : Faults) (last g : File) → KnownTo held names before now last →
+    IsRefusedAt held names last → IsRefusedAt held names g → bad_status g ≡ bad_status last
+one_status held names before now last g known refused other = ⊎_elim
+    (λ (up : is_up_to g last ≡ true). ⊎_elim
+    (λ (down : is_up_to last g ≡ true). same_status g last up down)
+    (λ (earlier : is_up_to last g ≡ false).
+    absurd (never_both held names before now g (known_less held names before now g last up known) other
+    (read_before held names g last earlier (refused_before held names last refused))))
+    (cases_Bool (is_up_to last g)))
+    (λ (later : is_up_to g last ≡ false).
+    absurd (never_both held names before now last known refused
+    (read_before held names last g later (refused_before held names g other))))
+    (cases_Bool (is_up_to g last))
+
+-- a job whose files are known up to a refused one refuses that, or memory was refused; `listed` says of its own refusals
+-- that they come after all lists
+refuses_it : (held : Held) (names : Names) (before now : Faults) (own : Refusal → Type 0) →
+    ((r : Refusal) → own r → Listed held names) → (last : File) → KnownTo held names before now last →
+    IsRefusedAt held names last → (refusal : Refusal) → Reason held names before now own refusal →
+    (status_of refusal ≡ bad_status last) ⊎ (status_of refusal ≡ NoMemory)
+unfolding status_of
+refuses_it held names before now own listed last known refused (Read g) reason = absurd (⊎_elim
+    (λ (up : is_up_to g last ≡ true). (known g up reason.named).1 reason.rose)
+    (λ (later : is_up_to g last ≡ false).
+    never_both held names before now last known refused (read_before held names last g later reason.earlier))
+    (cases_Bool (is_up_to g last)))
+refuses_it held names before now own listed last known refused (Model fault) reason =
+    inl (one_status held names before now last file.Model known refused (fault, reason))
+refuses_it held names before now own listed last known refused (Closed fault) reason =
+    inl (one_status held names before now last file.Closed known refused (fault, reason))
+refuses_it held names before now own listed last known refused (Assign role.Initial fault) reason =
+    inl (one_status held names before now last file.Initial known refused (fault, reason))
+refuses_it held names before now own listed last known refused (Assign role.Changed fault) reason =
+    inl (one_status held names before now last file.Changed known refused (fault, reason))
+refuses_it held names before now own listed last known refused Memory reason = inr refl
+refuses_it held names before now own listed last known refused refusal reason =
+    absurd (never_both held names before now last known refused (listed_read held names last (listed refusal reason)))
+
+-- ---- over known files that are accepted, a refusal is one of the job's own, or of memory
+
+refused_named : (held : Held) (names : Names) (f : File) → IsRefusedAt held names f → IsNamed names f
+refused_named held names file.Model refused = tt
+refused_named held names file.Closed refused = rw refused.1.named refl
+refused_named held names file.Initial refused = refused.1.named
+refused_named held names file.Changed refused = refused.1.named
+refused_named held names f refused = absurd refused
+
+not_refused : (held : Held) (names : Names) (before now : Faults) (last f : File) → KnownTo held names before now last →
+    ((f : File) → IsNamed names f → ReadBefore held names f → is_up_to f last ≡ true) → Listed held names →
+    IsRefusedAt held names f → ⊥
+not_refused held names before now last f known up done refused =
+    let below = up f (refused_named held names f refused) (refused_before held names f refused) in
+    never_both held names before now f (known_less held names before now f last below known) refused
+    (listed_read held names f done)
+
+-- `up` says that the job reads no file after the last one that is known
+pub own_known : (held : Held) (names : Names) (before now : Faults) (own : Refusal → Type 0) (last : File) →
+    KnownTo held names before now last →
+    ((f : File) → IsNamed names f → ReadBefore held names f → is_up_to f last ≡ true) → Listed held names →
+    (refusal : Refusal) → Reason held names before now own refusal → own refusal ⊎ (status_of refusal ≡ NoMemory)
+unfolding status_of
+own_known held names before now own last known up done (Read f) reason =
+    absurd ((known f (up f reason.named reason.earlier) reason.named).1 reason.rose)
+own_known held names before now own last known up done (Model fault) reason =
+    absurd (not_refused held names before now last file.Model known up done (fault, reason))
+own_known held names before now own last known up done (Closed fault) reason =
+    absurd (not_refused held names before now last file.Closed known up done (fault, reason))
+own_known held names before now own last known up done (Assign role.Initial fault) reason =
+    absurd (not_refused held names before now last file.Initial known up done (fault, reason))
+own_known held names before now own last known up done (Assign role.Changed fault) reason =
+    absurd (not_refused held names before now last file.Changed known up done (fault, reason))
+own_known held names before now own last known up done Memory reason = inr refl
+own_known held names before now own last known up done refusal reason = inl reason
+
+-- ---- lists that break a constraint
+
+-- only a job whose lists were feasible reads a file after the edits
+none_after : (held : Held) (names : Names) → (Went held names → ⊥) → (f : File) → IsNamed names f →
+    ReadBefore held names f → is_up_to f file.Edits ≡ true
+none_after held names never file.Report named read =
+    absurd (never (passed_went held names read.0 read.1 read.1 read.2))
+none_after held names never f named read = refl
+
+went_role : (held : Held) (names : Names) (which : Role) (went : Went held names) → IsNamed names (file_of which) →
+    Feasible went.listed.tables went.listed.a0 (of_role which went.listed.a0 went.listed.a)
+went_role held names role.Initial went named = went.initial named
+went_role held names role.Changed went named = went.changed named
+
+role_first : (which : Role) → is_up_to (file_of which) file.Edits ≡ true
+role_first role.Initial = refl
+role_first role.Changed = refl
 
 -- if a list breaks a constraint, no job went so far that its lists were feasible
-initial_never : (held : Held) (names : Names) (before now : Faults) → KnownTo held names before now file.Edits →
-    (cause : Cause) → InitialBreaks held names cause → Went held names → ⊥
-unfolding name_of
-initial_never held names before now known cause breaks done =
-    let k = known_model held names before now (known file.Model refl) in
-    no_initial_break held names k.0 (told_of held names.closed _ (known file.Closed refl))
-    (told_of held names.initial _ (known file.Initial refl)) cause
-    breaks done.listed.tables done.listed.a0 done.listed.a done.listed.accepts (done.initial breaks.named)
-
-changed_never : (held : Held) (names : Names) (before now : Faults) → KnownTo held names before now file.Edits →
-    (cause : Cause) → ChangedBreaks held names cause → Went held names → ⊥
-unfolding name_of
-changed_never held names before now known cause breaks done =
-    let k = known_model held names before now (known file.Model refl) in
-    no_changed_break held names k.0 (told_of held names.closed _ (known file.Closed refl))
-    (told_of held names.initial _ (known file.Initial refl))
-    (told_of held names.changed _ (known file.Changed refl)) cause breaks done.listed.tables done.listed.a0
-    done.listed.a
-    done.listed.accepts (done.changed breaks.named)
-
-breaks_never : (held : Held) (names : Names) (before now : Faults) → KnownTo held names before now file.Edits →
+pub breaks_never : (held : Held) (names : Names) (before now : Faults) → KnownTo held names before now file.Edits →
     (which : Role) (cause : Cause) → RoleBreaks held names which cause → Went held names → ⊥
-breaks_never held names before now known role.Initial cause breaks done =
-    initial_never held names before now known cause breaks done
-breaks_never held names before now known role.Changed cause breaks done =
-    changed_never held names before now known cause breaks done
+breaks_never held names before now known which cause breaks went =
+    no_break held names which (known_model held names before now file.Edits known)
+    (told_closed held names before now file.Edits refl known)
+    (told_role held names before now role.Initial file.Edits refl known)
+    (told_role held names before now which file.Edits (role_first which) known) cause breaks went.listed.tables
+    went.listed.a0 went.listed.a went.listed.accepts (went_role held names which went breaks.named)
 
 pub breaks_listed : (held : Held) (names : Names) (which : Role) (cause : Cause) → RoleBreaks held names which cause →
     Listed held names
-breaks_listed held names role.Initial cause breaks = record {
-  tables = breaks.tables;
-  a0 = breaks.a0;
-  a = breaks.a;
-  accepts = breaks.accepts;
-}
-breaks_listed held names role.Changed cause breaks = record {
+breaks_listed held names which cause breaks = record {
   tables = breaks.tables;
   a0 = breaks.a0;
   a = breaks.a;
   accepts = breaks.accepts;
 }
 
--- from how a job ends
+-- ---- from how a job ends
 
 always : {held : Held} {names : Names} {before now : Faults} {output : Type 0} {own : Refusal → Type 0}
     {tells : List ℕ → Type 0} {out_same err_same : Type 0} {status : Status} →
@@ -428,7 +351,28 @@ not_written ends other read repaired =
     let refused = ends.refused other in
     refused.no_output (puts_nothing refused.refusal (λ e. read (refused.is ∙ e)) (λ e. repaired (refused.is ∙ e)))
 
--- `listed` says of the output and of the job's own refusals that they come behind all lists
+-- if a file is refused, and it is known up to that
+refused_stops : {held : Held} {names : Names} {before now : Faults} {output : Type 0} {own : Refusal → Type 0}
+    {tells : List ℕ → Type 0} {out_same err_same : Type 0} {status : Status} →
+    Ends held names before now output own tells out_same err_same status → (output → Listed held names) →
+    ((r : Refusal) → own r → Listed held names) → (last : File) → KnownTo held names before now last →
+    IsRefusedAt held names last → (status ≡ bad_status last) ⊎ (status ≡ NoMemory)
+refused_stops {held} {names} {before} {now} {output} {own} ends printed listed last known refused =
+    always ends (bad_status last)
+    (λ o. never_both held names before now last known refused (listed_read held names last (printed o)))
+    (refuses_it held names before now own listed last known refused)
+
+role_stops : {held : Held} {names : Names} {before now : Faults} {output : Type 0} {own : Refusal → Type 0}
+    {tells : List ℕ → Type 0} {out_same err_same : Type 0} {status : Status} →
+    Ends held names before now output own tells out_same err_same status → (output → Listed held names) →
+    ((r : Refusal) → own r → Listed held names) → (which : Role) → KnownTo held names before now (file_of which) →
+    (fault : AssignFault) → RoleRefused held names which fault → (status ≡ BadAssignment) ⊎ (status ≡ NoMemory)
+role_stops ends printed listed role.Initial known fault refused =
+    refused_stops ends printed listed file.Initial known (fault, refused)
+role_stops ends printed listed role.Changed known fault refused =
+    refused_stops ends printed listed file.Changed known (fault, refused)
+
+-- `listed` says of the output and of the job's own refusals that they come after all lists
 pub comes : {held : Held} {names : Names} {before now : Faults} {output : Type 0} {own : Refusal → Type 0}
     {tells : List ℕ → Type 0} {out_same err_same : Type 0} {status : Status} →
     Ends held names before now output own tells out_same err_same status → (output → Listed held names) →
@@ -437,18 +381,15 @@ comes {held} {names} {before} {now} {output} {own} {tells} {out_same} {err_same}
   read_fault = only ends ReadFault (λ e. cc);
   bad_model = record {
     only = only ends BadModel (λ e. cc);
-    always = λ known cause. let stops = model_stops held names before now own listed known cause.0 cause.1 in
-        always ends BadModel (λ o. stops.0 (printed o)) stops.1;
+    always = λ known cause. refused_stops ends printed listed file.Model known cause;
   };
   bad_closed = record {
     only = only ends BadClosed (λ e. cc);
-    always = λ known cause. let stops = closed_stops held names before now own listed known cause.0 cause.1 in
-        always ends BadClosed (λ o. stops.0 (printed o)) stops.1;
+    always = λ known cause. refused_stops ends printed listed file.Closed known cause;
   };
   bad_assignment = record {
     only = only ends BadAssignment (λ e. cc);
-    always = λ which known cause. let stops = role_stops held names before now own listed which known cause.0 cause.1 in
-        always ends BadAssignment (λ o. stops.0 (printed o)) stops.1;
+    always = λ which known cause. role_stops ends printed listed which known cause.0 cause.1;
   };
   write_fault = only ends WriteFault (λ e. cc);
   no_output = not_written ends;
@@ -490,10 +431,12 @@ infeasible_of {held} {names} {before} {now} {output} {own} {tells} {out_same} {e
           broke refused.refusal refused.reason (sym refused.is ∙ is);
       always = λ known cause.
           let never : Went held names → ⊥ = breaks_never held names before now known cause.0 cause.1 cause.2 in
-          let listed = breaks_listed held names cause.0 cause.1 cause.2 in
           always ends Infeasible (λ o. never (printed o))
-          (accepted_stops held names before now own (stops never) known listed.tables listed.a0 listed.a listed.accepts
-          never);
+          (λ r reason. ⊎_elim
+          (λ (mine : own r). inl (stops never r mine))
+          (λ (memory : status_of r ≡ NoMemory). inr memory)
+          (own_known held names before now own file.Edits known (none_after held names never)
+          (breaks_listed held names cause.0 cause.1 cause.2) r reason));
     }
 
 pub infeasible_comes : {held : Held} {names : Names} {before now : Faults} {output written : Type 0} {tells : List ℕ →
@@ -528,17 +471,32 @@ pub printed_went : (held : Held) (names : Names) (sent : List ℕ → Type 0) �
     Went held names
 printed_went held names sent p = passed_went held names p.tables p.a0 p.a p.passes
 
-pub bound_listed : (held : Held) (model : List ℕ) (closed initial : Option (List ℕ)) (sent : List ℕ → Type 0) →
-    BoundPrinted held (bound_names model initial closed) sent → Listed held (bound_names model initial closed)
-bound_listed held model closed None sent p = record {
-  tables = p.read.tables;
-  a0 = [];
-  a = [];
-  accepts = record { instance = p.read.instance; initial = tt; changed = tt };
-}
-bound_listed held model closed (Some name) sent p = record {
-  tables = p.read.tables;
-  a0 = p.read.is.0;
-  a = [];
-  accepts = record { instance = p.read.instance; initial = p.read.is.1; changed = tt };
-}
+-- if a job has no list in a role, any will do
+pub list_none : (held : Held) (named : Option (List ℕ)) (i : Tables) (a : List Machine) → (IsSome named → ⊥) →
+    NamedListIs held named i a
+list_none held None i a none = tt
+list_none held (Some name) i a none = absurd (none refl)
+
+-- a job that ends at the initial list has no other
+pub alone_at : (names : Names) → EndsAt names file.Initial → IsNamed names file.Changed → ⊥
+alone_at names ends named = let both : false ≡ true = ends file.Changed named in cc
+
+bound_start : (held : Held) (named : Option (List ℕ)) (i : Tables) (bound : Bound) → BoundIs held named i bound →
+    (a0 : List Machine) × NamedListIs held named i a0
+bound_start held None i bound is = ([], tt)
+bound_start held (Some name) i bound is = (is.0, is.1)
+
+pub bound_listed : (held : Held) (names : Names) → EndsAt names file.Initial → (sent : List ℕ → Type 0) →
+    BoundPrinted held names sent → Listed held names
+bound_listed held names ends sent p =
+    let start = bound_start held names.initial p.read.tables p.bound p.read.is in
+    record {
+      tables = p.read.tables;
+      a0 = start.0;
+      a = [];
+      accepts = record {
+        instance = p.read.instance;
+        initial = start.1;
+        changed = list_none held names.changed p.read.tables [] (alone_at names ends);
+      };
+    }

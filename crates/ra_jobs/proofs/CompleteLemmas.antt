@@ -1,7 +1,9 @@
 -- A job over valid files without a fault is done, or memory was refused.
-use Rattle.std.proofs.Common.{◌≡◌, ◌≢◌, ◌⊎◌, ℕ, ◌<◌, ◌-◌, ◌^◌, List, Option, Some, None, IfSome, inl, inr, ⊎_elim, refl}
+use Rattle.std.proofs.Common.{◌≡◌, ◌≢◌, ◌⊎◌, ℕ, ◌<◌, ◌-◌, ◌^◌, List, [], Option, Some, None, IfSome, IsSome, inl, inr, ⊎_elim, refl}
 use Rattle.std.proofs.Common.{sym, ◌∙◌}
 use Rattle.std.proofs.Math.Nat.{lt_irrefl}
+use Rattle.std.specs.Prelude.{unwrap_or}
+use Rattle.ra_model.specs.declared.raw.Tables.{Tables}
 use Rattle.ra_io.specs.Faults.{Rose}
 use Rattle.ra_model.proofs.BrokenLemmas.{unbroken_from_feasible}
 use Rattle.ra_model_read.specs.ModelText.{model_refusal}
@@ -9,12 +11,13 @@ use Rattle.ra_assign.specs.Lists.{assign_refusal}
 use Rattle.ra_assign.specs.ClosedLists.{closed_refusal}
 use Rattle.ra_jobs.specs.declared.refusals.Refusal.{Refusal}
 use Rattle.ra_jobs.specs.declared.refusals.Refusal.TheVariants.{Read, Model, Closed, Assign, Broken, Write, Memory}
+use Rattle.ra_jobs.specs.declared.refusals.Role.{Role}
 use Rattle.ra_jobs.specs.declared.refusals.Role.TheVariants as role
 use Rattle.ra_jobs.specs.declared.status.Status.{Status}
 use Rattle.ra_jobs.specs.declared.status.Status.TheVariants.{Done, ReadFault, WriteFault, NoMemory}
-use Rattle.ra_jobs.specs.Files.{Held, Faults, Names}
+use Rattle.ra_jobs.specs.Files.{Held, Faults, Names, name_of, file_of, IsNamed, InstanceIs}
 use Rattle.ra_jobs.specs.Refusals.{Reason, Judges, OnlyWrites}
-use Rattle.ra_jobs.specs.Complete.{AreAccepted, AreValid, NoFault}
+use Rattle.ra_jobs.specs.Complete.{ListAccepted, AreAccepted, AreValid, NoFault}
 use Rattle.ra_jobs.specs.Statuses.{status_of}
 use Rattle.ra_jobs.proofs.EndLemmas.{Ends}
 
@@ -24,6 +27,20 @@ pub contradiction : {X : Type 0} (told : Option (List ℕ)) (bytes : List ℕ) (
 contradiction None bytes refusal fault is accepted refused = cc
 contradiction (Some other) bytes refusal fault is accepted refused = let same : other ≡ bytes = cc in
     let none : refusal other ≡ None = rw same accepted in let both : None ≡ Some fault = sym none ∙ refused in cc
+
+-- a name that a job has
+pub some_name : (named : Option (List ℕ)) → IsSome named → named ≡ Some (unwrap_or named [])
+some_name None some = absurd (cc)
+some_name (Some name) some = refl
+
+-- the list of each role is accepted
+role_accepted : (held : Held) (names : Names) (which : Role) → AreAccepted held names → IsNamed names (file_of which) →
+    (i : Tables) → InstanceIs held names.model names.closed i → ListAccepted held (name_of names (file_of which)) i
+unfolding name_of
+role_accepted held names role.Initial valid named i instance =
+    valid.initial (unwrap_or names.initial []) (some_name names.initial named) i instance
+role_accepted held names role.Changed valid named i instance =
+    valid.changed (unwrap_or names.changed []) (some_name names.changed named) i instance
 
 -- a refusal over accepted files is one of the job's own, or of memory
 pub own_left : (held : Held) (names : Names) (before now : Faults) (own : Refusal → Type 0) → AreAccepted held names →
@@ -38,14 +55,10 @@ own_left held names before now own valid sound (Closed fault) reason =
     let accepted = valid.closed reason.name reason.named reason.model reason.read in
     absurd (contradiction (held reason.name) accepted.0 (λ bytes. closed_refusal bytes reason.model) fault accepted.1
     accepted.2 reason.refused)
-own_left held names before now own valid sound (Assign role.Initial fault) reason =
-    let accepted = valid.initial reason.name reason.named reason.tables reason.instance in
-    absurd (contradiction (held reason.name) accepted.0 (λ bytes. assign_refusal bytes reason.tables) fault accepted.1
-    accepted.2 reason.refused.refused)
-own_left held names before now own valid sound (Assign role.Changed fault) reason =
-    let accepted = valid.changed reason.name reason.named reason.tables reason.instance in
-    absurd (contradiction (held reason.name) accepted.0 (λ bytes. assign_refusal bytes reason.tables) fault accepted.1
-    accepted.2 reason.refused.refused)
+own_left held names before now own valid sound (Assign which fault) reason =
+    let accepted = role_accepted held names which valid reason.named reason.tables reason.instance in
+    absurd (contradiction (held (name_of names (file_of which))) accepted.0 (λ bytes. assign_refusal bytes reason.tables)
+    fault accepted.1 accepted.2 reason.refused.refused)
 own_left held names before now own valid sound Memory reason = inr refl
 own_left held names before now own valid sound refusal reason = inl reason
 
@@ -94,12 +107,12 @@ pub judges_none : (held : Held) (names : Names) (written : Type 0) → AreValid 
 judges_none held names written valid wrote (Broken role.Initial cause) reason =
     let none = unbroken_from_feasible reason.tables reason.a0 reason.a0
     (valid.initial reason.named reason.tables reason.a0 reason.a reason.accepts) in
-    let both : None ≡ Some cause = sym none ∙ reason.broken in
+    let both : None ≡ Some cause = sym none ∙ reason.breaks in
     cc
 judges_none held names written valid wrote (Broken role.Changed cause) reason =
     let none = unbroken_from_feasible reason.tables reason.a0 reason.a
     (valid.changed reason.named reason.tables reason.a0 reason.a reason.accepts) in
-    let both : None ≡ Some cause = sym none ∙ reason.broken in
+    let both : None ≡ Some cause = sym none ∙ reason.breaks.1 in
     cc
 judges_none held names written valid wrote Write reason = wrote reason
 judges_none held names written valid wrote refusal reason = reason

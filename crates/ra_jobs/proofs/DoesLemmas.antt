@@ -1,8 +1,9 @@
 -- What a command does, from how it ends.
 use Rattle.std.proofs.Common.{◌≡◌, ◌≢◌, ◌≤◌, List, ℕ, false, Option, Result, Ok, Err, OnOk, IfErr, IsErr, IsErrAnd}
-use Rattle.std.proofs.Common.{refl, sym, ◌∙◌, arith, inr}
+use Rattle.std.proofs.Common.{refl, sym, subst, ◌∙◌, arith, inr}
 use Rattle.ra_io.specs.Outside.{Reading, LeavesFiles, Took, WriteFailed}
 use Rattle.ra_token.proofs.ToldLemmas.{at_exit}
+use Rattle.ra_jobs.specs.declared.refusals.File.TheVariants as file
 use Rattle.ra_jobs.specs.declared.refusals.Refusal.{Refusal}
 use Rattle.ra_jobs.specs.declared.refusals.Refusal.TheVariants.{Memory, Write}
 use Rattle.ra_jobs.specs.declared.status.Status.{Status}
@@ -12,7 +13,7 @@ use Rattle.ra_jobs.specs.Comes.{Comes, InfeasibleComes}
 use Rattle.ra_jobs.specs.Commands.{Command, OverFiles, over, judged}
 use Rattle.ra_jobs.specs.Complete.{NoFault}
 use Rattle.ra_jobs.specs.Ends.{Does, Refused, Tries, Finishes, Leaves, puts_first}
-use Rattle.ra_jobs.specs.Files.{Held, Faults, Names, bound_names}
+use Rattle.ra_jobs.specs.Files.{Held, Faults, Names, EndsAt}
 use Rattle.ra_jobs.specs.Lines.{refusal_line}
 use Rattle.ra_jobs.specs.Output.{Output, BrokeOff, Put}
 use Rattle.ra_jobs.specs.Outputs.{CheckPrinted, BoundPrinted, checked, bounded}
@@ -51,7 +52,7 @@ not_written_whole c files out ended exit reason left counts = record {
   never_falls = counts;
 }
 
--- from how it ends: `listed` says of its output and of its own refusals that they come behind all lists
+-- from how it ends: `listed` says of its output and of its own refusals that they come after all lists
 pub does_so : (c : OverFiles) (files : Reading) (out err : Output) (status : Status) → EndsOver c files out err status →
     (c.prints files.held (Took out.sink) → Listed files.held c.names) →
     ((r : Refusal) → c.refuses files.held (Took out.sink) (BrokeOff out.sink) r → Listed files.held c.names) →
@@ -74,9 +75,14 @@ does_so c files out err status ends printed listed own completes leaves = record
   leaves = leaves;
 }
 
+-- what is done over some names is done over the same names
+pub does_for : (word : Names → OverFiles) (names these : Names) (files : Reading) (out err : Output) (status : Status) →
+    names ≡ these → Does (over (word names)) files out err status → Does (over (word these)) files out err status
+does_for word names these files out err status same does =
+    subst (λ (n : Names). Does (over (word n)) files out err status) same does
+
 -- of a command whose lists have to be feasible: `went` says of what was printed, whole or in part, that they are, and
--- `text`
--- that a text went so
+-- `text` that a text went so
 pub judged_so : (names : Names) (prints : Held → (List ℕ → Type 0) → Type 0) (files : Reading) (out err : Output)
     (ended : Result (Unit {0}) Refusal) (status : Status) → Tries (over (judged names prints)) files out ended →
     Finishes names ended err status
@@ -103,19 +109,16 @@ check_so names files out err ended status tries finishes =
     judged_so names (λ held sent. CheckPrinted held names sent) files out err ended status tries finishes
     (λ sent p. printed_went files.held names sent p) (λ sent p. (_, p.text))
 
-pub bound_so : (model : List ℕ) (closed initial : Option (List ℕ)) (files : Reading) (out err : Output)
-    (ended : Result (Unit {0}) Refusal) (status : Status) →
-    Tries (over (bounded (bound_names model initial closed))) files out ended →
-    Finishes (bound_names model initial closed) ended err status →
-    Does (over (bounded (bound_names model initial closed))) files out err status
-bound_so model closed initial files out err ended status tries finishes =
-    let names = bound_names model initial closed in
+pub bound_so : (names : Names) → EndsAt names file.Initial → (files : Reading) (out err : Output)
+    (ended : Result (Unit {0}) Refusal) (status : Status) → Tries (over (bounded names)) files out ended →
+    Finishes names ended err status → Does (over (bounded names)) files out err status
+bound_so names last files out err ended status tries finishes =
     let c = bounded names in
     let ends : EndsOver c files out err status = finished c files out err ended status tries finishes in
     let written = BoundPrinted files.held names (BrokeOff out.sink) in
     does_so c files out err status ends
-    (bound_listed files.held model closed initial (Took out.sink))
-    (writes_listed files.held names written (bound_listed files.held model closed initial (BrokeOff out.sink)))
+    (bound_listed files.held names last (Took out.sink))
+    (writes_listed files.held names written (bound_listed files.held names last (BrokeOff out.sink)))
     (never_infeasible ends)
     (λ valid sound wrote. complete ends valid sound (writes_none written (λ broken. wrote broken.text.1)))
     (left_so c files out err ended status tries finishes)

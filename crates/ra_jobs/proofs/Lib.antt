@@ -2,6 +2,7 @@ pub mod RowLemmas
 pub mod BareLemmas
 pub mod MeaningLemmas
 pub mod AlikeLemmas
+pub mod FileLemmas
 pub mod StageLemmas
 pub mod ResultLemmas
 pub mod EndLemmas

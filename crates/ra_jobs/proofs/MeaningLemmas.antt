@@ -1,7 +1,8 @@
 -- Over told bytes the files of a job mean one instance, but for the room of its lists, and one assignment each: so no
 -- file is accepted and refused at once.
 use Rattle.std.proofs.Common.{◌≡◌, ℕ, ◌<◌, Bool, false, List, Option, Some, None, Result, Ok, IfSome, IsSome, refl, sym}
-use Rattle.std.proofs.Common.{◌∙◌, ap, subst}
+use Rattle.std.proofs.Common.{◌∙◌, ap, subst, []}
+use Rattle.std.specs.Prelude.{unwrap_or}
 use Rattle.std.proofs.lemmas.List.{ext_get_or}
 use Rattle.ra_base.specs.declared.causes.Cause.{Cause}
 use Rattle.ra_base.specs.declared.ids.Machine.{Machine}
@@ -19,11 +20,11 @@ use Rattle.ra_assign.specs.Lists.{assign_refusal, IsAssignmentOf}
 use Rattle.ra_assign.specs.ClosedLists.{closed_refusal, IsClosedOf}
 use Rattle.ra_assign.proofs.AssignLemmas.{assign_accepts}
 use Rattle.ra_assign.proofs.ClosedLemmas.{closed_accepts}
-use Rattle.ra_jobs.specs.Files.{Held, Names, ModelIs, CloseIs, InstanceIs, NamedListIs, Accepts}
+use Rattle.ra_jobs.specs.Files.{Held, Names, name_of, file_of, IsNamed, ModelIs, CloseIs, InstanceIs, NamedListIs}
+use Rattle.ra_jobs.specs.Files.{Accepts}
 use Rattle.ra_jobs.specs.declared.refusals.Role.{Role}
 use Rattle.ra_jobs.specs.declared.refusals.Role.TheVariants as role
-use Rattle.ra_jobs.specs.Refusals.{ModelRefused, ListRefused, ClosedRefused, InitialRefused, ChangedRefused}
-use Rattle.ra_jobs.specs.Refusals.{RoleRefused, InitialBreaks, ChangedBreaks}
+use Rattle.ra_jobs.specs.Refusals.{ModelRefused, ListRefused, ClosedRefused, RoleRefused, Breaks, RoleBreaks}
 use Rattle.ra_jobs.proofs.RowLemmas.{bare_raw, raw_same}
 use Rattle.ra_jobs.proofs.BareLemmas.{bare, bare_closed, machines_bare, closed_list_bare, assign_bare, broken_bare}
 
@@ -32,7 +33,7 @@ abbrev pub Told : Held → Option (List ℕ) → Type 0
 Told held named = (name : List ℕ) → named ≡ Some name → IsSome (held name)
 
 -- two things that are said of told bytes
-told_gives : (R : Type 0) (P Q : List ℕ → Type 0) (told : Option (List ℕ)) → IsSome told →
+pub told_gives : (R : Type 0) (P Q : List ℕ → Type 0) (told : Option (List ℕ)) → IsSome told →
     ((bytes : List ℕ) → P bytes → Q bytes → R) → IfSome told P → IfSome told Q → R
 told_gives R P Q None some gives p q = absurd (cc)
 told_gives R P Q (Some bytes) some gives p q = gives bytes p q
@@ -123,41 +124,43 @@ no_closed held name named model told fault refused i instance =
 
 -- the lists
 
-no_list : (held : Held) (named : Option (List ℕ)) → Told held named → (name : List ℕ) → named ≡ Some name →
-    (i j : Tables) → bare i ≡ bare j → (fault : AssignFault) → ListRefused held name i fault → (a : List Machine) →
+-- the list of a job in each role, and that of two assignments
+abbrev pub list_in : Names → Role → Option (List ℕ)
+list_in names role.Initial = names.initial
+list_in names role.Changed = names.changed
+
+abbrev pub of_role : Role → List Machine → List Machine → List Machine
+of_role role.Initial a0 a = a0
+of_role role.Changed a0 a = a
+
+pub accepted_list : (held : Held) (names : Names) (which : Role) (i : Tables) (a0 a : List Machine) →
+    Accepts held names i a0 a → NamedListIs held (list_in names which) i (of_role which a0 a)
+accepted_list held names role.Initial i a0 a accepts = accepts.initial
+accepted_list held names role.Changed i a0 a accepts = accepts.changed
+
+no_list : (held : Held) (named : Option (List ℕ)) → Told held named → IsSome named → (i j : Tables) → bare i ≡ bare j →
+    (fault : AssignFault) → ListRefused held (unwrap_or named []) i fault → (a : List Machine) →
     NamedListIs held named j a → ⊥
-no_list held named told name is i j same fault refused a list =
-    let read = subst (λ (o : Option (List ℕ)). NamedListIs held o j a) is list in
+no_list held None told some i j same fault refused a list = absurd (cc)
+no_list held (Some name) told some i j same fault refused a list =
     told_gives ⊥ (λ bytes. assign_refusal bytes i ≡ Some fault) (λ bytes. IsAssignmentOf bytes j a) (held name)
-    (told name is)
+    (told name refl)
     (λ bytes some assigned. refused_not _ fault (assign_same bytes i j same ∙ (assign_accepts bytes j).1 assigned.file)
-    some) refused.refused read
+    some) refused.refused list
 
-pub no_initial : (held : Held) (names : Names) → IsSome (held names.model) → Told held names.closed →
-    Told held names.initial → (fault : AssignFault) → InitialRefused held names fault →
-    (i : Tables) (a0 : List Machine) → InstanceIs held names.model names.closed i →
-    NamedListIs held names.initial i a0 → ⊥
-no_initial held names model closed initial fault refused i a0 instance list =
-    no_list held names.initial initial refused.name refused.named refused.tables i
-    (instances_same held names.model names.closed model closed refused.tables i refused.instance instance) fault
-    refused.refused a0 list
-
-pub no_changed : (held : Held) (names : Names) → IsSome (held names.model) → Told held names.closed →
-    Told held names.changed → (fault : AssignFault) → ChangedRefused held names fault →
-    (i : Tables) (a : List Machine) → InstanceIs held names.model names.closed i → NamedListIs held names.changed i a →
-    ⊥
-no_changed held names model closed changed fault refused i a instance list =
-    no_list held names.changed changed refused.name refused.named refused.tables i
+pub no_role : (held : Held) (names : Names) (which : Role) → IsSome (held names.model) → Told held names.closed →
+    Told held (list_in names which) → (fault : AssignFault) → RoleRefused held names which fault →
+    (i : Tables) (a : List Machine) → InstanceIs held names.model names.closed i →
+    NamedListIs held (list_in names which) i a → ⊥
+unfolding name_of
+no_role held names role.Initial model closed told fault refused i a instance list =
+    no_list held names.initial told refused.named refused.tables i
     (instances_same held names.model names.closed model closed refused.tables i refused.instance instance) fault
     refused.refused a list
-
-pub no_role : (held : Held) (names : Names) → IsSome (held names.model) → Told held names.closed →
-    Told held names.initial → Told held names.changed → (which : Role) (fault : AssignFault) →
-    RoleRefused held names which fault → (i : Tables) (a0 a : List Machine) → Accepts held names i a0 a → ⊥
-no_role held names model closed initial changed role.Initial fault refused i a0 a accepts =
-    no_initial held names model closed initial fault refused i a0 accepts.instance accepts.initial
-no_role held names model closed initial changed role.Changed fault refused i a0 a accepts =
-    no_changed held names model closed changed fault refused i a accepts.instance accepts.changed
+no_role held names role.Changed model closed told fault refused i a instance list =
+    no_list held names.changed told refused.named refused.tables i
+    (instances_same held names.model names.closed model closed refused.tables i refused.instance instance) fault
+    refused.refused a list
 
 pub lists_same : (held : Held) (named : Option (List ℕ)) → Told held named → IsSome named →
     (i j : Tables) (a b : List Machine) → NamedListIs held named i a → NamedListIs held named j b → a ≡ b
@@ -173,24 +176,26 @@ not_broken i j a0 b0 a b cause same first second broken feasible =
     let moved : first_broken i a0 a ≡ first_broken j b0 b = rw (first, second) (broken_same i j b0 b same) in
     refused_not _ cause (moved ∙ unbroken_from_feasible j b0 b feasible) broken
 
-pub no_initial_break : (held : Held) (names : Names) → IsSome (held names.model) → Told held names.closed →
-    Told held names.initial → (cause : Cause) → InitialBreaks held names cause → (i : Tables) (a0 a : List Machine) →
-    Accepts held names i a0 a → Feasible i a0 a0 → ⊥
-no_initial_break held names model closed initial cause breaks i a0 a accepts feasible =
-    let same = instances_same held names.model names.closed model closed breaks.tables i breaks.accepts.instance
-    accepts.instance in
-    let first = lists_same held names.initial initial breaks.named breaks.tables i breaks.a0 a0 breaks.accepts.initial
-    accepts.initial in
-    not_broken breaks.tables i breaks.a0 a0 breaks.a0 a0 cause same first first breaks.broken feasible
+first_breaks : (i : Tables) (a0 a : List Machine) (which : Role) (cause : Cause) → Breaks i a0 a which cause →
+    first_broken i a0 (of_role which a0 a) ≡ Some cause
+first_breaks i a0 a role.Initial cause breaks = breaks
+first_breaks i a0 a role.Changed cause breaks = breaks.1
 
-pub no_changed_break : (held : Held) (names : Names) → IsSome (held names.model) → Told held names.closed →
-    Told held names.initial → Told held names.changed → (cause : Cause) → ChangedBreaks held names cause →
-    (i : Tables) (a0 a : List Machine) → Accepts held names i a0 a → Feasible i a0 a → ⊥
-no_changed_break held names model closed initial changed cause breaks i a0 a accepts feasible =
-    let same = instances_same held names.model names.closed model closed breaks.tables i breaks.accepts.instance
+role_same : (held : Held) (names : Names) (which : Role) → Told held (list_in names which) →
+    IsNamed names (file_of which) → (i j : Tables) (a b : List Machine) → NamedListIs held (list_in names which) i a →
+    NamedListIs held (list_in names which) j b → a ≡ b
+role_same held names role.Initial = lists_same held names.initial
+role_same held names role.Changed = lists_same held names.changed
+
+pub no_break : (held : Held) (names : Names) (which : Role) → IsSome (held names.model) → Told held names.closed →
+    Told held names.initial → Told held (list_in names which) → (cause : Cause) → RoleBreaks held names which cause →
+    (i : Tables) (a0 a : List Machine) → Accepts held names i a0 a → Feasible i a0 (of_role which a0 a) → ⊥
+no_break held names which model closed initial told cause is i a0 a accepts feasible =
+    let same = instances_same held names.model names.closed model closed is.tables i is.accepts.instance
     accepts.instance in
-    let first = lists_same held names.initial initial breaks.start_named breaks.tables i breaks.a0 a0
-    breaks.accepts.initial accepts.initial in
-    let second = lists_same held names.changed changed breaks.named breaks.tables i breaks.a a breaks.accepts.changed
-    accepts.changed in
-    not_broken breaks.tables i breaks.a0 a0 breaks.a a cause same first second breaks.broken feasible
+    let first = lists_same held names.initial initial is.start_named is.tables i is.a0 a0 is.accepts.initial
+    accepts.initial in
+    let second = role_same held names which told is.named is.tables i _ _
+    (accepted_list held names which is.tables is.a0 is.a is.accepts) (accepted_list held names which i a0 a accepts) in
+    not_broken is.tables i is.a0 a0 (of_role which is.a0 is.a) (of_role which a0 a) cause same first second
+    (first_breaks is.tables is.a0 is.a which cause is.breaks) feasible

@@ -33,7 +33,7 @@ use Rattle.ra_jobs.specs.Comes.{KnownTo}
 use Rattle.ra_jobs.specs.Complete.{AreAccepted, NoFault}
 use Rattle.ra_jobs.specs.Commands.{These, over}
 use Rattle.ra_jobs.specs.Ends.{Does, Tries, Finishes, Leaves}
-use Rattle.ra_jobs.specs.Files.{Held, Faults, Names, name_of, Accepts, solve_names}
+use Rattle.ra_jobs.specs.Files.{Held, Faults, Names, EndsAt, Accepts}
 use Rattle.ra_jobs.specs.Lines.{refusal_line}
 use Rattle.ra_jobs.specs.Refusals.{Reason, CanTell}
 use Rattle.ra_jobs.specs.Output.{Output, BrokeOff, Put}
@@ -41,12 +41,12 @@ use Rattle.ra_jobs.specs.Repairing.{IsTried, RepairPrinted, RepairOwn, LeavesBro
 use Rattle.ra_jobs.specs.Stages.{IsStart}
 use Rattle.ra_jobs.specs.Statuses.{status_of}
 use Rattle.ra_jobs.proofs.CompleteLemmas.{is_done, complete_own, OwnRefused}
-use Rattle.ra_jobs.proofs.ComesLemmas.{Listed as AreListed, told_of}
+use Rattle.ra_jobs.proofs.ComesLemmas.{Listed as AreListed, known_model, own_known, told_closed, told_role}
 use Rattle.ra_jobs.proofs.EndLemmas.{Ends, EndsOver, finished, left_so}
 use Rattle.ra_jobs.proofs.DoesLemmas.{does_so, does_more, memory_refused}
 use Rattle.ra_jobs.proofs.AlikeLemmas.{repaired_same}
 use Rattle.ra_jobs.proofs.StageLemmas.{reason_more}
-use Rattle.ra_jobs.proofs.MeaningLemmas.{broken_same, no_model, no_closed, no_initial, instances_same, lists_same}
+use Rattle.ra_jobs.proofs.MeaningLemmas.{broken_same, instances_same, lists_same}
 
 -- the tries
 
@@ -81,7 +81,7 @@ tried i a0 lot r broken sent limits repaired instance initial of_lot fits is fea
       text = rw (instance, initial, sym is, last, all) at text;
     }
 
--- the same of what a run of tries gives, and of the constraint that was found in its last list
+-- what a run of tries gives, and the constraint that was found in its last list
 pub run_tried : (inst : Instance) (start a : Listed Machine) (lot : Lot) (r : Repair) (found broken : Option Cause)
     (sent : List ℕ → Type 0) → IsRepaired r → r.inst.now ≡ inst → r.start.now ≡ start → r.lot.now ≡ lot →
     a ≡ r.kept.assignment → found ≡ first_broken inst.tables start.items a.items →
@@ -176,38 +176,6 @@ complete_repair {held} {names} {before} {now} {l} {prints} {breaks} {printed} {t
     other))
     (complete_own ends valid sound)
 
--- over known files that are accepted, a refusal is one of the job's own, or of memory
-own_known : (held : Held) (model : List ℕ) (closed : Option (List ℕ)) (initial : List ℕ) (before now : Faults)
-    (own : Refusal → Type 0) → KnownTo held (solve_names model initial closed) before now file.Initial →
-    (i : Tables) (a0 : List Machine) → Accepts held (solve_names model initial closed) i a0 a0 → (refusal : Refusal) →
-    Reason held (solve_names model initial closed) before now own refusal → own refusal ⊎ (status_of refusal ≡ NoMemory)
-unfolding status_of name_of
-own_known held model closed initial before now own known i a0 accepts (Read file.Model) reason =
-    absurd ((known file.Model refl tt).1 reason.rose)
-own_known held model closed initial before now own known i a0 accepts (Read file.Closed) reason =
-    absurd ((known file.Closed refl reason.named).1 reason.rose)
-own_known held model closed initial before now own known i a0 accepts (Read file.Initial) reason =
-    absurd ((known file.Initial refl reason.named).1 reason.rose)
-own_known held model closed initial before now own known i a0 accepts (Read file.Changed) reason =
-    absurd (let none = reason.named in cc)
-own_known held model closed initial before now own known i a0 accepts (Read file.Report) reason =
-    absurd (let none = reason.named in cc)
-own_known held model closed initial before now own known i a0 accepts (Read file.Edits) reason =
-    absurd (let none = reason.named in cc)
-own_known held model closed initial before now own known i a0 accepts (Model fault) reason =
-    absurd (no_model held model (known file.Model refl tt).0 fault reason accepts.instance.model accepts.instance.read)
-own_known held model closed initial before now own known i a0 accepts (Closed fault) reason =
-    absurd (no_closed held model closed (known file.Model refl tt).0 (told_of held closed _ (known file.Closed refl))
-    fault reason i accepts.instance)
-own_known held model closed initial before now own known i a0 accepts (Assign role.Initial fault) reason =
-    absurd (no_initial held (solve_names model initial closed) (known file.Model refl tt).0
-    (told_of held closed _ (known file.Closed refl))
-    (told_of held (Some initial) _ (known file.Initial refl)) fault reason i a0 accepts.instance accepts.initial)
-own_known held model closed initial before now own known i a0 accepts (Assign role.Changed fault) reason =
-    absurd (let none = reason.named in cc)
-own_known held model closed initial before now own known i a0 accepts Memory reason = inr refl
-own_known held model closed initial before now own known i a0 accepts refusal reason = inl reason
-
 -- with the causes of its own statuses
 
 said : (held : Held) (names : Names) (l : Lots) (broken : Option Cause) (sent : List ℕ → Type 0) →
@@ -222,19 +190,16 @@ said held names l broken sent is = record {
 }
 
 -- what a run leaves broken is what a run from each instance that the files mean leaves
-broken_left : (held : Held) (model : List ℕ) (closed : Option (List ℕ)) (initial : List ℕ) (before now : Faults)
-    (l : Lots) (left broken : Option Cause) (sent : List ℕ → Type 0) (i : Tables) (a0 : List Machine) →
-    Accepts held (solve_names model initial closed) i a0 a0 →
-    KnownTo held (solve_names model initial closed) before now file.Initial →
-    RepairPrinted held (solve_names model initial closed) l broken sent → LeavesBroken i a0 l left → broken ≡ left
-unfolding name_of
-broken_left held model closed initial before now l left broken sent i a0 accepts known is leaves =
-    let same = instances_same held model closed (known file.Model refl tt).0
-    (told_of held closed _ (known file.Closed refl)) is.tables i
-    is.accepts.instance accepts.instance in
-    let start : is.a0 ≡ a0 = lists_same held (Some initial) (told_of held (Some initial) _ (known file.Initial refl))
-    refl is.tables i
-    is.a0 a0 is.accepts.initial accepts.initial in
+broken_left : (held : Held) (names : Names) (before now : Faults) (l : Lots) (left broken : Option Cause)
+    (sent : List ℕ → Type 0) (i : Tables) (a0 : List Machine) → IsSome names.initial → Accepts held names i a0 a0 →
+    KnownTo held names before now file.Initial → RepairPrinted held names l broken sent → LeavesBroken i a0 l left →
+    broken ≡ left
+broken_left held names before now l left broken sent i a0 initial accepts known is leaves =
+    let same = instances_same held names.model names.closed (known_model held names before now file.Initial known)
+    (told_closed held names before now file.Initial refl known) is.tables i is.accepts.instance accepts.instance in
+    let start : is.a0 ≡ a0 = lists_same held names.initial
+    (told_role held names before now role.Initial file.Initial refl known) initial is.tables i is.a0 a0
+    is.accepts.initial accepts.initial in
     sym is.run.is ∙ broken_same is.tables i is.a0 (repair_run is.tables is.a0 is.lot).assignment same
     ∙ rw (repaired_same is.tables i same is.a0 is.lot, start) (leaves is.lot is.one)
 
@@ -275,15 +240,13 @@ own_ends held names l prints breaks status refusal is reason = ⊎_elim
     (λ (memory : status_of refusal ≡ NoMemory). inr (inr (is ∙ memory)))
     reason
 
-pub repair_comes : {held : Held} {model : List ℕ} {closed : Option (List ℕ)} {initial : List ℕ} {before now : Faults}
-    {l : Lots} {prints breaks : List ℕ → Type 0} {tells : List ℕ → Type 0} {out_same err_same : Type 0}
-    {status : Status} → Ends held (solve_names model initial closed) before now
-    (RepairPrinted held (solve_names model initial closed) l None prints)
-    (RepairOwn held (solve_names model initial closed) l prints breaks) tells out_same err_same status →
-    RepairComes held (solve_names model initial closed) (λ k. k ≡ l) before now status
-repair_comes {held} {model} {closed} {initial} {before} {now} {l} {prints} {breaks} {tells} {out_same} {err_same}
-    {status} ends =
-    let names = solve_names model initial closed in
+pub repair_comes : {held : Held} {names : Names} {before now : Faults} {l : Lots} {prints breaks : List ℕ → Type 0}
+    {tells : List ℕ → Type 0} {out_same err_same : Type 0} {status : Status} → IsSome names.initial →
+    EndsAt names file.Initial →
+    Ends held names before now (RepairPrinted held names l None prints) (RepairOwn held names l prints breaks) tells
+    out_same err_same status → RepairComes held names (λ k. k ≡ l) before now status
+repair_comes {held} {names} {before} {now} {l} {prints} {breaks} {tells} {out_same} {err_same} {status} initial last
+    ends =
     let own = RepairOwn held names l prints breaks in
     record {
       never_infeasible =
@@ -299,16 +262,16 @@ repair_comes {held} {model} {closed} {initial} {before} {now} {l} {prints} {brea
           );
       stays = λ i a0 accepts known cause leaves. ⊎_elim
           (λ (done : status ≡ Done).
-          absurd (let both = broken_left held model closed initial before now l (Some cause) None prints i a0
-          accepts known (ends.printed done) (leaves l refl) in cc))
+          absurd (let both = broken_left held names before now l (Some cause) None prints i a0
+          initial accepts known (ends.printed done) (leaves l refl) in cc))
           (λ (other : status ≢ Done).
           let refused = ends.refused other in
           ⊎_elim
           (λ (left : (c : Cause) × RepairPrinted held names l (Some c) prints × (status ≡ Unrepaired)). inl left.2)
           (λ (rest : (status ≡ WriteFault) ⊎ (status ≡ NoMemory)). inr rest)
           (own_ends held names l prints breaks status refused.refusal refused.is
-          (own_known held model closed initial before now own known i a0 accepts refused.refusal
-          refused.reason)))
+          (own_known held names before now own file.Initial known (λ f named _. last f named)
+          (record { tables = i; a0 = a0; a = a0; accepts = accepts }) refused.refusal refused.reason)))
           (is_done status);
       is_repaired = λ i a0 accepts known leaves. ⊎_elim
           (λ (done : status ≡ Done). inl done)
@@ -316,12 +279,12 @@ repair_comes {held} {model} {closed} {initial} {before} {now} {l} {prints} {brea
           let refused = ends.refused other in
           ⊎_elim
           (λ (left : (c : Cause) × RepairPrinted held names l (Some c) prints × (status ≡ Unrepaired)).
-          absurd (let both = broken_left held model closed initial before now l None (Some left.0) prints i a0
-          accepts known left.1 (leaves l refl) in cc))
+          absurd (let both = broken_left held names before now l None (Some left.0) prints i a0
+          initial accepts known left.1 (leaves l refl) in cc))
           (λ (rest : (status ≡ WriteFault) ⊎ (status ≡ NoMemory)). inr rest)
           (own_ends held names l prints breaks status refused.refusal refused.is
-          (own_known held model closed initial before now own known i a0 accepts refused.refusal
-          refused.reason)))
+          (own_known held names before now own file.Initial known (λ f named _. last f named)
+          (record { tables = i; a0 = a0; a = a0; accepts = accepts }) refused.refusal refused.reason)))
           (is_done status);
     }
 
@@ -330,14 +293,12 @@ pub of_these : {P : Lots → Type 0} (l : Lots) → (k : Lots) × (k ≡ l) × P
 of_these {P} l some = subst P some.1 some.2
 
 -- what the command of these lots does
-pub repair_so : (model : List ℕ) (closed : Option (List ℕ)) (initial : List ℕ) (l : Lots) (files : Reading)
+pub repair_so : (names : Names) (l : Lots) → IsSome names.initial → EndsAt names file.Initial → (files : Reading)
     (out err : Output) (ended : Result (Unit {0}) Refusal) (status : Status) →
-    Tries (over (repaired (solve_names model initial closed) (These l))) files out ended →
-    Finishes (solve_names model initial closed) ended err status →
-    Does (over (repaired (solve_names model initial closed) (These l))) files out err status
-repair_so model closed initial l files out err ended status tries finishes =
+    Tries (over (repaired names (These l))) files out ended → Finishes names ended err status →
+    Does (over (repaired names (These l))) files out err status
+repair_so names l initial last files out err ended status tries finishes =
     let held = files.held in
-    let names = solve_names model initial closed in
     let c = repaired names (These l) in
     let prints : List ℕ → Type 0 = Took out.sink in
     let breaks : List ℕ → Type 0 = BrokeOff out.sink in
@@ -360,7 +321,7 @@ repair_so model closed initial l files out err ended status tries finishes =
     does_so c files out err status ends
     (λ p. tried_listed held names p.0 None prints p.2)
     (λ r p. own_listed held names p.0 prints breaks r p.2)
-    (repair_comes exact)
+    (repair_comes initial last exact)
     (λ valid sound wrote. complete_repair exact valid sound (λ text broken. wrote broken.1))
     (left_so c files out err ended status tries finishes)
 

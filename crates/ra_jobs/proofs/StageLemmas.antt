@@ -1,10 +1,12 @@
 -- Why the stages of a job refuse, from what the readers answer.
-use Rattle.std.proofs.Common.{◌≡◌, ℕ, ◌<◌, ◌≤◌, ◌-◌, ◌^◌, List, Option, Some, None, IfSome, IsSome, refl, sym, subst}
-use Rattle.std.proofs.Common.{inl, inr, ⊎_elim, arith, ◌∙◌, le_trans}
-use Rattle.std.specs.Prelude.{IsTrue}
+use Rattle.std.proofs.Common.{◌≡◌, ℕ, ◌<◌, ◌≤◌, ◌-◌, ◌^◌, List, [], Option, Some, None, IfSome, IsSome, refl, sym}
+use Rattle.std.proofs.Common.{subst, inl, inr, ⊎_elim, arith, ◌∙◌, le_trans}
+use Rattle.std.specs.Prelude.{IsTrue, unwrap_or}
+use Rattle.ra_base.specs.declared.causes.Cause.{Cause}
 use Rattle.ra_base.specs.declared.costs.Parts.{Parts}
 use Rattle.ra_base.specs.declared.ids.Machine.{Machine}
 use Rattle.ra_bounds.specs.declared.costs.Bound.{Bound}
+use Rattle.ra_bounds.specs.PinnedBounds.{pinned_bound_of}
 use Rattle.ra_io.specs.Faults.{Rose}
 use Rattle.ra_io.specs.Outside.{LeavesFiles}
 use Rattle.ra_model.specs.declared.raw.Tables.{Tables}
@@ -23,13 +25,15 @@ use Rattle.ra_jobs.specs.declared.refusals.Refusal.{Refusal}
 use Rattle.ra_jobs.specs.declared.refusals.Refusal.TheVariants.{Read, Model, Closed, Assign, Broken, Write, Memory}
 use Rattle.ra_jobs.specs.declared.refusals.Role.{Role}
 use Rattle.ra_jobs.specs.declared.refusals.Role.TheVariants as role
-use Rattle.ra_jobs.specs.Files.{Held, Faults, Names, name_of, check_names, solve_names, bound_names, ModelIs}
-use Rattle.ra_jobs.specs.Files.{InstanceIs, Accepts}
+use Rattle.ra_jobs.specs.Files.{Held, Faults, Names, name_of, file_of, IsNamed, ModelIs, InstanceIs, ListIs}
+use Rattle.ra_jobs.specs.Files.{NamedListIs, Accepts, bound_names}
 use Rattle.ra_jobs.specs.Outputs.{CheckPrinted, BoundIs, BoundRead}
-use Rattle.ra_jobs.specs.Refusals.{Reason, Judges, OnlyWrites, Nothing, CanTell, ReadFailed, RoleRefused}
-use Rattle.ra_jobs.specs.Stages.{model_as, closed_as, list_as, ClosedReason, SourceReason, NamedReason}
-use Rattle.ra_jobs.specs.Stages.{ListReason, ListsReason, JudgeReason, StartReason, IsClosing, IsList, IsStart}
-use Rattle.ra_jobs.specs.Stages.{ReadsLists, Passed, Judged}
+use Rattle.ra_jobs.specs.Refusals.{Reason, Judges, OnlyWrites, Nothing, CanTell, ReadBefore, ReadFailed, RoleRefused}
+use Rattle.ra_jobs.specs.Refusals.{Breaks, RoleBreaks}
+use Rattle.ra_jobs.specs.Stages.{model_as, closed_as, list_as, ClosedReason, SourceReason, ListReason, ListsReason}
+use Rattle.ra_jobs.specs.Stages.{JudgeReason, StartReason, IsClosing, IsList, IsStart, ReadsLists, Passed, Judged}
+use Rattle.ra_jobs.proofs.ComesLemmas.{list_none}
+use Rattle.ra_jobs.proofs.MeaningLemmas.{list_in}
 
 -- what two calls leave of files, one after the other
 pub leaves_both : {held mid last : Held} {before then now : Faults} →
@@ -126,6 +130,12 @@ instance_closed held later name closed list model i same named read closing = re
   closed = rw named (closing.0, closing.1, rw (sym (same list)) closing.2);
 }
 
+-- it has no list
+no_role_in : (name : List ℕ) (closed : Option (List ℕ)) (which : Role) →
+    IsNamed (bound_names name None closed) (file_of which) → ⊥
+no_role_in name closed role.Initial named = cc
+no_role_in name closed role.Changed named = cc
+
 -- what was refused before the closed list was read
 pub source_model : (held : Held) (name : List ℕ) (closed : Option (List ℕ)) (before now : Faults) (refusal : Refusal) →
     SourceReason held name None before now refusal → SourceReason held name closed before now refusal
@@ -139,8 +149,8 @@ source_model held name closed before now (Read file.Report) reason = absurd (let
 source_model held name closed before now (Read file.Edits) reason = absurd (let none = reason.named in cc)
 source_model held name closed before now (Model fault) reason = reason
 source_model held name closed before now (Closed fault) reason = absurd (let none = reason.named in cc)
-source_model held name closed before now (Assign role.Initial fault) reason = absurd (let none = reason.named in cc)
-source_model held name closed before now (Assign role.Changed fault) reason = absurd (let none = reason.named in cc)
+source_model held name closed before now (Assign which fault) reason =
+    absurd (no_role_in name None which reason.named)
 source_model held name closed before now Memory reason = tt
 source_model held name closed before now refusal reason = absurd reason
 
@@ -182,135 +192,168 @@ reason_source held names before now own (Read file.Report) reason = absurd (let 
 reason_source held names before now own (Read file.Edits) reason = absurd (let none = reason.named in cc)
 reason_source held names before now own (Model fault) reason = reason
 reason_source held names before now own (Closed fault) reason = reason
-reason_source held names before now own (Assign role.Initial fault) reason = absurd (let none = reason.named in cc)
-reason_source held names before now own (Assign role.Changed fault) reason = absurd (let none = reason.named in cc)
+reason_source held names before now own (Assign which fault) reason =
+    absurd (no_role_in names.model names.closed which reason.named)
 reason_source held names before now own Memory reason = tt
 reason_source held names before now own refusal reason = absurd reason
 
--- the initial list
+-- the lists
 
-pub reason_initial : (held later : Held) (model : List ℕ) (closed : Option (List ℕ)) (initial : List ℕ) (i : Tables)
+-- what was done before a list of a job is read
+list_earlier : (held : Held) (names : Names) (which : Role) (i : Tables) (a0 : List Machine) →
+    InstanceIs held names.model names.closed i → (which ≡ role.Changed → NamedListIs held names.initial i a0) →
+    ReadBefore held names (file_of which)
+list_earlier held names role.Initial i a0 instance earlier = (i, instance)
+list_earlier held names role.Changed i a0 instance earlier = (i, a0, instance, earlier refl)
+
+pub reason_list : (held later : Held) (names : Names) (which : Role) (i : Tables) (a0 : List Machine)
     (first before now : Faults) (own : Refusal → Type 0) → ((other : List ℕ) → later other ≡ held other) →
-    ((other : List ℕ) → first other ≤ before other) → InstanceIs held model closed i → (refusal : Refusal) →
-    ListReason role.Initial later initial i before now refusal →
-    Reason held (solve_names model initial closed) first now own refusal
-unfolding name_of
-reason_initial held later model closed initial i first before now own same never_fell instance (Read f) reason =
-    subst (ReadFailed held (solve_names model initial closed) first now) (sym reason.0) (record {
-      earlier = (i, instance);
-      named = refl;
-      rose = rose_later (first initial) (before initial) (now initial) (never_fell initial) reason.1;
+    ((other : List ℕ) → first other ≤ before other) → IsNamed names (file_of which) →
+    InstanceIs held names.model names.closed i → (which ≡ role.Changed → NamedListIs held names.initial i a0) →
+    (refusal : Refusal) → ListReason which later (name_of names (file_of which)) i before now refusal →
+    Reason held names first now own refusal
+reason_list held later names which i a0 first before now own same never_fell named instance earlier (Read f) reason =
+    subst (ReadFailed held names first now) (sym reason.0) (record {
+      earlier = list_earlier held names which i a0 instance earlier;
+      named = named;
+      rose = rose_later _ _ _ (never_fell (name_of names (file_of which))) reason.1;
     })
-reason_initial held later model closed initial i first before now own same never_fell instance (Assign which fault)
-    reason = subst (λ (w : Role). RoleRefused held (solve_names model initial closed) w fault) (sym reason.0) (record {
+reason_list held later names which i a0 first before now own same never_fell named instance earlier (Assign one fault)
+    reason = subst (λ (w : Role). RoleRefused held names w fault) (sym reason.0) (record {
       tables = i;
+      a0 = a0;
       instance = instance;
-      name = initial;
-      named = refl;
-      refused = record { in_file = reason.1.in_file; refused = rw (sym (same initial)) reason.1.refused };
+      earlier = earlier;
+      named = named;
+      refused = record {
+        in_file = reason.1.in_file;
+        refused = rw (sym (same (name_of names (file_of which)))) reason.1.refused;
+      };
     })
-reason_initial held later model closed initial i first before now own same never_fell instance Memory reason = tt
-reason_initial held later model closed initial i first before now own same never_fell instance refusal reason =
+reason_list held later names which i a0 first before now own same never_fell named instance earlier Memory reason = tt
+reason_list held later names which i a0 first before now own same never_fell named instance earlier refusal reason =
     absurd reason
+
+-- a list that was read, in the words of the files
+named_list : (held later : Held) (named : Option (List ℕ)) (i : Tables) (a : List Machine) →
+    ((other : List ℕ) → later other ≡ held other) → IsSome named → ListIs later (unwrap_or named []) i a →
+    NamedListIs held named i a
+named_list held later None i a same some is = absurd (cc)
+named_list held later (Some name) i a same some is = rw (sym (same name)) is
+
+pub list_read : (held later : Held) (names : Names) (which : Role) (i : Tables) (a : List Machine) →
+    ((other : List ℕ) → later other ≡ held other) → IsNamed names (file_of which) →
+    ListIs later (name_of names (file_of which)) i a → NamedListIs held (list_in names which) i a
+unfolding name_of
+list_read held later names role.Initial i a same named is = named_list held later names.initial i a same named is
+list_read held later names role.Changed i a same named is = named_list held later names.changed i a same named is
+
+-- what is said of what the files hold later is so of what they hold now
+pub list_now : (held later : Held) (name : List ℕ) (i : Tables) (a : List Machine) →
+    ((other : List ℕ) → later other ≡ held other) → IsList later name i a → IsList held name i a
+list_now held later name i a same list = (rw (sym (same name)) list.0, list.1)
+
+pub list_later : (which : Role) (held later : Held) (name : List ℕ) (i : Tables) (first before now : Faults) →
+    ((other : List ℕ) → later other ≡ held other) → ((other : List ℕ) → first other ≤ before other) →
+    (refusal : Refusal) → ListReason which later name i before now refusal →
+    ListReason which held name i first now refusal
+list_later which held later name i first before now same never_fell (Read f) reason =
+    (reason.0, rose_later _ _ _ (never_fell name) reason.1)
+list_later which held later name i first before now same never_fell (Assign one fault) reason = (
+  reason.0,
+  record { in_file = reason.1.in_file; refused = rw (sym (same name)) reason.1.refused },
+)
+list_later which held later name i first before now same never_fell Memory reason = tt
+list_later which held later name i first before now same never_fell refusal reason = absurd reason
 
 -- the bound of the files
 
-pub reason_named : (held later : Held) (model : List ℕ) (closed initial : Option (List ℕ)) (i : Tables)
-    (first before now : Faults) (own : Refusal → Type 0) → ((other : List ℕ) → later other ≡ held other) →
-    ((other : List ℕ) → first other ≤ before other) → InstanceIs held model closed i → (refusal : Refusal) →
-    NamedReason later initial i before now refusal →
-    Reason held (bound_names model initial closed) first now own refusal
-reason_named held later model closed None i first before now own same never_fell instance refusal reason = absurd reason
-reason_named held later model closed (Some initial) i first before now own same never_fell instance refusal reason =
-    reason_initial held later model closed initial i first before now own same never_fell instance refusal reason
+bound_same : (held later : Held) (named : Option (List ℕ)) (i : Tables) (bound : Bound) →
+    ((other : List ℕ) → later other ≡ held other) → BoundIs later named i bound → BoundIs held named i bound
+bound_same held later None i bound same is = is
+bound_same held later (Some name) i bound same is = (is.0, rw (sym (same name)) is.1, is.2, is.3)
 
-pub bound_read : (held later : Held) (model : List ℕ) (closed initial : Option (List ℕ)) (i : Tables) (bound : Bound) →
-    ((other : List ℕ) → later other ≡ held other) → InstanceIs held model closed i → BoundIs later initial i bound →
-    BoundRead held (bound_names model initial closed) bound
-bound_read held later model closed None i bound same instance is = record { tables = i; instance = instance; is = is }
-bound_read held later model closed (Some initial) i bound same instance is = record {
+pub bound_read : (held later : Held) (names : Names) (i : Tables) (bound : Bound) →
+    ((other : List ℕ) → later other ≡ held other) → InstanceIs held names.model names.closed i →
+    BoundIs later names.initial i bound → BoundRead held names bound
+bound_read held later names i bound same instance is = record {
   tables = i;
   instance = instance;
-  is = (is.0, rw (sym (same initial)) is.1, is.2, is.3);
+  is = bound_same held later names.initial i bound same is;
 }
+
+pub bound_is : (held : Held) (named : Option (List ℕ)) (i : Tables) (a0 : List Machine) (bound : Bound) → IsSome named →
+    IsList held (unwrap_or named []) i a0 → bound ≡ pinned_bound_of i a0 → BoundIs held named i bound
+bound_is held None i a0 bound some list is = absurd (cc)
+bound_is held (Some name) i a0 bound some list is = (a0, list.0, list.1, is)
 
 -- the lists of a check
 
-pub reason_lists : (held later : Held) (model : List ℕ) (closed : Option (List ℕ)) (initial changed : List ℕ)
-    (i : Tables) (first before now : Faults) (own : Refusal → Type 0) → ((other : List ℕ) → later other ≡ held other) →
-    ((other : List ℕ) → first other ≤ before other) → InstanceIs held model closed i → (refusal : Refusal) →
-    ListsReason later initial changed i before now refusal →
-    Reason held (check_names model initial changed closed) first now own refusal
-unfolding name_of
-reason_lists held later model closed initial changed i first before now own same never_fell instance (Read file.Initial)
-    reason = record {
-      earlier = (i, instance);
-      named = refl;
-      rose = rose_later (first initial) (before initial) (now initial) (never_fell initial) reason;
-    }
-reason_lists held later model closed initial changed i first before now own same never_fell instance (Read file.Changed)
-    reason = record {
-      earlier = (i, reason.0, instance, rw (sym (same initial)) reason.1);
-      named = refl;
-      rose = rose_later (first changed) (before changed) (now changed) (never_fell changed) reason.2;
-    }
-reason_lists held later model closed initial changed i first before now own same never_fell instance
-    (Assign role.Initial fault) reason = record {
-      tables = i;
-      instance = instance;
-      name = initial;
-      named = refl;
-      refused = record { in_file = reason.in_file; refused = rw (sym (same initial)) reason.refused };
-    }
-reason_lists held later model closed initial changed i first before now own same never_fell instance
-    (Assign role.Changed fault) reason = record {
-      tables = i;
-      a0 = reason.0;
-      instance = instance;
-      initial = rw (sym (same initial)) reason.1;
-      name = changed;
-      named = refl;
-      refused = record { in_file = reason.2.in_file; refused = rw (sym (same changed)) reason.2.refused };
-    }
-reason_lists held later model closed initial changed i first before now own same never_fell instance Memory reason = tt
-reason_lists held later model closed initial changed i first before now own same never_fell instance refusal reason =
-    absurd reason
+pub reason_lists : (held later : Held) (names : Names) (i : Tables) (first before now : Faults)
+    (own : Refusal → Type 0) → ((other : List ℕ) → later other ≡ held other) →
+    ((other : List ℕ) → first other ≤ before other) → IsNamed names file.Initial → IsNamed names file.Changed →
+    InstanceIs held names.model names.closed i → (refusal : Refusal) → ListsReason later names i before now refusal →
+    Reason held names first now own refusal
+reason_lists held later names i first before now own same never_fell initial changed instance refusal reason = ⊎_elim
+    (λ (one : ListReason role.Initial later (name_of names file.Initial) i before now refusal).
+    reason_list held later names role.Initial i [] first before now own same never_fell initial instance
+    (λ e. absurd (cc)) refusal one)
+    (λ (two : (a0 : List Machine) × ListIs later (name_of names file.Initial) i a0
+    × ListReason role.Changed later (name_of names file.Changed) i before now refusal).
+    reason_list held later names role.Changed i two.0 first before now own same never_fell changed instance
+    (λ _. list_read held later names role.Initial i two.0 same initial two.1) refusal two.2)
+    reason
+
+-- the lists of both roles are named
+both_named : (names : Names) → IsNamed names file.Initial → IsNamed names file.Changed → (which : Role) →
+    IsNamed names (file_of which)
+both_named names initial changed role.Initial = initial
+both_named names initial changed role.Changed = changed
+
+pub breaks_role : (held : Held) (names : Names) (i : Tables) (a0 a : List Machine) → IsNamed names file.Initial →
+    IsNamed names file.Changed → Accepts held names i a0 a → (which : Role) (cause : Cause) →
+    Breaks i a0 a which cause → RoleBreaks held names which cause
+breaks_role held names i a0 a initial changed accepts which cause breaks = record {
+  tables = i;
+  a0 = a0;
+  a = a;
+  start_named = initial;
+  named = both_named names initial changed which;
+  accepts = accepts;
+  breaks = breaks;
+}
+
+pub breaks_start : (held : Held) (names : Names) (i : Tables) (a0 : List Machine) → IsNamed names file.Initial →
+    Accepts held names i a0 a0 → (cause : Cause) → Breaks i a0 a0 role.Initial cause →
+    RoleBreaks held names role.Initial cause
+breaks_start held names i a0 initial accepts cause breaks = record {
+  tables = i;
+  a0 = a0;
+  a = a0;
+  start_named = initial;
+  named = initial;
+  accepts = accepts;
+  breaks = breaks;
+}
 
 pub reason_judge : (held : Held) (names : Names) (i : Tables) (a0 a : List Machine) (first now : Faults)
-    (written : Type 0) → IsSome names.initial → IsSome names.changed → Accepts held names i a0 a → (refusal : Refusal) →
-    JudgeReason i a0 a refusal → Reason held names first now (Judges held names written) refusal
-reason_judge held names i a0 a first now written has_initial has_changed accepts (Broken role.Initial cause) reason =
-    record {
-      tables = i;
-      a0 = a0;
-      a = a;
-      named = has_initial;
-      accepts = accepts;
-      broken = reason;
-    }
-reason_judge held names i a0 a first now written has_initial has_changed accepts (Broken role.Changed cause) reason =
-    record {
-      tables = i;
-      a0 = a0;
-      a = a;
-      start_named = has_initial;
-      named = has_changed;
-      accepts = accepts;
-      initial = reason.0;
-      broken = reason.1;
-    }
-reason_judge held names i a0 a first now written has_initial has_changed accepts Memory reason = tt
-reason_judge held names i a0 a first now written has_initial has_changed accepts refusal reason = absurd reason
+    (written : Type 0) → IsNamed names file.Initial → IsNamed names file.Changed → Accepts held names i a0 a →
+    (refusal : Refusal) → JudgeReason i a0 a written refusal →
+    Reason held names first now (Judges held names written) refusal
+reason_judge held names i a0 a first now written initial changed accepts (Broken which cause) reason =
+    breaks_role held names i a0 a initial changed accepts which cause reason
+reason_judge held names i a0 a first now written initial changed accepts Write reason = reason
+reason_judge held names i a0 a first now written initial changed accepts Memory reason = tt
+reason_judge held names i a0 a first now written initial changed accepts refusal reason = absurd reason
 
 -- all files of a check were accepted
-pub accepts_all : (held later : Held) (model : List ℕ) (closed : Option (List ℕ)) (initial changed : List ℕ)
-    (i : Tables) (a0 a : List Machine) → ((other : List ℕ) → later other ≡ held other) →
-    InstanceIs held model closed i → ReadsLists later initial changed i a0 a →
-    Accepts held (check_names model initial changed closed) i a0 a
-accepts_all held later model closed initial changed i a0 a same instance lists = record {
+pub accepts_all : (held later : Held) (names : Names) (i : Tables) (a0 a : List Machine) →
+    ((other : List ℕ) → later other ≡ held other) → IsNamed names file.Initial → IsNamed names file.Changed →
+    InstanceIs held names.model names.closed i → ReadsLists later names i a0 a → Accepts held names i a0 a
+accepts_all held later names i a0 a same initial changed instance lists = record {
   instance = instance;
-  initial = rw (sym (same initial)) lists.initial;
-  changed = rw (sym (same changed)) lists.changed;
+  initial = list_read held later names role.Initial i a0 same initial lists.initial.0;
+  changed = list_read held later names role.Changed i a same changed lists.changed.0;
 }
 
 pub passed_all : (held : Held) (names : Names) (i : Tables) (a0 a : List Machine) (parts : Parts) →
@@ -337,20 +380,32 @@ printed held names parts sent passed text = record {
 -- the initial list of a run
 
 -- the instance and the initial list were read
-pub starts : (held later : Held) (model : List ℕ) (closed : Option (List ℕ)) (initial : List ℕ) (i : Tables)
-    (a0 : List Machine) → ((other : List ℕ) → later other ≡ held other) → InstanceIs held model closed i →
-    IsList later initial i a0 → IsStart held (solve_names model initial closed) i a0
-starts held later model closed initial i a0 same instance list = record {
-  accepts = record { instance = instance; initial = rw (sym (same initial)) list.0; changed = tt };
+pub starts : (held later : Held) (names : Names) (i : Tables) (a0 : List Machine) →
+    ((other : List ℕ) → later other ≡ held other) → IsNamed names file.Initial →
+    (IsNamed names file.Changed → ⊥) → InstanceIs held names.model names.closed i →
+    IsList later (name_of names file.Initial) i a0 → IsStart held names i a0
+starts held later names i a0 same initial alone instance list = record {
+  accepts = record {
+    instance = instance;
+    initial = list_read held later names role.Initial i a0 same initial list.0;
+    changed = list_none held names.changed i a0 alone;
+  };
   fits = list.1;
 }
 
 -- the reason of the initial list is one of both
-pub judge_start_reason : (i : Tables) (a0 a : List Machine) (refusal : Refusal) → StartReason i a0 refusal →
-    JudgeReason i a0 a refusal
-judge_start_reason i a0 a (Broken role.Initial cause) reason = reason
-judge_start_reason i a0 a Memory reason = tt
-judge_start_reason i a0 a refusal reason = absurd reason
+pub judge_start_reason : (i : Tables) (a0 a : List Machine) (written : Type 0) (refusal : Refusal) →
+    StartReason i a0 written refusal → JudgeReason i a0 a written refusal
+judge_start_reason i a0 a written (Broken role.Initial cause) reason = reason
+judge_start_reason i a0 a written (Broken role.Changed cause) reason = absurd reason
+judge_start_reason i a0 a written refusal reason = reason
+
+-- and if more is said of what was written
+pub judge_more : (i : Tables) (a0 a : List Machine) (written more : Type 0) → (written → more) → (refusal : Refusal) →
+    JudgeReason i a0 a written refusal → JudgeReason i a0 a more refusal
+judge_more i a0 a written more step (Broken which cause) reason = reason
+judge_more i a0 a written more step Write reason = step reason
+judge_more i a0 a written more step refusal reason = reason
 
 -- the reason of a refusal, if more is said of the job's own
 
@@ -396,17 +451,13 @@ can_tell held names before now own tells (Read f) reason = reason.named
 can_tell held names before now own tells (Model fault) reason = reason.in_file
 can_tell held names before now own tells (Closed fault) reason =
     (some_of names.closed reason.name reason.named, reason.in_file)
-can_tell held names before now own tells (Assign role.Initial fault) reason =
-    (some_of names.initial reason.name reason.named, reason.refused.in_file)
-can_tell held names before now own tells (Assign role.Changed fault) reason =
-    (some_of names.changed reason.name reason.named, reason.refused.in_file)
+can_tell held names before now own tells (Assign which fault) reason = (reason.named, reason.refused.in_file)
 can_tell held names before now own tells Memory reason = tt
 can_tell held names before now own tells refusal reason = tells refusal reason
 
 judges_tell : (held : Held) (names : Names) (written : Type 0) (refusal : Refusal) → Judges held names written refusal →
     CanTell names refusal
-judges_tell held names written (Broken role.Initial cause) reason = reason.named
-judges_tell held names written (Broken role.Changed cause) reason = reason.named
+judges_tell held names written (Broken which cause) reason = reason.named
 judges_tell held names written Write reason = tt
 judges_tell held names written refusal reason = absurd reason
 

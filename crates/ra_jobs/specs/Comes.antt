@@ -1,5 +1,5 @@
 -- When each status comes. Its cause is the reason of a refusal.
-use Rattle.std.specs.Prelude.{◌≡◌, ◌≢◌, ◌⊎◌, ℕ, Bool, true, nat_le, IsSome}
+use Rattle.std.specs.Prelude.{◌≡◌, ◌≢◌, ◌⊎◌, true, IsSome}
 use Rattle.ra_base.specs.declared.causes.Cause.{Cause}
 use Rattle.ra_io.specs.Faults.{Rose}
 use Rattle.ra_model_read.specs.declared.faults.ModelFault.{ModelFault}
@@ -13,7 +13,7 @@ use Rattle.ra_jobs.specs.declared.refusals.Role.{Role}
 use Rattle.ra_jobs.specs.declared.status.Status.{Status}
 use Rattle.ra_jobs.specs.declared.status.Status.TheVariants.{Done, ReadFault, BadModel, BadAssignment, Infeasible}
 use Rattle.ra_jobs.specs.declared.status.Status.TheVariants.{WriteFault, NoMemory, BadClosed, Unrepaired}
-use Rattle.ra_jobs.specs.Files.{Held, Faults, Names, name_of, file_of, IsNamed}
+use Rattle.ra_jobs.specs.Files.{Held, Faults, Names, name_of, file_of, is_up_to, IsNamed}
 use Rattle.ra_jobs.specs.Refusals.{ReadFailed, ModelRefused, ClosedRefused, RoleRefused, RoleBreaks}
 
 -- if a job has this file, its bytes are told, and no fault of it was counted
@@ -22,19 +22,6 @@ IsKnown held names before now f =
     IsNamed names f
     → IsSome (held (name_of names f))
     × (Rose (before (name_of names f)) (now (name_of names f)) → ⊥)
-
--- the order in which a job reads its files
-abbrev pub rank_of : File → ℕ
-rank_of file.Model = 0
-rank_of file.Closed = 1
-rank_of file.Initial = 2
-rank_of file.Changed = 3
-rank_of file.Edits = 4
-rank_of file.Report = 5
-
--- a file is read no later than another one
-abbrev pub is_up_to : File → File → Bool
-is_up_to f last = nat_le (rank_of f) (rank_of last)
 
 -- so it is with all files that are read up to this one
 abbrev pub KnownTo : Held → Names → Faults → Faults → File → Type 0

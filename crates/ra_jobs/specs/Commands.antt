@@ -1,5 +1,5 @@
 -- A command: its files, what it prints and why it refuses, and how it ends. How far a text came is a predicate on
--- texts: `sent` in what is printed. The output took it whole, or broke off behind a front of it.
+-- texts: `sent` in what is printed. The output took it whole, or broke off after a front of it.
 use Rattle.std.specs.Prelude.{◌≡◌, ◌⊎◌, ℕ, List}
 use Rattle.ra_draws.specs.declared.budgets.Lots.{Lots}
 use Rattle.ra_io.specs.Outside.{Reading, Took}
@@ -17,8 +17,7 @@ pub record Command : Type 1 where
   pub names : Names
   -- what it has printed if it is done, by what its files hold: its text was sent so far
   pub prints : Held → (List ℕ → Type 0) → Type 0
-  -- the reason of each of its refusals, by the texts that the output took whole and those behind a front of which it
-  -- broke off
+  -- why it refuses, given which texts the output took whole, and which of them it took a front of and broke off
   pub refuses : Reading → (List ℕ → Type 0) → (List ℕ → Type 0) → Refusal → Type 0
   -- when each of its statuses comes
   pub comes : Reading → Output → Status → Type 0

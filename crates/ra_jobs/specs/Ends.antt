@@ -1,6 +1,10 @@
 -- How a command ends, and how its stages do.
 use Rattle.std.specs.Prelude.{◌≡◌, ◌≢◌, ◌≤◌, ℕ, List, Bool, true, false, Result, Ok, OnOk, IfErr}
-use Rattle.ra_io.specs.Outside.{Reading, LeavesFiles, Took, WriteFailed}
+use Rattle.std.specs.Borrow.{MutBor}
+use Rattle.ra_io.specs.declared.outside.Files as files
+use Rattle.ra_io.specs.declared.outside.Sink as sink
+use Rattle.ra_io.specs.Outside.{Reading, LeavesFiles, reading, Took, WriteFailed}
+use Rattle.ra_jobs.specs.declared.outside.Outside.{Outside}
 use Rattle.ra_jobs.specs.declared.refusals.Refusal.{Refusal}
 use Rattle.ra_jobs.specs.declared.refusals.Refusal.TheVariants.{Unrepaired, Write}
 use Rattle.ra_jobs.specs.declared.status.Status.{Status}
@@ -8,7 +12,7 @@ use Rattle.ra_jobs.specs.declared.status.Status.TheVariants.{Done, Usage}
 use Rattle.ra_jobs.specs.Commands.{Command}
 use Rattle.ra_jobs.specs.Files.{Names}
 use Rattle.ra_jobs.specs.Lines.{refusal_line}
-use Rattle.ra_jobs.specs.Output.{Output, BrokeOff, Put}
+use Rattle.ra_jobs.specs.Output.{Output, output, BrokeOff, Put}
 use Rattle.ra_jobs.specs.Statuses.{status_of}
 
 -- a refusal that comes after a part of the output was put, or all of it
@@ -44,6 +48,13 @@ pub record Does (c : Command) (files : Reading) (out err : Output) (status : Sta
   pub comes : c.comes files out status
   pub complete : c.valid files → (WriteFailed out.sink → ⊥) → c.answers status
   pub leaves : Leaves files out err
+
+-- it does so with the files and sinks of an outside that it takes: as `entry` has them, and as it leaves them, `exit`
+abbrev pub DoesOutside : {F O E : Type 0} → files.Ghosts F → sink.Ghosts O → sink.Ghosts E → Command
+    → Outside F O E → MutBor F × (MutBor O × (MutBor E × Unit {0})) → Status → Type 0
+DoesOutside reads puts tells c entry exit status =
+    Does c (reading reads entry.files.now exit.0.now) (output puts entry.out.now exit.1.0.now)
+    (output tells entry.err.now exit.1.1.0.now) status
 
 -- ---- the stages
 

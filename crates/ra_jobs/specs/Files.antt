@@ -1,5 +1,5 @@
 -- The files of a job, and what they mean.
-use Rattle.std.specs.Prelude.{◌≡◌, ℕ, List, [], Bool, Option, Some, None, IsSome, IfSome, unwrap_or}
+use Rattle.std.specs.Prelude.{◌≡◌, ℕ, nat_le, List, [], Bool, true, Option, Some, None, IsSome, IfSome, unwrap_or}
 use Rattle.std.specs.Option.{option_copied}
 use Rattle.ra_base.specs.Listed.{Listed}
 use Rattle.ra_base.specs.declared.ids.Machine.{Machine}
@@ -25,7 +25,7 @@ pub record Names : Type 0 where
   pub report : Option (List ℕ)
   pub edits : Option (List ℕ)
 
--- those of `bound`, of `solve` and `repair`, of `check`, of `verify` and of `edit`
+-- the files of `bound`, of `solve` and `repair`, of `check`, of `verify` and of `edit`
 abbrev pub bound_names : List ℕ → Option (List ℕ) → Option (List ℕ) → Names
 bound_names model initial closed =
     record {
@@ -86,6 +86,23 @@ IsNamed names file.Changed = IsSome names.changed
 IsNamed names file.Report = IsSome names.report
 IsNamed names file.Edits = IsSome names.edits
 
+-- the order in which a job reads its files
+abbrev pub rank_of : File → ℕ
+rank_of file.Model = 0
+rank_of file.Closed = 1
+rank_of file.Initial = 2
+rank_of file.Changed = 3
+rank_of file.Edits = 4
+rank_of file.Report = 5
+
+-- a file is read no later than another one
+abbrev pub is_up_to : File → File → Bool
+is_up_to f last = nat_le (rank_of f) (rank_of last)
+
+-- the job has no file that is read after this one
+abbrev pub EndsAt : Names → File → Type 0
+EndsAt names last = (f : File) → IsNamed names f → is_up_to f last ≡ true
+
 -- what the files hold, as far as it is told, by their names
 abbrev pub Held : Type 0
 Held = List ℕ → Option (List ℕ)
@@ -98,7 +115,7 @@ Faults = List ℕ → ℕ
 abbrev pub ModelIs : Held → List ℕ → Tables → Type 0
 ModelIs held name i = IfSome (held name) (λ bytes. IsModel bytes i)
 
--- the same with the machines of a closed list closed, if one is named
+-- these are the tables of a model with the machines of a closed list closed, if one is named
 abbrev pub CloseIs : Held → Option (List ℕ) → Tables → Tables → Type 0
 CloseIs held None model i = i ≡ model
 CloseIs held (Some name) model i =
@@ -116,7 +133,7 @@ pub record InstanceIs (held : Held) (name : List ℕ) (closed_name : Option (Lis
 abbrev pub ListIs : Held → List ℕ → Tables → List Machine → Type 0
 ListIs held name i a = IfSome (held name) (λ bytes. IsAssignmentOf bytes i a)
 
--- the same for a file that a job may not have
+-- a file that a job may not have means this assignment, if it has it
 abbrev pub NamedListIs : Held → Option (List ℕ) → Tables → List Machine → Type 0
 NamedListIs held None i a = Unit {0}
 NamedListIs held (Some name) i a = ListIs held name i a

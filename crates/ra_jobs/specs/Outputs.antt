@@ -1,4 +1,4 @@
--- `check` and `bound`. `sent` is how far a text came: the output took it whole, or broke off behind a front of it.
+-- `check` and `bound`. `sent` is how far a text came: the output took it whole, or broke off after a front of it.
 use Rattle.std.specs.Prelude.{◌≡◌, ◌≢◌, ◌⊎◌, ℕ, List, Option, Some, None}
 use Rattle.ra_base.specs.declared.ids.Machine.{Machine}
 use Rattle.ra_model.specs.declared.raw.Tables.{Tables}

@@ -63,53 +63,30 @@ pub record ClosedRefused (held : Held) (model_name : List ℕ) (closed_name : Op
   pub in_file : IsInClosed fault
   pub refused : IfSome (held name) (λ bytes. closed_refusal bytes model ≡ Some fault)
 
--- the instance was read, and the initial list is refused as this
-pub record InitialRefused (held : Held) (names : Names) (fault : AssignFault) : Type 0 where
-  pub tables : Tables
-  pub instance : InstanceIs held names.model names.closed tables
-  pub name : List ℕ
-  pub named : names.initial ≡ Some name
-  pub refused : ListRefused held name tables fault
+-- the instance was read, and so was the initial list before the new one; then the list of this role is refused as this
+pub record RoleRefused (held : Held) (names : Names) (which : Role) (fault : AssignFault) : Type 0
+  where
+    pub tables : Tables
+    pub a0 : List Machine
+    pub instance : InstanceIs held names.model names.closed tables
+    pub earlier : which ≡ role.Changed → NamedListIs held names.initial tables a0
+    pub named : IsNamed names (file_of which)
+    pub refused : ListRefused held (name_of names (file_of which)) tables fault
 
--- the initial list was read, and the new list is refused as this
-pub record ChangedRefused (held : Held) (names : Names) (fault : AssignFault) : Type 0 where
-  pub tables : Tables
-  pub a0 : List Machine
-  pub instance : InstanceIs held names.model names.closed tables
-  pub initial : NamedListIs held names.initial tables a0
-  pub name : List ℕ
-  pub named : names.changed ≡ Some name
-  pub refused : ListRefused held name tables fault
+-- the initial list breaks this constraint first; or that list is feasible, and the new one breaks it first
+abbrev pub Breaks : Tables → List Machine → List Machine → Role → Cause → Type 0
+Breaks i a0 a role.Initial cause = first_broken i a0 a0 ≡ Some cause
+Breaks i a0 a role.Changed cause = Feasible i a0 a0 × (first_broken i a0 a ≡ Some cause)
 
--- so is the list of this role
-abbrev pub RoleRefused : Held → Names → Role → AssignFault → Type 0
-RoleRefused held names role.Initial fault = InitialRefused held names fault
-RoleRefused held names role.Changed fault = ChangedRefused held names fault
-
--- all files were accepted, and the initial list breaks this constraint first
-pub record InitialBreaks (held : Held) (names : Names) (cause : Cause) : Type 0 where
-  pub tables : Tables
-  pub a0 : List Machine
-  pub a : List Machine
-  pub named : IsSome names.initial
-  pub accepts : Accepts held names tables a0 a
-  pub broken : first_broken tables a0 a0 ≡ Some cause
-
--- so they were, the initial list is feasible, and the new list breaks this constraint first
-pub record ChangedBreaks (held : Held) (names : Names) (cause : Cause) : Type 0 where
+-- all files were accepted, and the list of this role breaks this constraint first
+pub record RoleBreaks (held : Held) (names : Names) (which : Role) (cause : Cause) : Type 0 where
   pub tables : Tables
   pub a0 : List Machine
   pub a : List Machine
   pub start_named : IsSome names.initial
-  pub named : IsSome names.changed
+  pub named : IsNamed names (file_of which)
   pub accepts : Accepts held names tables a0 a
-  pub initial : Feasible tables a0 a0
-  pub broken : first_broken tables a0 a ≡ Some cause
-
--- so does the list of this role
-abbrev pub RoleBreaks : Held → Names → Role → Cause → Type 0
-RoleBreaks held names role.Initial cause = InitialBreaks held names cause
-RoleBreaks held names role.Changed cause = ChangedBreaks held names cause
+  pub breaks : Breaks tables a0 a which cause
 
 -- the reason of each refusal: what is so of the files of a job, whose counts of faults went from before to now. What is
 -- the job's own stands in `own`: the reasons of its refusals beyond those of the model, of the closed list, of the

@@ -11,13 +11,14 @@ use Rattle.ra_repair.specs.Runs.{repair_run}
 use Rattle.ra_report.specs.RepairTexts.{repair_lines}
 use Rattle.ra_jobs.specs.declared.refusals.File.TheVariants as file
 use Rattle.ra_jobs.specs.declared.refusals.Refusal.{Refusal}
-use Rattle.ra_jobs.specs.declared.refusals.Refusal.TheVariants.{Unrepaired as Left, Write, Memory}
+use Rattle.ra_jobs.specs.declared.refusals.Refusal.TheVariants.{Unrepaired as Left, Write}
 use Rattle.ra_jobs.specs.declared.status.Status.{Status}
 use Rattle.ra_jobs.specs.declared.status.Status.TheVariants.{Done, Infeasible, Unrepaired, WriteFault, NoMemory}
 use Rattle.ra_jobs.specs.Comes.{KnownTo}
 use Rattle.ra_jobs.specs.Commands.{Command, OverFiles, over}
 use Rattle.ra_jobs.specs.Complete.{AreAccepted}
 use Rattle.ra_jobs.specs.Files.{Held, Faults, Names, Accepts, solve_names}
+use Rattle.ra_jobs.specs.Stages.{WriteReason}
 
 -- the run of tries from a list: its last list breaks this constraint first, or none, and its text was sent. A list that
 -- breaks none is feasible, and before one that breaks some all of the budget was tried
@@ -38,8 +39,8 @@ pub record RepairPrinted (held : Held) (names : Names) (l : Lots) (broken : Opti
   pub one : l.lots.items ≡ lot ∷ []
   pub run : IsTried tables a0 lot broken sent
 
--- its own refusals: the output took the text of a run whose last list breaks a constraint; or it broke off behind a
--- front of a text
+-- its own refusals: the output took the text of a run whose last list breaks a constraint; or it took a front of a text
+-- and broke off
 abbrev pub RepairOwn : Held → Names → Lots → (List ℕ → Type 0) → (List ℕ → Type 0) → Refusal
     → Type 0
 RepairOwn held names l took broke_off (Left cause) = RepairPrinted held names l (Some cause) took
@@ -89,6 +90,5 @@ repair_command model initial closed asked = over (repaired (solve_names model in
 abbrev pub TryReason : Tables → List Machine → Lot → (List ℕ → Type 0) → (List ℕ → Type 0) → Refusal
     → Type 0
 TryReason i a0 lot took broke_off (Left cause) = IsTried i a0 lot (Some cause) took
-TryReason i a0 lot took broke_off Write = (broken : Option Cause) × IsTried i a0 lot broken broke_off
-TryReason i a0 lot took broke_off Memory = Unit {0}
-TryReason i a0 lot took broke_off refusal = ⊥
+TryReason i a0 lot took broke_off refusal =
+    WriteReason ((broken : Option Cause) × IsTried i a0 lot broken broke_off) refusal

@@ -1,11 +1,10 @@
 -- Why each stage of a job refuses.
-use Rattle.std.specs.Prelude.{◌≡◌, ℕ, List, Option, Some, None, IfSome}
+use Rattle.std.specs.Prelude.{◌≡◌, ◌⊎◌, ℕ, List, Option, Some, None, IfSome}
 use Rattle.ra_base.specs.declared.costs.Parts.{Parts}
 use Rattle.ra_base.specs.declared.ids.Machine.{Machine}
 use Rattle.ra_io.specs.Faults.{Rose}
 use Rattle.ra_model.specs.declared.raw.Tables.{Tables}
 use Rattle.ra_model.specs.Assignments.{IsAssignment}
-use Rattle.ra_model.specs.Broken.{first_broken}
 use Rattle.ra_model.specs.Costs.{parts_of}
 use Rattle.ra_model.specs.Feasible.{Feasible}
 use Rattle.ra_model_read.specs.declared.faults.ModelFault.{ModelFault}
@@ -18,11 +17,12 @@ use Rattle.ra_assign.specs.ClosedLists.{closed_refusal}
 use Rattle.ra_report.specs.FaultTexts.{IsInClosed}
 use Rattle.ra_jobs.specs.declared.refusals.File.TheVariants as file
 use Rattle.ra_jobs.specs.declared.refusals.Refusal.{Refusal}
-use Rattle.ra_jobs.specs.declared.refusals.Refusal.TheVariants.{Read, Model, Closed, Assign, Broken, Memory}
+use Rattle.ra_jobs.specs.declared.refusals.Refusal.TheVariants.{Read, Model, Closed, Assign, Broken, Write, Memory}
 use Rattle.ra_jobs.specs.declared.refusals.Role.{Role}
 use Rattle.ra_jobs.specs.declared.refusals.Role.TheVariants as role
-use Rattle.ra_jobs.specs.Files.{Held, Faults, Names, bound_names, file_of, CloseIs, ListIs, Accepts, Passes}
-use Rattle.ra_jobs.specs.Refusals.{Reason, Nothing, ListRefused}
+use Rattle.ra_jobs.specs.Files.{Held, Faults, Names, bound_names, name_of, file_of, IsNamed, CloseIs}
+use Rattle.ra_jobs.specs.Files.{ListIs, Accepts, Passes}
+use Rattle.ra_jobs.specs.Refusals.{Reason, Nothing, ListRefused, Breaks}
 
 -- the instance with the machines of a told closed list closed
 abbrev pub IsClosing : Held → List ℕ → Tables → Tables → Type 0
@@ -44,6 +44,7 @@ closed_as closer.ReadFault = Read file.Closed
 closed_as closer.NoMemory = Memory
 closed_as fault = Closed fault
 
+-- the closed list
 abbrev pub ClosedReason : Held → List ℕ → Tables → Faults → Faults → Refusal → Type 0
 ClosedReason held name i before now (Read file.Closed) = Rose (before name) (now name)
 ClosedReason held name i before now (Closed fault) =
@@ -71,21 +72,27 @@ ListReason which held name i before now Memory = Unit {0}
 ListReason which held name i before now refusal = ⊥
 
 -- the initial list, if one is named
-abbrev pub NamedReason : Held → Option (List ℕ) → Tables → Faults → Faults → Refusal → Type 0
-NamedReason held None i before now refusal = ⊥
-NamedReason held (Some name) i before now refusal = ListReason role.Initial held name i before now refusal
+abbrev pub NamedReason : Held → Names → Tables → Faults → Faults → Refusal → Type 0
+NamedReason held names i before now refusal =
+    IsNamed names file.Initial
+    × ListReason role.Initial held (name_of names file.Initial) i before now refusal
 
-abbrev pub JudgeReason : Tables → List Machine → List Machine → Refusal → Type 0
-JudgeReason i a0 a (Broken role.Initial cause) = first_broken i a0 a0 ≡ Some cause
-JudgeReason i a0 a (Broken role.Changed cause) = Feasible i a0 a0 × (first_broken i a0 a ≡ Some cause)
-JudgeReason i a0 a Memory = Unit {0}
-JudgeReason i a0 a refusal = ⊥
+-- writing failed, and then `written` is so; or memory was refused
+abbrev pub WriteReason : Type 0 → Refusal → Type 0
+WriteReason written Write = written
+WriteReason written Memory = Unit {0}
+WriteReason written refusal = ⊥
+
+-- the two lists, in turn; `written` is so if writing what was made of them failed
+abbrev pub JudgeReason : Tables → List Machine → List Machine → Type 0 → Refusal → Type 0
+JudgeReason i a0 a written (Broken which cause) = Breaks i a0 a which cause
+JudgeReason i a0 a written refusal = WriteReason written refusal
 
 -- the initial list alone
-abbrev pub StartReason : Tables → List Machine → Refusal → Type 0
-StartReason i a0 (Broken role.Initial cause) = first_broken i a0 a0 ≡ Some cause
-StartReason i a0 Memory = Unit {0}
-StartReason i a0 refusal = ⊥
+abbrev pub StartReason : Tables → List Machine → Type 0 → Refusal → Type 0
+StartReason i a0 written (Broken role.Initial cause) = Breaks i a0 a0 role.Initial cause
+StartReason i a0 written (Broken role.Changed cause) = ⊥
+StartReason i a0 written refusal = WriteReason written refusal
 
 -- all files were accepted, and the initial list fits the instance
 pub record IsStart (held : Held) (names : Names) (i : Tables) (a0 : List Machine) : Type 0 where
@@ -93,22 +100,16 @@ pub record IsStart (held : Held) (names : Names) (i : Tables) (a0 : List Machine
   pub fits : IsAssignment i a0
 
 -- the two lists were read
-pub record ReadsLists (held : Held) (first second : List ℕ) (i : Tables) (a0 a : List Machine) :
-    Type 0 where
-  pub initial : ListIs held first i a0
-  pub initial_fits : IsAssignment i a0
-  pub changed : ListIs held second i a
-  pub changed_fits : IsAssignment i a
+pub record ReadsLists (held : Held) (names : Names) (i : Tables) (a0 a : List Machine) : Type 0 where
+  pub initial : IsList held (name_of names file.Initial) i a0
+  pub changed : IsList held (name_of names file.Changed) i a
 
-abbrev pub ListsReason : Held → List ℕ → List ℕ → Tables → Faults → Faults → Refusal → Type 0
-ListsReason held first second i before now (Read file.Initial) = Rose (before first) (now first)
-ListsReason held first second i before now (Read file.Changed) =
-    (a0 : List Machine) × ListIs held first i a0 × Rose (before second) (now second)
-ListsReason held first second i before now (Assign role.Initial fault) = ListRefused held first i fault
-ListsReason held first second i before now (Assign role.Changed fault) =
-    (a0 : List Machine) × ListIs held first i a0 × ListRefused held second i fault
-ListsReason held first second i before now Memory = Unit {0}
-ListsReason held first second i before now refusal = ⊥
+-- the initial list is refused; or it was read, and the new one is refused
+abbrev pub ListsReason : Held → Names → Tables → Faults → Faults → Refusal → Type 0
+ListsReason held names i before now refusal =
+    ListReason role.Initial held (name_of names file.Initial) i before now refusal
+    ⊎ ((a0 : List Machine) × ListIs held (name_of names file.Initial) i a0
+    × ListReason role.Changed held (name_of names file.Changed) i before now refusal)
 
 -- all files passed, and these are the parts of the new list
 pub record Passed (held : Held) (names : Names) (parts : Parts) : Type 0 where

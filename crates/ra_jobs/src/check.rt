@@ -1,17 +1,19 @@
 ghost use Rattle.std.specs.Prelude.{IfOk, IfErr};
 ghost use Rattle.std.specs.Option.{option_copied};
 ghost use Rattle.ra_io.specs.Outside.{LeavesFiles, reading};
-ghost use Rattle.ra_jobs.specs.Ends.{Does, Tries};
-ghost use Rattle.ra_jobs.specs.Files.{check_names};
+ghost use Rattle.ra_jobs.specs.Commands.{over};
+ghost use Rattle.ra_jobs.specs.Ends.{Does, DoesOutside, Tries};
+ghost use Rattle.ra_jobs.specs.Files.{names_of, IsNamed};
 ghost use Rattle.ra_jobs.specs.Output.{output};
-ghost use Rattle.ra_jobs.specs.Outputs.{check_command};
+ghost use Rattle.ra_jobs.specs.Outputs.{check_command, checked};
 ghost use Rattle.ra_jobs.specs.Refusals.{Reason, Judges};
 ghost use Rattle.ra_jobs.specs.Stages.{Passed};
 
 use crate::judging::judge;
 use crate::lists::read_lists;
+use crate::outside::Outside;
 use crate::reading::read_instance;
-use crate::refusals::{JobFiles, Refusal};
+use crate::refusals::{File, JobFiles, Refusal};
 use crate::refusing::finish;
 use crate::status::Status;
 use ra_base::{Name, Parts};
@@ -36,33 +38,39 @@ pub fn check_run<'n, F: Files, O: Sink, E: Sink>(
         (reading F.Files files.old files.new) (output O.Sink out.old out.new)
         (output E.Sink err.old err.new) result }
 {
-    let names = JobFiles {
-        model,
-        closed,
-        initial: Some(initial),
-        changed: Some(changed),
-        report: None,
-        edits: None,
-    };
-    let ended = check(alloc, model, initial, changed, closed, files, out);
-    finish(err, &names, ended)
+    let names = JobFiles::of_check(model, initial, changed, closed);
+    check_job(alloc, &names, Outside { files, out, err })
 }
 
-/// A check but for the line of its refusal.
+/// Does what `check_run` does, over the files of these names.
+pub fn check_job<F: Files, O: Sink, E: Sink>(
+    alloc: Global,
+    names: &JobFiles<'_>,
+    outside: Outside<'_, F, O, E>,
+) -> Status
+    requires initial { IsNamed (names_of names.now) File.Initial }
+    requires changed { IsNamed (names_of names.now) File.Changed }
+    ensures { DoesOutside F.Files O.Sink E.Sink (over (checked (names_of names.now)))
+        outside.entry outside.exit result }
+{
+    let Outside { files, out, err } = outside;
+    let ended = check(alloc, names, files, out);
+    finish(err, names, ended)
+}
+
+/// Checks the new list, and prints the parts of its cost.
 fn check<F: Files, O: Sink>(
     alloc: Global,
-    model: &Name,
-    initial: &Name,
-    changed: &Name,
-    closed: Option<&Name>,
+    names: &JobFiles<'_>,
     files: &mut F,
     out: &mut O,
 ) -> Result<(), Refusal>
-    ensures { Tries (check_command model.now initial.now changed.now
-        (option_copied closed.entry))
+    requires initial { IsNamed (names_of names.now) File.Initial }
+    requires changed { IsNamed (names_of names.now) File.Changed }
+    ensures { Tries (over (checked (names_of names.now)))
         (reading F.Files files.old files.new) (output O.Sink out.old out.new) result }
 {
-    let parts = read_parts(alloc, model, initial, changed, closed, files)?;
+    let parts = read_parts(alloc, names, files)?;
     write_parts(out, &parts)?;
     Ok(())
 }
@@ -70,21 +78,18 @@ fn check<F: Files, O: Sink>(
 /// The parts of the new list, if all files are accepted and both lists are feasible.
 fn read_parts<F: Files>(
     alloc: Global,
-    model: &Name,
-    initial: &Name,
-    changed: &Name,
-    closed: Option<&Name>,
+    names: &JobFiles<'_>,
     files: &mut F,
 ) -> Result<Parts, Refusal>
-    ensures passed { IfOk result (Passed (F.held files.old)
-        (check_names model.now initial.now changed.now (option_copied closed.entry))) }
-    ensures refused { IfErr result (Reason (F.held files.old)
-        (check_names model.now initial.now changed.now (option_copied closed.entry))
-        (F.faults files.old) (F.faults files.new) (Judges (F.held files.old)
-        (check_names model.now initial.now changed.now (option_copied closed.entry)) ⊥)) }
+    requires initial { IsNamed (names_of names.now) File.Initial }
+    requires changed { IsNamed (names_of names.now) File.Changed }
+    ensures passed { IfOk result (Passed (F.held files.old) (names_of names.now)) }
+    ensures refused { IfErr result (Reason (F.held files.old) (names_of names.now)
+        (F.faults files.old) (F.faults files.new)
+        (Judges (F.held files.old) (names_of names.now) ⊥)) }
     ensures leaves { LeavesFiles (reading F.Files files.old files.new) }
 {
-    let inst = read_instance(alloc, files, model, closed)?;
-    let lists = read_lists(alloc, files, initial, changed, &inst)?;
+    let inst = read_instance(alloc, files, names.model, names.closed)?;
+    let lists = read_lists(alloc, files, names, &inst)?;
     judge(alloc, &inst, &lists.initial, &lists.changed)
 }

@@ -23,7 +23,7 @@ pub fn judge(
     requires changed { IsAssignment inst.now.tables changed.now.items }
     ensures passes { IfOk result (Judged inst.now.tables initial.now.items changed.now.items) }
     ensures refused { IfErr result (JudgeReason inst.now.tables initial.now.items
-        changed.now.items) }
+        changed.now.items ⊥) }
 {
     let mut scratch = judge_start(alloc, inst, initial)?;
     match first_broken(inst, initial, changed, &mut scratch) {
@@ -40,7 +40,7 @@ pub fn judge_start(alloc: Global, inst: &Instance, initial: &Assignment) -> Resu
     ensures unbroken { IfOk result (λ _.
         first_broken inst.now.tables initial.now.items initial.now.items ≡ None) }
     ensures made { IfOk result (λ scratch. IsMadeFor scratch inst.now.tables) }
-    ensures refused { IfErr result (StartReason inst.now.tables initial.now.items) }
+    ensures refused { IfErr result (StartReason inst.now.tables initial.now.items ⊥) }
 {
     let mut scratch = Scratch::make(alloc, inst)?;
     match first_broken(inst, initial, initial, &mut scratch) {

@@ -1,10 +1,11 @@
 ghost use Rattle.std.specs.Prelude.{◌≡◌, IfOk, IfErr};
 ghost use Rattle.ra_io.specs.Outside.{LeavesFiles, reading};
+ghost use Rattle.ra_jobs.specs.Files.{file_of, name_of, names_of, IsNamed};
 ghost use Rattle.ra_jobs.specs.Stages.{list_as, ListReason, IsList, ReadsLists, ListsReason};
 
-use crate::refusals::{Refusal, Role};
+use crate::refusals::{File, JobFiles, Refusal, Role};
 use ra_assign::{AssignFault, read_assignment};
-use ra_base::{Assignment, Name};
+use ra_base::Assignment;
 use ra_io::Files;
 use ra_model::Instance;
 use std::alloc::Global;
@@ -13,15 +14,19 @@ use std::alloc::Global;
 pub(crate) fn read_list<F: Files>(
     alloc: Global,
     files: &mut F,
+    names: &JobFiles<'_>,
     role: Role,
-    name: &Name,
     inst: &Instance,
 ) -> Result<Assignment, Refusal>
-    ensures read { IfOk result (λ a. IsList (F.held files.old) name.now inst.now.tables a.items) }
-    ensures refused { IfErr result (ListReason role (F.held files.old) name.now inst.now.tables
+    requires named { IsNamed (names_of names.now) (file_of role) }
+    ensures read { IfOk result (λ a. IsList (F.held files.old)
+        (name_of (names_of names.now) (file_of role)) inst.now.tables a.items) }
+    ensures refused { IfErr result (ListReason role (F.held files.old)
+        (name_of (names_of names.now) (file_of role)) inst.now.tables
         (F.faults files.old) (F.faults files.new)) }
     ensures leaves { LeavesFiles (reading F.Files files.old files.new) }
 {
+    let name = names.name(role.file());
     match read_assignment(alloc, files, name.as_str(), inst) {
         Ok(list) => Ok(list),
         Err(fault) => Err(list_refused(role, fault)),
@@ -46,23 +51,23 @@ pub struct Lists {
     pub changed: Assignment,
 }
 
-/// The initial list, and then the new one, each of which fits the instance. Else the first of the two that could not be
-/// read, or that is no assignment for the instance, is refused; or memory was.
+/// The initial list and the new one, each of which fits the instance. Else the first of the two that could not be read, or
+/// that is no assignment for the instance, is refused; or memory was.
 pub fn read_lists<F: Files>(
     alloc: Global,
     files: &mut F,
-    initial: &Name,
-    changed: &Name,
+    names: &JobFiles<'_>,
     inst: &Instance,
 ) -> Result<Lists, Refusal>
-    ensures read { IfOk result (λ l. ReadsLists (F.held files.old) initial.now changed.now
+    requires initial { IsNamed (names_of names.now) File.Initial }
+    requires changed { IsNamed (names_of names.now) File.Changed }
+    ensures read { IfOk result (λ l. ReadsLists (F.held files.old) (names_of names.now)
         inst.now.tables l.initial.items l.changed.items) }
-    ensures refused { IfErr result (ListsReason
-        (F.held files.old) initial.now changed.now inst.now.tables (F.faults files.old)
-        (F.faults files.new)) }
+    ensures refused { IfErr result (ListsReason (F.held files.old) (names_of names.now)
+        inst.now.tables (F.faults files.old) (F.faults files.new)) }
     ensures leaves { LeavesFiles (reading F.Files files.old files.new) }
 {
-    let initial = read_list(alloc, files, Role::Initial, initial, inst)?;
-    let changed = read_list(alloc, files, Role::Changed, changed, inst)?;
+    let initial = read_list(alloc, files, names, Role::Initial, inst)?;
+    let changed = read_list(alloc, files, names, Role::Changed, inst)?;
     Ok(Lists { initial, changed })
 }

@@ -47,7 +47,7 @@ pub(crate) fn read_open<F: Files>(
     Ok(read_model(alloc, files, model.as_str())?)
 }
 
-/// The same instance with the machines of a closed list closed.
+/// An instance with the machines of a closed list closed.
 pub(crate) fn close<F: Files>(
     alloc: Global,
     files: &mut F,

@@ -1,5 +1,7 @@
 ghost use Rattle.std.specs.Prelude.{◌≡◌};
-ghost use Rattle.ra_jobs.specs.Files.{file_of, name_of, names_of, IsNamed};
+ghost use Rattle.std.specs.Option.{option_copied};
+ghost use Rattle.ra_jobs.specs.Files.{file_of, name_of, names_of, IsNamed, EndsAt};
+ghost use Rattle.ra_jobs.specs.Files.{bound_names, solve_names, check_names, verify_names, edit_names};
 
 use ra_assign::{AssignFault, ClosedFault};
 use ra_base::{Cause, Name, NoMemory};
@@ -127,9 +129,97 @@ pub struct JobFiles<'n> {
 }
 
 impl<'n> JobFiles<'n> {
+    /// The files of `bound`.
+    pub fn of_bound(
+        model: &'n Name,
+        initial: Option<&'n Name>,
+        closed: Option<&'n Name>,
+    ) -> JobFiles<'n>
+        ensures names { names_of result ≡ bound_names model.now (option_copied initial.entry)
+            (option_copied closed.entry) }
+        ensures last { EndsAt (names_of result) File.Initial }
+    {
+        JobFiles {
+            model,
+            closed,
+            initial,
+            changed: None,
+            report: None,
+            edits: None,
+        }
+    }
+
+    /// The files of `solve` and of `repair`.
+    pub fn of_solve(model: &'n Name, initial: &'n Name, closed: Option<&'n Name>) -> JobFiles<'n>
+        ensures names { names_of result ≡ solve_names model.now initial.now
+            (option_copied closed.entry) }
+        ensures initial { IsNamed (names_of result) File.Initial }
+        ensures last { EndsAt (names_of result) File.Initial }
+    {
+        JobFiles::of_bound(model, Some(initial), closed)
+    }
+
+    /// The files of `check`.
+    pub fn of_check(
+        model: &'n Name,
+        initial: &'n Name,
+        changed: &'n Name,
+        closed: Option<&'n Name>,
+    ) -> JobFiles<'n>
+        ensures names { names_of result ≡ check_names model.now initial.now changed.now
+            (option_copied closed.entry) }
+        ensures initial { IsNamed (names_of result) File.Initial }
+        ensures changed { IsNamed (names_of result) File.Changed }
+    {
+        JobFiles {
+            changed: Some(changed),
+            ..JobFiles::of_solve(model, initial, closed)
+        }
+    }
+
+    /// The files of `verify`.
+    pub fn of_verify(
+        model: &'n Name,
+        initial: &'n Name,
+        report: &'n Name,
+        closed: Option<&'n Name>,
+    ) -> JobFiles<'n>
+        ensures names { names_of result ≡ verify_names model.now initial.now report.now
+            (option_copied closed.entry) }
+        ensures initial { IsNamed (names_of result) File.Initial }
+        ensures alone { IsNamed (names_of result) File.Changed → ⊥ }
+        ensures report { IsNamed (names_of result) File.Report }
+    {
+        JobFiles {
+            report: Some(report),
+            ..JobFiles::of_solve(model, initial, closed)
+        }
+    }
+
+    /// The files of `edit`.
+    pub fn of_edit(
+        model: &'n Name,
+        initial: &'n Name,
+        current: &'n Name,
+        edits: &'n Name,
+        closed: Option<&'n Name>,
+    ) -> JobFiles<'n>
+        ensures names { names_of result ≡ edit_names model.now initial.now current.now edits.now
+            (option_copied closed.entry) }
+        ensures initial { IsNamed (names_of result) File.Initial }
+        ensures changed { IsNamed (names_of result) File.Changed }
+        ensures edits { IsNamed (names_of result) File.Edits }
+        ensures last { EndsAt (names_of result) File.Edits }
+    {
+        JobFiles {
+            edits: Some(edits),
+            ..JobFiles::of_check(model, initial, current, closed)
+        }
+    }
+
     /// The name of a file that the job has.
     #[tactic(auto, unfolding(crate::specs::Files::name_of))]
-    pub(crate) fn name(&self, file: File) -> &'n Name
+    pub fn name(&self, file: File) -> &'n Name
         requires { IsNamed (names_of self.now) file }
         ensures { result.now ≡ name_of (names_of self.now) file }
     {

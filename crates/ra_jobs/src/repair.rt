@@ -5,12 +5,14 @@ ghost use Rattle.ra_check.specs.Made.{IsMadeFor};
 ghost use Rattle.ra_draws.specs.Lots.{IsLots};
 ghost use Rattle.ra_model.specs.Assignments.{IsAssignment};
 ghost use Rattle.ra_topology.specs.Fits.{IsTopologyOf};
-ghost use Rattle.ra_jobs.specs.Commands.{These};
-ghost use Rattle.ra_jobs.specs.Ends.{Does, Tries, puts_first};
+ghost use Rattle.ra_jobs.specs.Commands.{These, over};
+ghost use Rattle.ra_jobs.specs.Ends.{Does, DoesOutside, Tries, puts_first};
+ghost use Rattle.ra_jobs.specs.Files.{names_of, IsNamed, EndsAt};
 ghost use Rattle.ra_jobs.specs.Output.{output, BrokeOff};
-ghost use Rattle.ra_jobs.specs.Repairing.{IsTried, TryReason, repair_command};
+ghost use Rattle.ra_jobs.specs.Repairing.{IsTried, TryReason, repair_command, repaired};
 
-use crate::refusals::{JobFiles, Refusal};
+use crate::outside::Outside;
+use crate::refusals::{File, JobFiles, Refusal};
 use crate::refusing::finish;
 use crate::start::read_start;
 use crate::status::Status;
@@ -42,34 +44,43 @@ pub fn repair_run<'n, F: Files, O: Sink, E: Sink>(
         (reading F.Files files.old files.new) (output O.Sink out.old out.new)
         (output E.Sink err.old err.new) result }
 {
-    let names = JobFiles {
-        model,
-        closed,
-        initial: Some(initial),
-        changed: None,
-        report: None,
-        edits: None,
-    };
-    let ended = mend(alloc, model, initial, closed, lots, files, out);
-    finish(err, &names, ended)
+    let names = JobFiles::of_solve(model, initial, closed);
+    repair_job(alloc, &names, lots, Outside { files, out, err })
 }
 
-/// The same but for the line of its refusal.
+/// Does what `repair_run` does, over the files of these names.
+pub fn repair_job<F: Files, O: Sink, E: Sink>(
+    alloc: Global,
+    names: &JobFiles<'_>,
+    lots: &Lots,
+    outside: Outside<'_, F, O, E>,
+) -> Status
+    requires initial { IsNamed (names_of names.now) File.Initial }
+    requires last { EndsAt (names_of names.now) File.Initial }
+    requires one { length lots.now.lots.items ≡ 1 }
+    ensures { DoesOutside F.Files O.Sink E.Sink
+        (over (repaired (names_of names.now) (These lots.now))) outside.entry outside.exit result }
+{
+    let Outside { files, out, err } = outside;
+    let ended = mend(alloc, names, lots, files, out);
+    finish(err, names, ended)
+}
+
+/// Makes the tries from the initial list, and prints them.
 fn mend<F: Files, O: Sink>(
     alloc: Global,
-    model: &Name,
-    initial: &Name,
-    closed: Option<&Name>,
+    names: &JobFiles<'_>,
     lots: &Lots,
     files: &mut F,
     out: &mut O,
 ) -> Result<(), Refusal>
+    requires initial { IsNamed (names_of names.now) File.Initial }
+    requires last { EndsAt (names_of names.now) File.Initial }
     requires one { length lots.now.lots.items ≡ 1 }
-    ensures { Tries (repair_command model.now initial.now
-        (option_copied closed.entry) (These lots.now))
+    ensures { Tries (over (repaired (names_of names.now) (These lots.now)))
         (reading F.Files files.old files.new) (output O.Sink out.old out.new) result }
 {
-    let start = read_start(alloc, model, initial, closed, files)?;
+    let start = read_start(alloc, names, files)?;
     let ended = try_from(alloc, &start.inst, &start.initial, lots.lot(0), out);
     drop(start);
     ended
@@ -99,7 +110,7 @@ fn try_from<O: Sink>(
     ended
 }
 
-/// The same over the topology of the instance.
+/// The tries of a lot from a list over the topology of the instance, and their text.
 fn try_over<O: Sink>(
     alloc: Global,
     inst: &Instance,
@@ -125,9 +136,9 @@ fn try_over<O: Sink>(
     let broken = first_broken(inst, initial, repair.assignment(), scratch);
     let ended = write_repair(out, broken.as_ref(), &repair);
     drop(repair);
-    match (ended, broken) {
-        (Err(_), _) => Err(Refusal::Write),
-        (Ok(()), Some(cause)) => Err(Refusal::Unrepaired(cause)),
-        (Ok(()), None) => Ok(()),
+    ended?;
+    match broken {
+        Some(cause) => Err(Refusal::Unrepaired(cause)),
+        None => Ok(()),
     }
 }

@@ -29,16 +29,16 @@ use Rattle.ra_jobs.specs.declared.status.Status.{Status}
 use Rattle.ra_jobs.specs.declared.status.Status.TheVariants.{NoMemory}
 use Rattle.ra_jobs.specs.Commands.{These, over}
 use Rattle.ra_jobs.specs.Ends.{Does, Tries, Finishes, Leaves}
-use Rattle.ra_jobs.specs.Files.{Held, Faults, Names, solve_names}
+use Rattle.ra_jobs.specs.Files.{Held, Faults, Names}
 use Rattle.ra_jobs.specs.Lines.{refusal_line}
 use Rattle.ra_jobs.specs.Output.{Output, BrokeOff, Put}
 use Rattle.ra_jobs.specs.Refusals.{Reason, Judges}
-use Rattle.ra_jobs.specs.Stages.{IsStart}
+use Rattle.ra_jobs.specs.Stages.{IsStart, StartReason}
 use Rattle.ra_jobs.proofs.ComesLemmas.{Went}
 use Rattle.ra_jobs.proofs.DoesLemmas.{does_more, judged_so, judged_memory}
-use Rattle.ra_jobs.proofs.StageLemmas.{judges_more, reason_more}
+use Rattle.ra_jobs.proofs.StageLemmas.{breaks_start, judges_more, reason_more}
 use Rattle.ra_run.specs.Headline.{IsFirstLeast, SolvePrinted, solving}
-use Rattle.ra_run.specs.Solving.{IsReported, RunReason}
+use Rattle.ra_run.specs.Solving.{IsReported}
 
 -- the report of a run is that of its journal
 pub run_told : (i : Tables) (a0 : List Machine) (l : Lots) (run : Run) (sent : List ℕ → Type 0) → IsRun i a0 l run →
@@ -106,32 +106,34 @@ solved held names i a0 l sent limits start told =
       least = λ a fits feasible. (none_costs_less_pinned i a0 a limits fits feasible).total;
     }
 
+-- the reason of a refusal of the initial list, if more is said of what was written
+pub start_more : (i : Tables) (a0 : List Machine) (written more : Type 0) → (written → more) → (refusal : Refusal) →
+    StartReason i a0 written refusal → StartReason i a0 more refusal
+start_more i a0 written more step (Broken role.Initial cause) reason = reason
+start_more i a0 written more step (Broken role.Changed cause) reason = reason
+start_more i a0 written more step Write reason = step reason
+start_more i a0 written more step refusal reason = reason
+
 -- the reason of a refusal of a run, of the files
 pub reason_run : (held : Held) (names : Names) (i : Tables) (a0 : List Machine) (l : Lots) (first now : Faults)
     (sent : List ℕ → Type 0) → IsSome names.initial → WellFormed i → IsStart held names i a0 → (refusal : Refusal) →
-    RunReason i a0 (IsReported i a0 l sent) refusal →
+    StartReason i a0 (IsReported i a0 l sent) refusal →
     Reason held names first now (Judges held names (SolvePrinted held names l sent)) refusal
-reason_run held names i a0 l first now sent has_initial limits start (Broken role.Initial cause) reason = record {
-  tables = i;
-  a0 = a0;
-  a = a0;
-  named = has_initial;
-  accepts = start.accepts;
-  broken = reason;
-}
-reason_run held names i a0 l first now sent has_initial limits start Write reason =
+reason_run held names i a0 l first now sent initial limits start (Broken role.Initial cause) reason =
+    breaks_start held names i a0 initial start.accepts cause reason
+reason_run held names i a0 l first now sent initial limits start (Broken role.Changed cause) reason = absurd reason
+reason_run held names i a0 l first now sent initial limits start Write reason =
     solved held names i a0 l sent limits start reason
-reason_run held names i a0 l first now sent has_initial limits start Memory reason = tt
-reason_run held names i a0 l first now sent has_initial limits start refusal reason = absurd reason
+reason_run held names i a0 l first now sent initial limits start Memory reason = tt
+reason_run held names i a0 l first now sent initial limits start refusal reason = absurd reason
 
 -- what was printed of a run, whole or in part, is of files that were accepted, and of a list that is feasible
-pub solved_went : (held : Held) (model : List ℕ) (closed : Option (List ℕ)) (initial : List ℕ) (l : Lots)
-    (sent : List ℕ → Type 0) → SolvePrinted held (solve_names model initial closed) l sent →
-    Went held (solve_names model initial closed)
-solved_went held model closed initial l sent p = record {
+pub solved_went : (held : Held) (names : Names) (l : Lots) (sent : List ℕ → Type 0) → SolvePrinted held names l sent →
+    Went held names
+solved_went held names l sent p = record {
   listed = record { tables = p.tables; a0 = p.a0; a = p.a0; accepts = p.accepts };
   initial = λ named. p.start;
-  changed = λ named. absurd (cc);
+  changed = λ named. p.start;
 }
 
 -- the reason of a refusal of some lots, of these
@@ -146,15 +148,12 @@ reason_these held names l before now sent =
 
 -- what the command does
 
-pub solve_so : (model : List ℕ) (closed : Option (List ℕ)) (initial : List ℕ) (asked : Lots → Type 0) (files : Reading)
-    (out err : Output) (ended : Result (Unit {0}) Refusal) (status : Status) →
-    Tries (over (solving (solve_names model initial closed) asked)) files out ended →
-    Finishes (solve_names model initial closed) ended err status →
-    Does (over (solving (solve_names model initial closed) asked)) files out err status
-solve_so model closed initial asked files out err ended status tries finishes =
-    let names = solve_names model initial closed in
+pub solve_so : (names : Names) (asked : Lots → Type 0) (files : Reading) (out err : Output)
+    (ended : Result (Unit {0}) Refusal) (status : Status) → Tries (over (solving names asked)) files out ended →
+    Finishes names ended err status → Does (over (solving names asked)) files out err status
+solve_so names asked files out err ended status tries finishes =
     judged_so names (solving names asked).prints files out err ended status tries finishes
-    (λ sent p. solved_went files.held model closed initial p.0 sent p.2) (λ sent p. (_, p.2.text))
+    (λ sent p. solved_went files.held names p.0 sent p.2) (λ sent p. (_, p.2.text))
 
 pub solve_more : (names : Names) (asked more : Lots → Type 0) (files : Reading) (out err : Output) (status : Status) →
     ((l : Lots) → asked l → more l) → Does (over (solving names asked)) files out err status →

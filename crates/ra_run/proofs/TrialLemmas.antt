@@ -70,10 +70,11 @@ list_read number held i a0 holds is list =
     (start_text_is_start (trial_word number) i is a0).0
     (told (held (codes "start")) start_text (λ bytes. IsAssignmentOf bytes i a0) holds.start list)
 
-pub start_read : (number : ℕ) (held : Held) (model start : List ℕ) (i : Tables) (a0 : List Machine) →
-    HoldsTrial number held → model ≡ codes "model" → start ≡ codes "start" →
-    IsStart held (solve_names model start None) i a0 → IsTrialStart number i a0
-start_read number held model start i a0 holds model_is start_is read =
+pub start_read : (number : ℕ) (held : Held) (names : Names) (model start : List ℕ) (i : Tables) (a0 : List Machine) →
+    HoldsTrial number held → model ≡ codes "model" → start ≡ codes "start" → names ≡ solve_names model start None →
+    IsStart held names i a0 → IsTrialStart number i a0
+start_read number held names model start i a0 holds model_is start_is names_are is_read =
+    let read = subst (λ (n : Names). IsStart held n i a0) names_are is_read in
     let instance = subst (λ (name : List ℕ). InstanceIs held name None i) model_is read.accepts.instance in
     let list = subst (λ (name : List ℕ). ListIs held name i a0) start_is read.accepts.initial in
     let is = instance_read number held i holds instance in
@@ -101,16 +102,16 @@ unfolding status_of
 memory_alone Memory is = refl
 memory_alone refusal is = cc
 
-pub only_memory : (number : ℕ) (held : Held) (model start : List ℕ) (refusal : Refusal) → HoldsTrial number held →
-    model ≡ codes "model" → start ≡ codes "start" → Reason held (solve_names model start None) (λ name. 0) (λ name. 0)
-    Nothing refusal → refusal ≡ Memory
-only_memory number held model start refusal holds model_is start_is reason =
+pub only_memory : (number : ℕ) (held : Held) (names : Names) (model start : List ℕ) (refusal : Refusal) →
+    HoldsTrial number held → model ≡ codes "model" → start ≡ codes "start" → names ≡ solve_names model start None →
+    Reason held names (λ name. 0) (λ name. 0) Nothing refusal → refusal ≡ Memory
+only_memory number held names model start refusal holds model_is start_is names_are reason =
     let valid = subst (λ (name : List ℕ). AreAccepted held (solve_names (codes "model") name None)) (sym start_is)
     (accepted number held holds) in
     let named = subst (λ (name : List ℕ). AreAccepted held (solve_names name start None)) (sym model_is) valid in
+    let all = subst (AreAccepted held) (sym names_are) named in
     memory_alone refusal (⊎_elim (λ (none : ⊥). absurd none) (λ (memory : status_of refusal ≡ NoMemory). memory)
-    (own_left held (solve_names model start None) (λ name. 0) (λ name. 0) Nothing named (λ f is rose. never_rose rose)
-    refusal reason))
+    (own_left held names (λ name. 0) (λ name. 0) Nothing all (λ f is rose. never_rose rose) refusal reason))
 
 -- the start fits its instance and breaks nothing
 pub start_fitting : (number : ℕ) (i : Tables) (a0 : List Machine) → IsTrialStart number i a0 → IsAssignment i a0

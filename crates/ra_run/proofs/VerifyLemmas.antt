@@ -1,6 +1,6 @@
 -- How `verify` ends, from how its stages end.
 use Rattle.std.proofs.Common.{◌≡◌, ◌≢◌, ◌⊎◌, ℕ, ◌≤◌, List, Option, Some, None, Result, Err, IfSome, IsSome, inl, inr}
-use Rattle.std.proofs.Common.{⊎_elim, refl, sym, ◌∙◌, subst}
+use Rattle.std.proofs.Common.{true, ⊎_elim, refl, sym, ◌∙◌, subst}
 use Rattle.ra_base.specs.declared.causes.Cause.{Cause}
 use Rattle.ra_base.specs.declared.ids.Machine.{Machine}
 use Rattle.ra_draws.specs.declared.budgets.Lots.{Lots}
@@ -10,15 +10,17 @@ use Rattle.ra_model.specs.Feasible.{Feasible}
 use Rattle.ra_model.specs.Limits.{WellFormed, Small}
 use Rattle.ra_model.specs.declared.raw.Tables.{Tables}
 use Rattle.ra_model.proofs.BrokenLemmas.{unbroken_from_feasible}
+use Rattle.ra_token.proofs.ToldLemmas.{told_then}
 use Rattle.ra_verify.specs.WrongLines.{IsWrongLine, IsReport}
 use Rattle.ra_verify.specs.declared.faults.VerifyFault.{VerifyFault}
 use Rattle.ra_verify.specs.declared.faults.VerifyFault.TheVariants as fault
 use Rattle.ra_verify.proofs.AnswerLemmas.{one_wrong_line}
 use Rattle.ra_verify.proofs.LimitLemmas.{report_has_none_wrong}
 use Rattle.ra_io.specs.Outside.{Reading, Took}
+use Rattle.ra_jobs.specs.declared.refusals.File.{File}
 use Rattle.ra_jobs.specs.declared.refusals.File.TheVariants as file
 use Rattle.ra_jobs.specs.declared.refusals.Refusal.{Refusal}
-use Rattle.ra_jobs.specs.declared.refusals.Refusal.TheVariants.{Read, Model, Closed, Assign, Broken, Wrong as WrongLine}
+use Rattle.ra_jobs.specs.declared.refusals.Refusal.TheVariants.{Read, Broken, Wrong as WrongLine}
 use Rattle.ra_jobs.specs.declared.refusals.Refusal.TheVariants.{Write, Memory}
 use Rattle.ra_jobs.specs.declared.refusals.Role.{Role}
 use Rattle.ra_jobs.specs.declared.refusals.Role.TheVariants as role
@@ -28,20 +30,21 @@ use Rattle.ra_jobs.specs.Comes.{KnownTo, InfeasibleComes}
 use Rattle.ra_jobs.specs.Complete.{AreValid}
 use Rattle.ra_jobs.specs.Commands.{These, over}
 use Rattle.ra_jobs.specs.Ends.{Does, Tries, Finishes, Leaves}
-use Rattle.ra_jobs.specs.Files.{Held, Faults, Names, name_of, Passes, solve_names, verify_names}
+use Rattle.ra_jobs.specs.Files.{Held, Faults, Names, name_of, is_up_to, IsNamed, Passes}
 use Rattle.ra_jobs.specs.Lines.{refusal_line}
 use Rattle.ra_jobs.specs.Output.{Output, BrokeOff, Put}
-use Rattle.ra_jobs.specs.Refusals.{Reason, Nothing, RoleBreaks, CanTell}
-use Rattle.ra_jobs.specs.Stages.{IsStart}
+use Rattle.ra_jobs.specs.Refusals.{Reason, RoleBreaks, CanTell}
+use Rattle.ra_jobs.specs.Stages.{IsStart, StartReason}
 use Rattle.ra_jobs.specs.Statuses.{status_of}
-use Rattle.ra_jobs.proofs.ComesLemmas.{Listed, Went, infeasible_of, passed_went, told_of}
+use Rattle.ra_jobs.proofs.ComesLemmas.{Listed, Went, breaks_listed, infeasible_of, known_model, own_known, passed_went}
+use Rattle.ra_jobs.proofs.ComesLemmas.{told_closed, told_role}
 use Rattle.ra_jobs.proofs.CompleteLemmas.{OwnRefused, is_done, complete_own}
 use Rattle.ra_jobs.proofs.BareLemmas.{bare}
 use Rattle.ra_jobs.proofs.DoesLemmas.{does_so, does_more, infeasible_not, memory_refused}
 use Rattle.ra_jobs.proofs.EndLemmas.{Ends, EndsOver, finished, left_so}
 use Rattle.ra_jobs.proofs.RepairLemmas.{of_these}
-use Rattle.ra_jobs.proofs.MeaningLemmas.{no_model, no_closed, no_initial, no_initial_break, instances_same, lists_same}
-use Rattle.ra_jobs.proofs.StageLemmas.{can_tell, rose_later, reason_more}
+use Rattle.ra_jobs.proofs.MeaningLemmas.{told_gives, no_break, instances_same, lists_same}
+use Rattle.ra_jobs.proofs.StageLemmas.{breaks_start, can_tell, rose_later, reason_more}
 use Rattle.ra_run.specs.Verifying.{CountReason, IsCounted, IsRead, IsRightAt, IsRightReport, IsSolved, IsWrongAt}
 use Rattle.ra_run.specs.Verifying.{IsWrongReport, ReportWrong, VerdictComes, VerifyPrinted, VerifyOwn, refused_by}
 use Rattle.ra_run.specs.Verifying.{verifying}
@@ -49,52 +52,6 @@ use Rattle.ra_run.proofs.AlikeLemmas.{wrong_line_same, is_report_same}
 use Rattle.ra_run.proofs.SolveLemmas.{solved}
 
 -- ---- the stages
-
-pub start_for : (held : Held) (model : List ℕ) (closed : Option (List ℕ)) (initial report : List ℕ) (i : Tables)
-    (a0 : List Machine) → IsStart held (solve_names model initial closed) i a0 →
-    IsStart held (verify_names model initial report closed) i a0
-start_for held model closed initial report i a0 start = record {
-  accepts = record { instance = start.accepts.instance; initial = start.accepts.initial; changed = tt };
-  fits = start.fits;
-}
-
--- a refusal of the files before the report
-pub reason_before : (held : Held) (model : List ℕ) (closed : Option (List ℕ)) (initial report : List ℕ)
-    (before now : Faults) (own : Refusal → Type 0) (refusal : Refusal) →
-    Reason held (solve_names model initial closed) before now Nothing refusal →
-    Reason held (verify_names model initial report closed) before now own refusal
-unfolding name_of
-reason_before held model closed initial report before now own (Read file.Model) reason =
-    record { earlier = tt; named = tt; rose = reason.rose }
-reason_before held model closed initial report before now own (Read file.Closed) reason = record {
-  earlier = reason.earlier;
-  named = reason.named;
-  rose = reason.rose;
-}
-reason_before held model closed initial report before now own (Read file.Initial) reason = record {
-  earlier = reason.earlier;
-  named = reason.named;
-  rose = reason.rose;
-}
-reason_before held model closed initial report before now own (Read file.Changed) reason =
-    absurd (let none = reason.named in cc)
-reason_before held model closed initial report before now own (Read file.Report) reason =
-    absurd (let none = reason.named in cc)
-reason_before held model closed initial report before now own (Read file.Edits) reason =
-    absurd (let none = reason.named in cc)
-reason_before held model closed initial report before now own (Model fault) reason = reason
-reason_before held model closed initial report before now own (Closed fault) reason = reason
-reason_before held model closed initial report before now own (Assign role.Initial fault) reason = record {
-  tables = reason.tables;
-  instance = reason.instance;
-  name = reason.name;
-  named = reason.named;
-  refused = reason.refused;
-}
-reason_before held model closed initial report before now own (Assign role.Changed fault) reason =
-    absurd (let none = reason.named in cc)
-reason_before held model closed initial report before now own Memory reason = tt
-reason_before held model closed initial report before now own refusal reason = absurd reason
 
 passes_from : (held : Held) (names : Names) (i : Tables) (a0 : List Machine) → IsStart held names i a0 →
     Feasible i a0 a0 → Passes held names i a0 a0
@@ -116,61 +73,50 @@ solved_so held names i a0 l n bytes limits start feasible right = record {
   none_wrong = right.none_wrong;
 }
 
-some_then : (told : Option (List ℕ)) (P Q : List ℕ → Type 0) → ((bytes : List ℕ) → P bytes → Q bytes) → IfSome told P →
-    IfSome told Q
-some_then None P Q step is = tt
-some_then (Some bytes) P Q step is = step bytes is
+pub read_so : (held later : Held) (names : Names) (i : Tables) (a0 : List Machine) (l : Lots) (n : ℕ) →
+    ((other : List ℕ) → later other ≡ held other) → WellFormed i → IsStart held names i a0 →
+    IsCounted later (name_of names file.Report) i a0 l n → IsRead held names l n
+read_so held later names i a0 l n same limits start counted = record {
+  tables = i;
+  a0 = a0;
+  passes = passes_from held names i a0 start counted.start;
+  report = told_then {P = IsRightAt i a0 l n} {Q = IsSolved held names l n} (held (name_of names file.Report))
+      (rw (sym (same (name_of names file.Report))) counted.report)
+      (λ bytes right. solved_so held names i a0 l n bytes limits start counted.start right);
+}
 
-pub read_so : (held later : Held) (model : List ℕ) (closed : Option (List ℕ)) (initial report : List ℕ) (i : Tables)
-    (a0 : List Machine) (l : Lots) (n : ℕ) → ((other : List ℕ) → later other ≡ held other) → WellFormed i →
-    IsStart held (solve_names model initial closed) i a0 → IsCounted later report i a0 l n →
-    IsRead held (verify_names model initial report closed) l n
-unfolding name_of
-read_so held later model closed initial report i a0 l n same limits read counted =
-    let names = verify_names model initial report closed in
-    let start = start_for held model closed initial report i a0 read in
-    record {
+pub reason_count : (held later : Held) (names : Names) (i : Tables) (a0 : List Machine) (l : Lots)
+    (first before now : Faults) (written : Type 0) → ((other : List ℕ) → later other ≡ held other) →
+    ((other : List ℕ) → first other ≤ before other) → IsNamed names file.Initial → IsNamed names file.Report →
+    IsStart held names i a0 → (refusal : Refusal) →
+    CountReason later (name_of names file.Report) i a0 l before now refusal →
+    Reason held names first now (VerifyOwn held names l written) refusal
+reason_count held later names i a0 l first before now written same never_fell initial report start
+    (Broken role.Initial cause) reason = breaks_start held names i a0 initial start.accepts cause reason
+reason_count held later names i a0 l first before now written same never_fell initial report start (Read file.Report)
+    reason = record {
+      earlier = (i, a0, passes_from held names i a0 start reason.0);
+      named = report;
+      rose = rose_later _ _ _ (never_fell (name_of names file.Report)) reason.1;
+    }
+reason_count held later names i a0 l first before now written same never_fell initial report start (WrongLine line)
+    reason = record {
       tables = i;
       a0 = a0;
-      passes = passes_from held names i a0 start counted.start;
-      report = some_then (held report) (IsRightAt i a0 l n) (IsSolved held names l n)
-          (λ bytes right. solved_so held names i a0 l n bytes limits start counted.start right)
-          (rw (sym (same report)) counted.report);
+      passes = passes_from held names i a0 start reason.0;
+      wrong = rw (sym (same (name_of names file.Report))) reason.1;
     }
+reason_count held later names i a0 l first before now written same never_fell initial report start Memory reason = tt
+reason_count held later names i a0 l first before now written same never_fell initial report start refusal reason =
+    absurd reason
 
-pub reason_count : (held later : Held) (model : List ℕ) (closed : Option (List ℕ)) (initial report : List ℕ)
-    (i : Tables) (a0 : List Machine) (l : Lots) (first before now : Faults) (written : Type 0) →
-    ((other : List ℕ) → later other ≡ held other) → ((other : List ℕ) → first other ≤ before other) →
-    IsStart held (solve_names model initial closed) i a0 → (refusal : Refusal) →
-    CountReason later report i a0 l before now refusal
-    → Reason held (verify_names model initial report closed) first now
-    (VerifyOwn held (verify_names model initial report closed) l written) refusal
-unfolding name_of
-reason_count held later model closed initial report i a0 l first before now written same never_fell read
-    (Broken role.Initial cause) reason =
-    let start = start_for held model closed initial report i a0 read in
-    record { tables = i; a0 = a0; a = a0; named = refl; accepts = start.accepts; broken = reason }
-reason_count held later model closed initial report i a0 l first before now written same never_fell read
-    (Read file.Report) reason =
-    let start = start_for held model closed initial report i a0 read in
-    record {
-      earlier = (i, a0, passes_from held (verify_names model initial report closed) i a0 start reason.0);
-      named = refl;
-      rose = rose_later (first report) (before report) (now report) (never_fell report) reason.1;
-    }
-reason_count held later model closed initial report i a0 l first before now written same never_fell read
-    (WrongLine line) reason =
-    let start = start_for held model closed initial report i a0 read in
-    record {
-      tables = i;
-      a0 = a0;
-      passes = passes_from held (verify_names model initial report closed) i a0 start reason.0;
-      wrong = rw (sym (same report)) reason.1;
-    }
-reason_count held later model closed initial report i a0 l first before now written same never_fell read Memory reason =
-    tt
-reason_count held later model closed initial report i a0 l first before now written same never_fell read refusal
-    reason = absurd reason
+-- the initial list is not feasible, or memory was refused
+pub start_count : (held : Held) (name : List ℕ) (i : Tables) (a0 : List Machine) (l : Lots) (before now : Faults)
+    (refusal : Refusal) → StartReason i a0 ⊥ refusal → CountReason held name i a0 l before now refusal
+start_count held name i a0 l before now (Broken role.Initial cause) reason = reason
+start_count held name i a0 l before now (Broken role.Changed cause) reason = absurd reason
+start_count held name i a0 l before now Memory reason = tt
+start_count held name i a0 l before now refusal reason = absurd reason
 
 pub wrong_so : (i : Tables) (a0 : List Machine) (l : Lots) (told : Option (List ℕ)) (line : ℕ) → WellFormed i →
     Small i → IsAssignment i a0 → Feasible i a0 a0 → IfSome told (λ bytes. IsWrongLine i a0 l bytes (Some line)) →
@@ -193,8 +139,8 @@ fault_so held name i a0 l before now told fault.ReadFault limits small fits star
 fault_so held name i a0 l before now told (fault.Wrong line) limits small fits start is wrong rose = (
   start,
   wrong_so i a0 l (held name) line limits small fits start
-      (some_then (held name) (λ bytes. (n : ℕ) → told ≡ Err (fault.Wrong n) → IsWrongLine i a0 l bytes (Some n))
-      (λ bytes. IsWrongLine i a0 l bytes (Some line)) (λ bytes each. each line is) wrong),
+      (told_then {P = λ bytes. (n : ℕ) → told ≡ Err (fault.Wrong n) → IsWrongLine i a0 l bytes (Some n)}
+      {Q = λ bytes. IsWrongLine i a0 l bytes (Some line)} (held name) wrong (λ bytes each. each line is)),
 )
 fault_so held name i a0 l before now told fault.NoMemory limits small fits start is wrong rose = tt
 
@@ -220,12 +166,8 @@ verified_went held names l sent v = passed_went held names v.read.tables v.read.
 
 pub own_listed : (held : Held) (names : Names) (l : Lots) (written : Type 0) → (written → Went held names) →
     (refusal : Refusal) → VerifyOwn held names l written refusal → Listed held names
-own_listed held names l written went (Broken role.Initial cause) reason = record {
-  tables = reason.tables;
-  a0 = reason.a0;
-  a = reason.a;
-  accepts = reason.accepts;
-}
+own_listed held names l written went (Broken role.Initial cause) reason =
+    breaks_listed held names role.Initial cause reason
 own_listed held names l written went (WrongLine line) reason = record {
   tables = reason.tables;
   a0 = reason.a0;
@@ -268,48 +210,10 @@ unfolding status_of
 own_wrong held names l written before now (WrongLine line) reason e = (line, reason)
 own_wrong held names l written before now refusal reason e = absurd (cc)
 
--- over known files that pass, a refusal is one of its own or of memory
-own_left : (held : Held) (model : List ℕ) (closed : Option (List ℕ)) (initial report : List ℕ) (before now : Faults)
-    (own : Refusal → Type 0) (i : Tables) (a0 : List Machine) →
-    Passes held (verify_names model initial report closed) i a0 a0 →
-    KnownTo held (verify_names model initial report closed) before now file.Report → (refusal : Refusal) →
-    Reason held (verify_names model initial report closed) before now own refusal → own refusal
-    ⊎ (status_of refusal ≡ NoMemory)
-unfolding name_of status_of
-own_left held model closed initial report before now own i a0 passes known (Read file.Model) reason =
-    absurd ((known file.Model refl tt).1 reason.rose)
-own_left held model closed initial report before now own i a0 passes known (Read file.Closed) reason =
-    absurd ((known file.Closed refl reason.named).1 reason.rose)
-own_left held model closed initial report before now own i a0 passes known (Read file.Initial) reason =
-    absurd ((known file.Initial refl reason.named).1 reason.rose)
-own_left held model closed initial report before now own i a0 passes known (Read file.Changed) reason =
-    absurd (let none = reason.named in cc)
-own_left held model closed initial report before now own i a0 passes known (Read file.Report) reason =
-    absurd ((known file.Report refl reason.named).1 reason.rose)
-own_left held model closed initial report before now own i a0 passes known (Read file.Edits) reason =
-    absurd (let none = reason.named in cc)
-own_left held model closed initial report before now own i a0 passes known (Model fault) reason =
-    absurd (no_model held model (known file.Model refl tt).0 fault reason passes.accepts.instance.model
-    passes.accepts.instance.read)
-own_left held model closed initial report before now own i a0 passes known (Closed fault) reason =
-    absurd (no_closed held model closed (known file.Model refl tt).0 (told_of held closed _ (known file.Closed refl))
-    fault reason i
-    passes.accepts.instance)
-own_left held model closed initial report before now own i a0 passes known (Assign role.Initial fault) reason =
-    absurd (no_initial held (verify_names model initial report closed) (known file.Model refl tt).0
-    (told_of held closed _ (known file.Closed refl))
-    (told_of held (Some initial) _ (known file.Initial refl)) fault reason i a0 passes.accepts.instance
-    passes.accepts.initial)
-own_left held model closed initial report before now own i a0 passes known (Assign role.Changed fault) reason =
-    absurd (let none = reason.named in cc)
-own_left held model closed initial report before now own i a0 passes known Memory reason = inr refl
-own_left held model closed initial report before now own i a0 passes known refusal reason = inl reason
-
--- a told report has one wrong line, or none
-told_not : (told : Option (List ℕ)) → IsSome told → (P Q : List ℕ → Type 0) →
-    ((bytes : List ℕ) → P bytes → Q bytes → ⊥) → IfSome told P → IfSome told Q → ⊥
-told_not None some P Q never p q = absurd (cc)
-told_not (Some bytes) some P Q never p q = never bytes p q
+-- no file is read after the report
+last_report : (f : File) → is_up_to f file.Report ≡ true
+last_report file.Report = refl
+last_report f = refl
 
 solved_passes : (held : Held) (names : Names) (l : Lots) (n : ℕ) (bytes : List ℕ) (s : IsSolved held names l n bytes) →
     Passes held names s.solved.tables s.solved.a0 s.solved.a0
@@ -328,40 +232,43 @@ AllWrong held names l line =
 abbrev AllRight : Held → Names → Lots → Type 0
 AllRight held names l = (i : Tables) (a0 : List Machine) → Passes held names i a0 a0 → IsRightReport held names i a0 l
 
-module _ (held : Held) (model : List ℕ) (closed : Option (List ℕ)) (initial report : List ℕ) (before now : Faults)
-    (i : Tables) (a0 : List Machine) (passes : Passes held (verify_names model initial report closed) i a0 a0)
-    (known : KnownTo held (verify_names model initial report closed) before now file.Report) where
-  abbrev these : Names
-  these = verify_names model initial report closed
+module _ (held : Held) (names : Names) (before now : Faults) (initial : IsSome names.initial)
+    (known : KnownTo held names before now file.Report) (i : Tables) (a0 : List Machine)
+    (passes : Passes held names i a0 a0) where
+  instance_same : (j : Tables) (b0 : List Machine) → Passes held names j b0 b0 → bare i ≡ bare j
+  instance_same j b0 other = instances_same held names.model names.closed
+      (known_model held names before now file.Report known)
+      (told_closed held names before now file.Report refl known) i j passes.accepts.instance other.accepts.instance
 
-  instance_same : (j : Tables) (b0 : List Machine) → Passes held these j b0 b0 → bare i ≡ bare j
-  unfolding name_of
-  instance_same j b0 other = instances_same held model closed (known file.Model refl tt).0
-      (told_of held closed _ (known file.Closed refl)) i j
-      passes.accepts.instance other.accepts.instance
+  start_same : (j : Tables) (b0 : List Machine) → Passes held names j b0 b0 → a0 ≡ b0
+  start_same j b0 other = lists_same held names.initial
+      (told_role held names before now role.Initial file.Report refl known) initial i j a0 b0 passes.accepts.initial
+      other.accepts.initial
 
-  start_same : (j : Tables) (b0 : List Machine) → Passes held these j b0 b0 → a0 ≡ b0
-  unfolding name_of
-  start_same j b0 other = lists_same held (Some initial) (told_of held (Some initial) _ (known file.Initial refl))
-      refl i j a0 b0
-      passes.accepts.initial other.accepts.initial
-
-  all_wrong : (l : Lots) (line : ℕ) → IsWrongReport held these i a0 l line → AllWrong held these l line
+  all_wrong : (l : Lots) (line : ℕ) → IsWrongReport held names i a0 l line → AllWrong held names l line
   all_wrong l line wrong j b0 other =
-      some_then (held (name_of these file.Report)) (λ bytes. IsWrongLine i a0 l bytes (Some line))
-      (λ bytes. IsWrongLine j b0 l bytes (Some line))
+      told_then {P = λ bytes. IsWrongLine i a0 l bytes (Some line)} {Q = λ bytes. IsWrongLine j b0 l bytes (Some line)}
+      (held (name_of names file.Report)) wrong
       (λ bytes is. subst (λ (a : List Machine). IsWrongLine j a l bytes (Some line)) (start_same j b0 other)
-      (wrong_line_same i j (instance_same j b0 other) a0 l bytes (Some line) is)) wrong
+      (wrong_line_same i j (instance_same j b0 other) a0 l bytes (Some line) is))
 
-  all_right : (l : Lots) → IsRightReport held these i a0 l → AllRight held these l
+  all_right : (l : Lots) → IsRightReport held names i a0 l → AllRight held names l
   all_right l right j b0 other =
-      some_then (held (name_of these file.Report)) (λ bytes. (n : ℕ) × IsReport i a0 l bytes n)
-      (λ bytes. (n : ℕ) × IsReport j b0 l bytes n)
+      told_then {P = λ bytes. (n : ℕ) × IsReport i a0 l bytes n} {Q = λ bytes. (n : ℕ) × IsReport j b0 l bytes n}
+      (held (name_of names file.Report)) right
       (λ bytes is. (
         is.0,
         subst (λ (a : List Machine). IsReport j a l bytes is.0) (start_same j b0 other)
             (is_report_same i j (instance_same j b0 other) a0 l bytes is.0 is.1),
-      )) right
+      ))
+
+  -- the initial list breaks no constraint
+  no_start_breaks : (cause : Cause) → RoleBreaks held names role.Initial cause → ⊥
+  no_start_breaks cause breaks =
+      let told = told_role held names before now role.Initial file.Report refl known in
+      no_break held names role.Initial (known_model held names before now file.Report known)
+      (told_closed held names before now file.Report refl known) told told cause breaks i a0 a0 passes.accepts
+      passes.initial
 
 -- no report is accepted that has a wrong line
 read_not : (held : Held) (names : Names) (l : Lots) (line n : ℕ) → IsSome (held (name_of names file.Report)) →
@@ -381,64 +288,42 @@ read_not held names l line n told wrong read = go (held (name_of names file.Repo
 wrong_not : (held : Held) (names : Names) (l : Lots) (line : ℕ) → IsSome (held (name_of names file.Report)) →
     AllRight held names l → ReportWrong held names l line → ⊥
 wrong_not held names l line told right wrong =
-    told_not (held (name_of names file.Report)) told (IsWrongAt wrong.tables wrong.a0 l line)
-    (λ bytes. (n : ℕ) × IsReport wrong.tables wrong.a0 l bytes n)
+    told_gives ⊥ (IsWrongAt wrong.tables wrong.a0 l line)
+    (λ bytes. (n : ℕ) × IsReport wrong.tables wrong.a0 l bytes n) (held (name_of names file.Report)) told
     (λ bytes is report. is.no_report report.0 report.1) wrong.wrong (right wrong.tables wrong.a0 wrong.passes)
 
-wrong_own : (held : Held) (model : List ℕ) (closed : Option (List ℕ)) (initial report : List ℕ) (before now : Faults)
-    (l : Lots) (sent : List ℕ → Type 0) (i : Tables) (a0 : List Machine) →
-    Passes held (verify_names model initial report closed) i a0 a0 →
-    KnownTo held (verify_names model initial report closed) before now file.Report → (line : ℕ) →
-    AllWrong held (verify_names model initial report closed) l line
-    → (refusal : Refusal) → VerifyOwn held (verify_names model initial report closed) l
-    (VerifyPrinted held (verify_names model initial report closed) l sent) refusal → status_of refusal ≡ Wrong
-unfolding name_of status_of
-wrong_own held model closed initial report before now l sent i a0 passes known line wrong (Broken role.Initial cause)
-    reason =
-    absurd (no_initial_break held (verify_names model initial report closed) (known file.Model refl tt).0
-    (told_of held closed _ (known file.Closed refl)) (told_of held (Some initial) _ (known file.Initial refl)) cause
-    reason i a0 a0 passes.accepts
-    passes.initial)
-wrong_own held model closed initial report before now l sent i a0 passes known line wrong (WrongLine other) reason =
-    refl
-wrong_own held model closed initial report before now l sent i a0 passes known line wrong Write reason =
-    absurd (read_not held (verify_names model initial report closed) l line reason.entries
-    (known file.Report refl refl).0 wrong
-    reason.read)
-wrong_own held model closed initial report before now l sent i a0 passes known line wrong refusal reason = absurd reason
+wrong_own : (held : Held) (names : Names) (before now : Faults) (l : Lots) (sent : List ℕ → Type 0) →
+    IsSome names.initial → IsSome names.report → KnownTo held names before now file.Report → (i : Tables)
+    (a0 : List Machine) → Passes held names i a0 a0 → (line : ℕ) → AllWrong held names l line → (refusal : Refusal) →
+    VerifyOwn held names l (VerifyPrinted held names l sent) refusal → status_of refusal ≡ Wrong
+unfolding status_of
+wrong_own held names before now l sent initial report known i a0 passes line wrong (Broken role.Initial cause) reason =
+    absurd (no_start_breaks held names before now initial known i a0 passes cause reason)
+wrong_own held names before now l sent initial report known i a0 passes line wrong (WrongLine other) reason = refl
+wrong_own held names before now l sent initial report known i a0 passes line wrong Write reason =
+    absurd (read_not held names l line reason.entries (known file.Report refl report).0 wrong reason.read)
+wrong_own held names before now l sent initial report known i a0 passes line wrong refusal reason = absurd reason
 
-right_own : (held : Held) (model : List ℕ) (closed : Option (List ℕ)) (initial report : List ℕ) (before now : Faults)
-    (l : Lots) (sent : List ℕ → Type 0) (i : Tables) (a0 : List Machine) →
-    Passes held (verify_names model initial report closed) i a0 a0 →
-    KnownTo held (verify_names model initial report closed) before now file.Report →
-    AllRight held (verify_names model initial report closed) l
-    → (refusal : Refusal) → VerifyOwn held (verify_names model initial report closed) l
-    (VerifyPrinted held (verify_names model initial report closed) l sent) refusal → status_of refusal ≡ WriteFault
-unfolding name_of status_of
-right_own held model closed initial report before now l sent i a0 passes known right (Broken role.Initial cause)
-    reason =
-    absurd (no_initial_break held (verify_names model initial report closed) (known file.Model refl tt).0
-    (told_of held closed _ (known file.Closed refl)) (told_of held (Some initial) _ (known file.Initial refl)) cause
-    reason i a0 a0 passes.accepts
-    passes.initial)
-right_own held model closed initial report before now l sent i a0 passes known right (WrongLine line) reason =
-    absurd (wrong_not held (verify_names model initial report closed) l line (known file.Report refl refl).0 right
-    reason)
-right_own held model closed initial report before now l sent i a0 passes known right Write reason = refl
-right_own held model closed initial report before now l sent i a0 passes known right refusal reason = absurd reason
+right_own : (held : Held) (names : Names) (before now : Faults) (l : Lots) (sent : List ℕ → Type 0) →
+    IsSome names.initial → IsSome names.report → KnownTo held names before now file.Report → (i : Tables)
+    (a0 : List Machine) → Passes held names i a0 a0 → AllRight held names l → (refusal : Refusal) →
+    VerifyOwn held names l (VerifyPrinted held names l sent) refusal → status_of refusal ≡ WriteFault
+unfolding status_of
+right_own held names before now l sent initial report known i a0 passes right (Broken role.Initial cause) reason =
+    absurd (no_start_breaks held names before now initial known i a0 passes cause reason)
+right_own held names before now l sent initial report known i a0 passes right (WrongLine line) reason =
+    absurd (wrong_not held names l line (known file.Report refl report).0 right reason)
+right_own held names before now l sent initial report known i a0 passes right Write reason = refl
+right_own held names before now l sent initial report known i a0 passes right refusal reason = absurd reason
 
 pub verify_verdict : {held : Held} {before now : Faults} {tells : List ℕ → Type 0} {out_same err_same : Type 0}
-    {status : Status} (model : List ℕ) (closed : Option (List ℕ)) (initial report : List ℕ) (l : Lots)
-    (asked : Lots → Type 0) (prints breaks : List ℕ → Type 0) → asked l
-    → Ends held (verify_names model initial report closed) before now
-    (VerifyPrinted held (verify_names model initial report closed) l prints)
-    (VerifyOwn held (verify_names model initial report closed) l
-    (VerifyPrinted held (verify_names model initial report closed) l breaks)) tells out_same err_same status
-    → VerdictComes held (verify_names model initial report closed) asked before now status
-unfolding name_of
-verify_verdict {held} {before} {now} {tells} {out_same} {err_same} {status} model closed initial report l asked prints
-    breaks is ends =
-    let names = verify_names model initial report closed in
+    {status : Status} (names : Names) (l : Lots) (asked : Lots → Type 0) (prints breaks : List ℕ → Type 0) →
+    IsSome names.initial → IsSome names.report → asked l →
+    Ends held names before now (VerifyPrinted held names l prints)
+    (VerifyOwn held names l (VerifyPrinted held names l breaks)) tells out_same err_same status →
+    VerdictComes held names asked before now status
+verify_verdict {held} {before} {now} {tells} {out_same} {err_same} {status} names l asked prints breaks initial report
+    is ends =
     let own : Refusal → Type 0 = VerifyOwn held names l (VerifyPrinted held names l breaks) in
     record {
       wrong = λ (told : status ≡ Wrong).
@@ -450,18 +335,17 @@ verify_verdict {held} {before} {now} {tells} {out_same} {err_same} {status} mode
           );
       is_wrong = λ i a0 passes known line wrong. ⊎_elim
           (λ (done : status ≡ Done). let v = ends.printed done in
-          absurd (read_not held names l line v.entries (known file.Report refl refl).0
-          (all_wrong held model closed initial report before now i a0 passes known l line (wrong l is))
-          v.read))
+          absurd (read_not held names l line v.entries (known file.Report refl report).0
+          (all_wrong held names before now initial known i a0 passes l line (wrong l is)) v.read))
           (λ (other : status ≢ Done).
           let refused = ends.refused other in
           ⊎_elim
           (λ (reason : own refused.refusal).
-          inl (refused.is ∙ wrong_own held model closed initial report before now l breaks i a0 passes known
-          line (all_wrong held model closed initial report before now i a0 passes known l line (wrong l is))
-          refused.refusal reason))
+          inl (refused.is ∙ wrong_own held names before now l breaks initial report known i a0 passes line
+          (all_wrong held names before now initial known i a0 passes l line (wrong l is)) refused.refusal reason))
           (λ (memory : status_of refused.refusal ≡ NoMemory). inr (refused.is ∙ memory))
-          (own_left held model closed initial report before now own i a0 passes known refused.refusal refused.reason))
+          (own_known held names before now own file.Report known (λ f _ _. last_report f)
+          (record { tables = i; a0 = a0; a = a0; accepts = passes.accepts }) refused.refusal refused.reason))
           (is_done status);
       is_right = λ i a0 passes known right. ⊎_elim
           (λ (done : status ≡ Done). inl done)
@@ -469,11 +353,11 @@ verify_verdict {held} {before} {now} {tells} {out_same} {err_same} {status} mode
           let refused = ends.refused other in
           ⊎_elim
           (λ (reason : own refused.refusal).
-          inr (inl (refused.is ∙ right_own held model closed initial report before now l breaks i a0 passes
-          known (all_right held model closed initial report before now i a0 passes known l (right l is))
-          refused.refusal reason)))
+          inr (inl (refused.is ∙ right_own held names before now l breaks initial report known i a0 passes
+          (all_right held names before now initial known i a0 passes l (right l is)) refused.refusal reason)))
           (λ (memory : status_of refused.refusal ≡ NoMemory). inr (inr (refused.is ∙ memory)))
-          (own_left held model closed initial report before now own i a0 passes known refused.refusal refused.reason))
+          (own_known held names before now own file.Report known (λ f _ _. last_report f)
+          (record { tables = i; a0 = a0; a = a0; accepts = passes.accepts }) refused.refusal refused.reason))
           (is_done status);
     }
 
@@ -484,7 +368,7 @@ unfolding status_of
 valid_own held names l written valid wrote (Broken role.Initial cause) reason =
     let none = unbroken_from_feasible reason.tables reason.a0 reason.a0
     (valid.initial reason.named reason.tables reason.a0 reason.a reason.accepts) in
-    absurd (let both : None ≡ Some cause = sym none ∙ reason.broken in cc)
+    absurd (let both : None ≡ Some cause = sym none ∙ reason.breaks in cc)
 valid_own held names l written valid wrote (WrongLine line) reason = refl
 valid_own held names l written valid wrote Write reason = absurd (wrote reason)
 valid_own held names l written valid wrote refusal reason = absurd reason
@@ -544,14 +428,12 @@ reason_these_lots held names l before now sent =
     reason_more held names before now (VerifyOwn held names l (VerifyPrinted held names l sent))
     ((verifying names (These l)).refuses held sent sent) (λ r own. (l, refl, own))
 
-pub verify_so : (model : List ℕ) (closed : Option (List ℕ)) (initial report : List ℕ) (l : Lots) (files : Reading)
+pub verify_so : (names : Names) (l : Lots) → IsSome names.initial → IsSome names.report → (files : Reading)
     (out err : Output) (ended : Result (Unit {0}) Refusal) (status : Status) →
-    Tries (over (verifying (verify_names model initial report closed) (These l))) files out ended →
-    Finishes (verify_names model initial report closed) ended err status →
-    Does (over (verifying (verify_names model initial report closed) (These l))) files out err status
-verify_so model closed initial report l files out err ended status tries finishes =
+    Tries (over (verifying names (These l))) files out ended → Finishes names ended err status →
+    Does (over (verifying names (These l))) files out err status
+verify_so names l initial report files out err ended status tries finishes =
     let held = files.held in
-    let names = verify_names model initial report closed in
     let c = verifying names (These l) in
     let prints : List ℕ → Type 0 = Took out.sink in
     let breaks : List ℕ → Type 0 = BrokeOff out.sink in
@@ -577,7 +459,7 @@ verify_so model closed initial report l files out err ended status tries finishe
     (λ r p. own_listed held names p.0 (VerifyPrinted held names p.0 breaks) (verified_went held names p.0 breaks) r
     p.2) (
       verify_infeasible exact (verified_went held names l prints) (verified_went held names l breaks),
-      verify_verdict model closed initial report l (These l) prints breaks refl exact,
+      verify_verdict names l (These l) prints breaks initial report refl exact,
     )
     (λ valid sound wrote. verify_complete held names l written status valid (λ broken. wrote broken.text.1)
     (complete_own exact valid.accepted sound))

@@ -20,10 +20,3 @@ pub record IsReported (i : Tables) (a0 : List Machine) (l : Lots) (sent : List �
     pub legal : Legal i a0 l journal
     pub whole : Whole l journal
     pub text : sent (report_text i a0 l journal)
-
--- why a run is refused; `written` is so if writing its report failed
-abbrev pub RunReason : Tables → List Machine → Type 0 → Refusal → Type 0
-RunReason i a0 written (Broken role.Initial cause) = first_broken i a0 a0 ≡ Some cause
-RunReason i a0 written Write = written
-RunReason i a0 written Memory = Unit {0}
-RunReason i a0 written refusal = ⊥

@@ -58,7 +58,7 @@ abbrev pub TrialReason : Type 0 → TrialFault → Type 0
 TrialReason written Write = written
 TrialReason written Memory = Unit {0}
 
--- the reasons of its refusals: the output broke off behind a front of the summary, or memory was refused. There is no
+-- the reasons of its refusals: the output broke off after a front of the summary, or memory was refused. There is no
 -- other
 abbrev pub TrialRefused : ℕ → (List ℕ → Type 0) → Refusal → Type 0
 TrialRefused number broke_off refusal.Write = TrialPrinted number broke_off

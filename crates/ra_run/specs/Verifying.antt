@@ -4,7 +4,6 @@ use Rattle.ra_base.specs.declared.ids.Machine.{Machine}
 use Rattle.ra_draws.specs.declared.budgets.Lots.{Lots}
 use Rattle.ra_io.specs.Faults.{Rose}
 use Rattle.ra_model.specs.declared.raw.Tables.{Tables}
-use Rattle.ra_model.specs.Broken.{first_broken}
 use Rattle.ra_model.specs.Feasible.{Feasible}
 use Rattle.ra_report.specs.JournalTexts.{accepted_line}
 use Rattle.ra_verify.specs.WrongLines.{IsWrongLine, IsReport}
@@ -20,7 +19,8 @@ use Rattle.ra_jobs.specs.Comes.{KnownTo, InfeasibleComes}
 use Rattle.ra_jobs.specs.Commands.{Command, OverFiles, over}
 use Rattle.ra_jobs.specs.Complete.{AreValid}
 use Rattle.ra_jobs.specs.Files.{Held, Faults, Names, name_of, Passes, verify_names}
-use Rattle.ra_jobs.specs.Refusals.{InitialBreaks}
+use Rattle.ra_jobs.specs.Refusals.{RoleBreaks}
+use Rattle.ra_jobs.specs.Stages.{StartReason}
 use Rattle.ra_run.specs.Headline.{SolvePrinted}
 
 -- the bytes are a report of `solve`, the headline, whose journal has so many entries; none of its lines is wrong
@@ -58,7 +58,7 @@ pub record ReportWrong (held : Held) (names : Names) (l : Lots) (line : ℕ) : T
 
 -- its own refusals
 abbrev pub VerifyOwn : Held → Names → Lots → Type 0 → Refusal → Type 0
-VerifyOwn held names l written (Broken role.Initial cause) = InitialBreaks held names cause
+VerifyOwn held names l written (Broken role.Initial cause) = RoleBreaks held names role.Initial cause
 VerifyOwn held names l written (WrongLine line) = ReportWrong held names l line
 VerifyOwn held names l written Write = written
 VerifyOwn held names l written refusal = ⊥
@@ -121,16 +121,15 @@ pub record IsCounted (held : Held) (name : List ℕ) (i : Tables) (a0 : List Mac
   pub start : Feasible i a0 a0
   pub report : IfSome (held name) (IsRightAt i a0 l entries)
 
--- why the report is refused
+-- why the report is refused: the initial list is not feasible; or it is, and reading the report failed or one of its
+-- lines is wrong; or memory was refused
 abbrev pub CountReason : Held → List ℕ → Tables → List Machine → Lots → Faults → Faults → Refusal
     → Type 0
-CountReason held name i a0 l before now (Broken role.Initial cause) = first_broken i a0 a0 ≡ Some cause
 CountReason held name i a0 l before now (Read file.Report) =
     Feasible i a0 a0 × Rose (before name) (now name)
 CountReason held name i a0 l before now (WrongLine line) =
     Feasible i a0 a0 × IfSome (held name) (IsWrongAt i a0 l line)
-CountReason held name i a0 l before now Memory = Unit {0}
-CountReason held name i a0 l before now refusal = ⊥
+CountReason held name i a0 l before now refusal = StartReason i a0 ⊥ refusal
 
 -- the refusal of a job whose report was not accepted
 abbrev pub refused_by : VerifyFault → Refusal

@@ -3,16 +3,18 @@ ghost use Rattle.ra_io.specs.Outside.{reading};
 ghost use Rattle.ra_words.specs.Jobs.{HasOneLot, job_of};
 ghost use Rattle.ra_words.specs.Said.{said};
 ghost use Rattle.ra_words.specs.Words.{texts};
-ghost use Rattle.ra_jobs.specs.Ends.{Does, Leaves};
+ghost use Rattle.ra_jobs.specs.Ends.{Does, DoesOutside, Leaves};
 ghost use Rattle.ra_jobs.specs.Output.{output};
 ghost use Rattle.ra_run.specs.Commands.{UsageComes, command_of};
 
-use crate::solve::solve_run;
+use crate::solve::solve_job;
 use crate::trial::trial_run;
-use crate::verify::verify_run;
-use ra_edit_job::edit_run;
+use crate::verify::verify_job;
+use ra_edit_job::edit_job;
 use ra_io::{Files, Gate, Sink};
-use ra_jobs::{Status, bound_run, check_run, refuse_memory, refuse_words, repair_run};
+use ra_jobs::{
+    JobFiles, Outside, Status, bound_job, check_job, refuse_memory, refuse_words, repair_job,
+};
 use ra_words::{Job, WordsFault, read_words};
 use std::alloc::Global;
 use std::marker::Sync;
@@ -43,7 +45,7 @@ pub fn run<R: Threads + Wait + Sync, F: Files, O: Sink, E: Sink, G: Gate>(
 {
     match read_words(alloc, words) {
         Ok(job) => {
-            let status = do_job(rt, alloc, &job, files, out, err, gate);
+            let status = do_job(rt, alloc, &job, Outside { files, out, err }, gate);
             drop(job);
             status
         }
@@ -57,14 +59,12 @@ fn do_job<R: Threads + Wait + Sync, F: Files, O: Sink, E: Sink, G: Gate>(
     rt: &R,
     alloc: Global,
     job: &Job,
-    files: &mut F,
-    out: &mut O,
-    err: &mut E,
+    outside: Outside<'_, F, O, E>,
     gate: &G,
 ) -> Status
     requires { HasOneLot (said job.now) }
-    ensures { Does (command_of (said job.now)) (reading F.Files files.old files.new)
-        (output O.Sink out.old out.new) (output E.Sink err.old err.new) result }
+    ensures { DoesOutside F.Files O.Sink E.Sink (command_of (said job.now))
+        outside.entry outside.exit result }
 {
     match job {
         Job::Check {
@@ -72,95 +72,59 @@ fn do_job<R: Threads + Wait + Sync, F: Files, O: Sink, E: Sink, G: Gate>(
             initial,
             changed,
             closed,
-        } => check_run(
-            alloc,
-            model,
-            initial,
-            changed,
-            closed.as_ref(),
-            files,
-            out,
-            err,
-        ),
+        } => {
+            let names = JobFiles::of_check(model, initial, changed, closed.as_ref());
+            check_job(alloc, &names, outside)
+        }
         Job::Bound {
             model,
             initial,
             closed,
-        } => bound_run(
-            alloc,
-            model,
-            initial.as_ref(),
-            closed.as_ref(),
-            files,
-            out,
-            err,
-        ),
+        } => {
+            let names = JobFiles::of_bound(model, initial.as_ref(), closed.as_ref());
+            bound_job(alloc, &names, outside)
+        }
         Job::Solve {
             model,
             initial,
             closed,
             lots,
-        } => solve_run(
-            rt,
-            alloc,
-            model,
-            initial,
-            closed.as_ref(),
-            lots,
-            files,
-            out,
-            err,
-            gate,
-        ),
-        Job::Trial { number } => trial_run(rt, alloc, *number, out, err, gate),
+        } => {
+            let names = JobFiles::of_solve(model, initial, closed.as_ref());
+            solve_job(rt, alloc, &names, lots, outside, gate)
+        }
+        Job::Trial { number } => {
+            let Outside { files: _, out, err } = outside;
+            trial_run(rt, alloc, *number, out, err, gate)
+        }
         Job::Repair {
             model,
             initial,
             closed,
             lots,
-        } => repair_run(
-            alloc,
-            model,
-            initial,
-            closed.as_ref(),
-            lots,
-            files,
-            out,
-            err,
-        ),
+        } => {
+            let names = JobFiles::of_solve(model, initial, closed.as_ref());
+            repair_job(alloc, &names, lots, outside)
+        }
         Job::Edit {
             model,
             initial,
             current,
             edits,
             closed,
-        } => edit_run(
-            alloc,
-            model,
-            initial,
-            current,
-            edits,
-            closed.as_ref(),
-            files,
-            out,
-            err,
-        ),
+        } => {
+            let names = JobFiles::of_edit(model, initial, current, edits, closed.as_ref());
+            edit_job(alloc, &names, outside)
+        }
         Job::Verify {
             model,
             initial,
             report,
             closed,
             lots,
-        } => verify_run(
-            alloc,
-            model,
-            initial,
-            report,
-            closed.as_ref(),
-            lots,
-            files,
-            out,
-            err,
-        ),
+        } => {
+            let names = JobFiles::of_verify(model, initial, report, closed.as_ref());
+            verify_job(alloc, &names, lots, outside)
+        }
     }
 }

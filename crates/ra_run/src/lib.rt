@@ -5,6 +5,7 @@
 #![tactic(auto)]
 
 mod job;
+mod opening;
 mod solve;
 mod trial;
 mod verify;

@@ -1,26 +1,26 @@
-ghost use Rattle.std.specs.Prelude.{◌≡◌, ◌≢◌, ◌≤◌, None, OnOk, OnErr, IfErr};
+ghost use Rattle.std.specs.Prelude.{◌≡◌, ◌≢◌, ◌≤◌, OnOk, OnErr, IfErr};
 ghost use Rattle.std.specs.Option.{option_copied};
 ghost use Rattle.ra_io.specs.Outside.{reading, writing, Took};
 ghost use Rattle.ra_bounds.specs.PinnedBounds.{pinned_bound_of};
 ghost use Rattle.ra_model.specs.Assignments.{IsAssignment};
-ghost use Rattle.ra_model.specs.Broken.{first_broken};
-ghost use Rattle.ra_model.specs.Costs.{parts_of};
-ghost use Rattle.ra_model.specs.Feasible.{Feasible};
-ghost use Rattle.ra_topology.specs.Fits.{IsTopologyOf};
 ghost use Rattle.ra_report.specs.JournalTexts.{best_state, text_of};
-ghost use Rattle.ra_jobs.specs.Commands.{These};
-ghost use Rattle.ra_jobs.specs.Ends.{Does, Tries};
+ghost use Rattle.ra_jobs.specs.Commands.{These, over};
+ghost use Rattle.ra_jobs.specs.Ends.{Does, DoesOutside, Tries};
+ghost use Rattle.ra_jobs.specs.Files.{names_of, IsNamed, EndsAt};
 ghost use Rattle.ra_jobs.specs.Output.{output, BrokeOff};
-ghost use Rattle.ra_run.specs.Headline.{solve_command};
-ghost use Rattle.ra_run.specs.Solving.{IsReported, RunReason};
+ghost use Rattle.ra_jobs.specs.Stages.{StartReason};
+ghost use Rattle.ra_run.specs.Headline.{solve_command, solving};
+ghost use Rattle.ra_run.specs.Solving.{IsReported};
 
-use ra_base::{Assignment, Name, Parts};
+use crate::opening::Opening;
+use ra_base::Name;
 use ra_bounds::Bound;
 use ra_check::parts;
 use ra_draws::Lots;
 use ra_io::{Files, Gate, Sink};
-use ra_jobs::{JobFiles, Refusal, Status, bound_from, finish, judge_start, read_start};
-use ra_model::Instance;
+use ra_jobs::{
+    File, JobFiles, Outside, Refusal, Start, Status, bound_from, finish, judge_start, read_start,
+};
 use ra_report::{Desks, WriteFault, write_report_at};
 use ra_topology::Topology;
 use ra_worker_crew::{Prepared, Solved as Run};
@@ -49,36 +49,46 @@ pub fn solve_run<'n, R: Threads + Wait + Sync, F: Files, O: Sink, E: Sink, G: Ga
         (reading F.Files files.old files.new) (output O.Sink out.old out.new)
         (output E.Sink err.old err.new) result }
 {
-    let names = JobFiles {
-        model,
-        closed,
-        initial: Some(initial),
-        changed: None,
-        report: None,
-        edits: None,
-    };
-    let ended = solve(rt, alloc, model, initial, closed, lots, files, out, gate);
-    finish(err, &names, ended)
+    let names = JobFiles::of_solve(model, initial, closed);
+    solve_job(rt, alloc, &names, lots, Outside { files, out, err }, gate)
 }
 
-/// The same but for the line of its refusal.
+/// Does what `solve_run` does, over the files of these names.
+pub(crate) fn solve_job<R: Threads + Wait + Sync, F: Files, O: Sink, E: Sink, G: Gate>(
+    rt: &R,
+    alloc: Global,
+    names: &JobFiles<'_>,
+    lots: &Lots,
+    outside: Outside<'_, F, O, E>,
+    gate: &G,
+) -> Status
+    requires initial { IsNamed (names_of names.now) File.Initial }
+    requires last { EndsAt (names_of names.now) File.Initial }
+    ensures { DoesOutside F.Files O.Sink E.Sink
+        (over (solving (names_of names.now) (These lots.now))) outside.entry outside.exit result }
+{
+    let Outside { files, out, err } = outside;
+    let ended = solve(rt, alloc, names, lots, files, out, gate);
+    finish(err, names, ended)
+}
+
+/// Improves the initial list, and prints the report.
 fn solve<R: Threads + Wait + Sync, F: Files, O: Sink, G: Gate>(
     rt: &R,
     alloc: Global,
-    model: &Name,
-    initial: &Name,
-    closed: Option<&Name>,
+    names: &JobFiles<'_>,
     lots: &Lots,
     files: &mut F,
     out: &mut O,
     gate: &G,
 ) -> Result<(), Refusal>
-    ensures { Tries (solve_command model.now initial.now
-        (option_copied closed.entry) (These lots.now))
+    requires initial { IsNamed (names_of names.now) File.Initial }
+    requires last { EndsAt (names_of names.now) File.Initial }
+    ensures { Tries (over (solving (names_of names.now) (These lots.now)))
         (reading F.Files files.old files.new) (output O.Sink out.old out.new) result }
 {
-    let start = read_start(alloc, model, initial, closed, files)?;
-    let ended = run_from(rt, alloc, &start.inst, &start.initial, lots, out, gate);
+    let start = read_start(alloc, names, files)?;
+    let ended = run_from(rt, alloc, &start, lots, out, gate);
     drop(start);
     ended
 }
@@ -87,77 +97,62 @@ fn solve<R: Threads + Wait + Sync, F: Files, O: Sink, G: Gate>(
 fn run_from<R: Threads + Wait + Sync, O: Sink, G: Gate>(
     rt: &R,
     alloc: Global,
-    inst: &Instance,
-    initial: &Assignment,
+    start: &Start,
     lots: &Lots,
     out: &mut O,
     gate: &G,
 ) -> Result<(), Refusal>
-    requires fits { IsAssignment inst.now.tables initial.now.items }
-    ensures printed { OnOk result (IsReported inst.now.tables initial.now.items lots.now
+    requires fits { IsAssignment start.now.inst.tables start.now.initial.items }
+    ensures printed { OnOk result (IsReported start.now.inst.tables start.now.initial.items lots.now
         (Took (writing O.Sink out.old out.new))) }
-    ensures refused { IfErr result (RunReason inst.now.tables initial.now.items
-        (IsReported inst.now.tables initial.now.items lots.now
+    ensures refused { IfErr result (StartReason start.now.inst.tables start.now.initial.items
+        (IsReported start.now.inst.tables start.now.initial.items lots.now
         (BrokeOff (writing O.Sink out.old out.new)))) }
     ensures no_output { IfErr result (λ refusal. refusal ≢ Refusal.Write → out.new ≡ out.old) }
     ensures out_never_falls { O.faults out.old ≤ O.faults out.new }
 {
+    let Start { inst, initial } = start;
     let mut scratch = judge_start(alloc, inst, initial)?;
-    let start = parts(inst, initial, initial, &mut scratch);
+    let parts = parts(inst, initial, initial, &mut scratch);
     drop(scratch);
-    let Ok(topo) = Topology::make(alloc, inst) else {
-        return Err(Refusal::Memory);
+    let topo = Topology::make(alloc, inst)?;
+    let opening = Opening {
+        inst,
+        topo: &topo,
+        initial,
+        parts,
     };
-    let Ok(mut desks) = Desks::make(alloc, lots.len()) else {
-        return Err(Refusal::Memory);
-    };
-    let ended = run_over(
-        rt, alloc, inst, &topo, initial, lots, start, &mut desks, out, gate,
-    );
+    let ended = run_over(rt, alloc, &opening, lots, out, gate);
     drop(topo);
     ended
 }
 
-/// The run and its report, over the topology of the instance. The start has these parts, and the report is written at these
-/// desks. The bound is made before the memory of the run is taken, so that after it only writing can refuse.
+/// The run and its report. The bound is made before the memory of the run is taken, so that after it only writing can refuse.
 fn run_over<R: Threads + Wait + Sync, O: Sink, G: Gate>(
     rt: &R,
     alloc: Global,
-    inst: &Instance,
-    topo: &Topology,
-    initial: &Assignment,
+    opening: &Opening<'_>,
     lots: &Lots,
-    start: Parts,
-    desks: &mut Desks,
     out: &mut O,
     gate: &G,
 ) -> Result<(), Refusal>
-    requires fits { IsAssignment inst.now.tables initial.now.items }
-    requires feasible { Feasible inst.now.tables initial.now.items initial.now.items }
-    requires unbroken { first_broken inst.now.tables initial.now.items initial.now.items ≡ None }
-    requires topology { IsTopologyOf topo.now inst.now.tables }
-    requires parts { start ≡ parts_of inst.now.tables initial.now.items initial.now.items }
-    ensures printed { OnOk result (IsReported inst.now.tables initial.now.items lots.now
-        (Took (writing O.Sink out.old out.new))) }
-    ensures refused { IfErr result (RunReason inst.now.tables initial.now.items
-        (IsReported inst.now.tables initial.now.items lots.now
-        (BrokeOff (writing O.Sink out.old out.new)))) }
+    ensures printed { OnOk result (IsReported opening.now.inst.now.tables
+        opening.now.initial.now.items lots.now (Took (writing O.Sink out.old out.new))) }
+    ensures refused { IfErr result (StartReason opening.now.inst.now.tables
+        opening.now.initial.now.items (IsReported opening.now.inst.now.tables
+        opening.now.initial.now.items lots.now (BrokeOff (writing O.Sink out.old out.new)))) }
     ensures no_output { IfErr result (λ refusal. refusal ≢ Refusal.Write → out.new ≡ out.old) }
     ensures out_never_falls { O.faults out.old ≤ O.faults out.new }
 {
-    let Ok(bound) = bound_from(alloc, inst, initial) else {
-        return Err(Refusal::Memory);
-    };
-    let Ok(prepared) = Prepared::make(alloc, inst, topo, initial, start, lots) else {
-        return Err(Refusal::Memory);
-    };
+    let (inst, initial) = (opening.inst, opening.initial);
+    let mut desks = Desks::make(alloc, lots.len())?;
+    let bound = bound_from(alloc, inst, initial)?;
+    let prepared = Prepared::make(alloc, inst, opening.topo, initial, opening.parts, lots)?;
     let run = prepared.solve(rt, gate);
-    let ended = report(rt, desks, out, &bound, &run);
+    let ended = report(rt, &mut desks, out, &bound, &run);
     drop(run);
-    match ended {
-        Ok(()) => Ok(()),
-        Err(_) => Err(Refusal::Write),
-    }
+    ended?;
+    Ok(())
 }
 
 /// Writes the report of a run at these desks. It tells this bound.

@@ -1,12 +1,10 @@
 ghost use Rattle.std.specs.Prelude.{◌≡◌, ◌≢◌, ◌≤◌, None, OnOk, OnErr, IfOk, IfErr};
 ghost use Rattle.ra_bounds.specs.PinnedBounds.{pinned_bound_of};
 ghost use Rattle.ra_io.specs.Outside.{LeavesFiles, Reading, writing, Took};
-ghost use Rattle.ra_check.specs.Made.{IsMadeFor};
 ghost use Rattle.ra_journal.specs.Entries.{worker_count};
 ghost use Rattle.ra_model.specs.Assignments.{IsAssignment};
 ghost use Rattle.ra_model.specs.Broken.{first_broken};
 ghost use Rattle.ra_model.specs.Costs.{parts_of};
-ghost use Rattle.ra_topology.specs.Fits.{IsTopologyOf};
 ghost use Rattle.ra_report.specs.JournalTexts.{best_state};
 ghost use Rattle.ra_report.specs.Summaries.{summary_of};
 ghost use Rattle.ra_jobs.specs.Ends.{Does};
@@ -15,13 +13,13 @@ ghost use Rattle.ra_jobs.specs.Lines.{refusal_line};
 ghost use Rattle.ra_jobs.specs.Output.{output, BrokeOff, Put};
 ghost use Rattle.ra_run.specs.Trials.{HoldsTexts, HoldsTrial, IsTrialStart, IsTrialLots, IsSummarized, TrialPrinted, TrialReason, trial_command};
 
-use ra_base::{Assignment, Drawing, Name, NoMemory, Parts};
+use crate::opening::Opening;
+use ra_base::{Drawing, Name, NoMemory, Parts};
 use ra_bounds::Bound;
 use ra_check::{Scratch, parts};
 use ra_draws::{Lot, Lots, Source};
 use ra_io::{Files, Gate, Sink, SteadyFiles};
-use ra_jobs::{Refusal, Start, Status, bound_from, put_line, read_start, refuse_memory};
-use ra_model::Instance;
+use ra_jobs::{JobFiles, Refusal, Start, Status, bound_from, put_line, read_start, refuse_memory};
 use ra_report::{Fault, WriteFault, write_summary};
 use ra_topology::Topology;
 use ra_trial::{TrialText, trial_text};
@@ -48,6 +46,17 @@ impl From<NoMemory> for TrialFault {
 
     fn from(_: NoMemory) -> TrialFault {
         TrialFault::Memory
+    }
+}
+
+impl From<WriteFault> for TrialFault {
+    ghost use Rattle.std.specs.Prelude.{◌≡◌};
+    ghost use Rattle.ra_run.specs.declared.trial.TrialFault.TheVariants.{Write};
+
+    ghost from_gives = { λ _ e. e ≡ Write };
+
+    fn from(_: WriteFault) -> TrialFault {
+        TrialFault::Write
     }
 }
 
@@ -100,7 +109,7 @@ fn trial<R: Threads + Wait + Sync, O: Sink, G: Gate>(
 {
     let lots = trial_lots(alloc, number)?;
     let start = trial_start(alloc, number)?;
-    let ended = trial_from(rt, alloc, &start.inst, &start.initial, &lots, out, gate);
+    let ended = trial_from(rt, alloc, &start, &lots, out, gate);
     drop(start);
     ended
 }
@@ -124,7 +133,8 @@ fn trial_start(alloc: Global, number: u64) -> Result<Start, NoMemory>
     let mut files = trial_files(alloc, number)?;
     let model = Name::make(alloc, "model")?;
     let initial = Name::make(alloc, "start")?;
-    match read_start(alloc, &model, &initial, None, &mut files) {
+    let names = JobFiles::of_solve(&model, &initial, None);
+    match read_start(alloc, &names, &mut files) {
         Ok(start) => Ok(start),
         Err(refusal) => {
             prove!(matches!(&refusal, Refusal::Memory));
@@ -158,75 +168,62 @@ fn hold(alloc: Global, text: &TrialText) -> Result<SteadyFiles, NoMemory>
 fn trial_from<R: Threads + Wait + Sync, O: Sink, G: Gate>(
     rt: &R,
     alloc: Global,
-    inst: &Instance,
-    initial: &Assignment,
+    start: &Start,
     lots: &Lots,
     out: &mut O,
     gate: &G,
 ) -> Result<(), TrialFault>
-    requires fits { IsAssignment inst.now.tables initial.now.items }
-    requires unbroken { first_broken inst.now.tables initial.now.items initial.now.items ≡ None }
+    requires fits { IsAssignment start.now.inst.tables start.now.initial.items }
+    requires unbroken { first_broken start.now.inst.tables start.now.initial.items
+        start.now.initial.items ≡ None }
     requires one { worker_count lots.now ≡ 1 }
-    ensures printed { OnOk result (IsSummarized inst.now.tables initial.now.items lots.now
+    ensures printed { OnOk result (IsSummarized start.now.inst.tables start.now.initial.items lots.now
         (Took (writing O.Sink out.old out.new))) }
-    ensures refused { IfErr result (TrialReason (IsSummarized inst.now.tables initial.now.items
-        lots.now
-        (BrokeOff (writing O.Sink out.old out.new)))) }
+    ensures refused { IfErr result (TrialReason (IsSummarized start.now.inst.tables
+        start.now.initial.items lots.now (BrokeOff (writing O.Sink out.old out.new)))) }
     ensures no_output { IfErr result (λ fault. fault ≢ TrialFault.Write → out.new ≡ out.old) }
     ensures never_falls { O.faults out.old ≤ O.faults out.new }
 {
+    let Start { inst, initial } = start;
     let mut scratch = Scratch::make(alloc, inst)?;
     let topo = Topology::make(alloc, inst)?;
-    let ended = trial_over(
-        rt,
-        alloc,
+    let parts = parts(inst, initial, initial, &mut scratch);
+    let opening = Opening {
         inst,
-        &topo,
+        topo: &topo,
         initial,
-        lots,
-        &mut scratch,
-        out,
-        gate,
-    );
+        parts,
+    };
+    let ended = trial_over(rt, alloc, &opening, lots, out, gate);
     drop(topo);
     ended
 }
 
-/// The same over the topology of the instance.
+/// The run of one worker, and its summary.
 fn trial_over<R: Threads + Wait + Sync, O: Sink, G: Gate>(
     rt: &R,
     alloc: Global,
-    inst: &Instance,
-    topo: &Topology,
-    initial: &Assignment,
+    opening: &Opening<'_>,
     lots: &Lots,
-    scratch: &mut Scratch,
     out: &mut O,
     gate: &G,
 ) -> Result<(), TrialFault>
-    requires fits { IsAssignment inst.now.tables initial.now.items }
-    requires unbroken { first_broken inst.now.tables initial.now.items initial.now.items ≡ None }
     requires one { worker_count lots.now ≡ 1 }
-    requires topology { IsTopologyOf topo.now inst.now.tables }
-    requires made { IsMadeFor scratch.old inst.now.tables }
-    ensures printed { OnOk result (IsSummarized inst.now.tables initial.now.items lots.now
-        (Took (writing O.Sink out.old out.new))) }
-    ensures refused { IfErr result (TrialReason (IsSummarized inst.now.tables initial.now.items
-        lots.now
-        (BrokeOff (writing O.Sink out.old out.new)))) }
+    ensures printed { OnOk result (IsSummarized opening.now.inst.now.tables
+        opening.now.initial.now.items lots.now (Took (writing O.Sink out.old out.new))) }
+    ensures refused { IfErr result (TrialReason (IsSummarized opening.now.inst.now.tables
+        opening.now.initial.now.items lots.now (BrokeOff (writing O.Sink out.old out.new)))) }
     ensures no_output { IfErr result (λ fault. fault ≢ TrialFault.Write → out.new ≡ out.old) }
     ensures never_falls { O.faults out.old ≤ O.faults out.new }
 {
+    let (inst, initial) = (opening.inst, opening.initial);
     let bound = bound_from(alloc, inst, initial)?;
-    let start = parts(inst, initial, initial, scratch);
-    let prepared = Prepared::make(alloc, inst, topo, initial, start, lots)?;
+    let prepared = Prepared::make(alloc, inst, opening.topo, initial, opening.parts, lots)?;
     let run = prepared.solve(rt, gate);
     let ended = summarize(out, &bound, &run.parts(), &run);
     drop(run);
-    match ended {
-        Ok(()) => Ok(()),
-        Err(_) => Err(TrialFault::Write),
-    }
+    ended?;
+    Ok(())
 }
 
 /// Writes the summary of a run, whose best state has these parts, with this bound.

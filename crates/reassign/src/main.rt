@@ -30,7 +30,7 @@ fn main(rt: HostRuntime) -> ExitCode {
     ExitCode::from(status.number())
 }
 
-/// The words of the command line behind the program's name.
+/// The words of the command line after the program's name.
 fn words_of<R: Env + AllocGlobal>(rt: &R) -> io::Result<Vec<String>> {
     let mut all = std::env::args(rt)?;
     let _program = all.next();

@@ -2,7 +2,8 @@ use Rattle.ra_token.proofs.ToldLemmas.{at_exit}
 use Rattle.ra_io.specs.Outside.{writing, Took}
 use Rattle.ra_jobs.specs.Output.{BrokeOff}
 use Rattle.ra_jobs.proofs.ResultLemmas.{on_ok_then, if_err_then}
-use Rattle.ra_edit_job.proofs.EditLemmas.{outcome_edited, outcome_reason, over_more}
+use Rattle.ra_jobs.proofs.StageLemmas.{judge_more}
+use Rattle.ra_edit_job.proofs.EditLemmas.{outcome_edited, over_more}
 use Rattle.ra_edit_job.proofs.edit.edit_from.Goals as goal
 
 pub write_outcome-requires : goal.write_outcome-requires
@@ -27,5 +28,5 @@ returns-clause-refused g c =
 pub returns-in_err-outcome-clause-refused : goal.returns-in_err-outcome-clause-refused
 returns-in_err-outcome-clause-refused g c =
     at_exit _ _ _ c.from_residual.ensures
-    (outcome_reason c.args.taken.inst.tables c.args.taken.lists.initial.items c.args.taken.lists.changed.items _ _
-    c.in_err-outcome.ensures.refused)
+    (judge_more c.args.taken.inst.tables c.args.taken.lists.initial.items c.args.taken.lists.changed.items ⊥ _
+    (λ none. absurd none) _ c.in_err-outcome.ensures.refused)

@@ -1,17 +1,6 @@
--- The end of the command, and what follows from it.
-use Rattle.std.specs.Option.{option_copied}
-use Rattle.ra_io.specs.Outside.{reading}
-use Rattle.ra_jobs.specs.Output.{output}
-use Rattle.ra_jobs.proofs.ResultLemmas.{if_err_then}
-use Rattle.ra_edit_job.proofs.EditLemmas.{can_tell_edits, edit_so}
+use Rattle.ra_edit_job.specs.Editing.{editing}
+use Rattle.ra_jobs.proofs.DoesLemmas.{does_for}
 use Rattle.ra_edit_job.proofs.edit.edit_run.Goals as goal
 
-pub finish-requires : goal.finish-requires
-finish-requires g c = if_err_then c.edit-ended.result _ _ (can_tell_edits _ _ _ _ _) c.edit-ended.ensures.refused
-
 pub returns : goal.returns
-returns g c =
-    edit_so c.args.model.now (option_copied c.args.closed) c.args.initial.now c.args.current.now c.args.edits.now
-    (reading g.F.Files c.args.files.now c.edit-ended.new.files) (output g.O.Sink c.args.out.now c.edit-ended.new.out)
-    (output g.E.Sink c.args.err.now c.finish.new.err) c.edit-ended.result c.finish.result c.edit-ended.ensures
-    c.finish.ensures
+returns g c = does_for editing _ _ _ _ _ _ c.of_edit-names.ensures.names c.edit_job.ensures

@@ -1,19 +1,6 @@
--- The end of the command, and what follows from it.
-use Rattle.std.specs.Option.{option_copied}
-use Rattle.ra_io.specs.Outside.{reading}
-use Rattle.ra_jobs.specs.Files.{check_names}
-use Rattle.ra_jobs.specs.Output.{output}
-use Rattle.ra_jobs.proofs.DoesLemmas.{check_so}
-use Rattle.ra_jobs.proofs.ResultLemmas.{if_err_then}
-use Rattle.ra_jobs.proofs.StageLemmas.{can_tell_judged}
+use Rattle.ra_jobs.specs.Outputs.{checked}
+use Rattle.ra_jobs.proofs.DoesLemmas.{does_for}
 use Rattle.ra_jobs.proofs.check.check_run.Goals as goal
 
-pub finish-requires : goal.finish-requires
-finish-requires g c = if_err_then c.check-ended.result _ _ (can_tell_judged _ _ _ _ _) c.check-ended.ensures.refused
-
 pub returns : goal.returns
-returns g c =
-    check_so (check_names c.args.model.now c.args.initial.now c.args.changed.now (option_copied c.args.closed))
-    (reading g.F.Files c.args.files.now c.check-ended.new.files) (output g.O.Sink c.args.out.now c.check-ended.new.out)
-    (output g.E.Sink c.args.err.now c.finish.new.err) c.check-ended.result c.finish.result c.check-ended.ensures
-    c.finish.ensures
+returns g c = does_for checked _ _ _ _ _ _ c.of_check-names.ensures.names c.check_job.ensures

@@ -16,5 +16,5 @@ returns-in-Some-clause-refused c = (c.in_ok-scratch.ensures.feasible, sym c.firs
 pub returns-in_err-scratch-clause-refused : goal.returns-in_err-scratch-clause-refused
 returns-in_err-scratch-clause-refused c =
     at_exit _ _ _ c.from_residual.ensures
-    (judge_start_reason c.args.inst.now.tables c.args.initial.now.items c.args.changed.now.items _
+    (judge_start_reason c.args.inst.now.tables c.args.initial.now.items c.args.changed.now.items ⊥ _
     c.in_err-scratch.ensures.refused)

@@ -1,11 +1,11 @@
 -- What the tries say, in the words of the files.
-use Rattle.std.specs.Option.{option_copied}
 use Rattle.std.proofs.Common.{None, refl, arith}
 use Rattle.ra_io.specs.Outside.{reading, writing, Took}
-use Rattle.ra_jobs.specs.Commands.{These}
-use Rattle.ra_jobs.specs.Files.{solve_names}
+use Rattle.ra_jobs.specs.Commands.{These, over}
+use Rattle.ra_jobs.specs.Files.{names_of}
 use Rattle.ra_jobs.specs.Output.{output, BrokeOff}
-use Rattle.ra_jobs.specs.Repairing.{RepairOwn, repaired, repair_command}
+use Rattle.ra_jobs.specs.Repairing.{RepairOwn, repaired}
+use Rattle.ra_jobs.proofs.ComesLemmas.{alone_at}
 use Rattle.ra_jobs.proofs.DoesLemmas.{not_tried}
 use Rattle.ra_jobs.proofs.RepairLemmas.{one_lot, lot_alone, tried_all, reason_try}
 use Rattle.ra_jobs.proofs.ResultLemmas.{on_ok_then, if_err_then}
@@ -20,7 +20,7 @@ returns g c =
     let held = g.F.Files.held c.args.files.now in
     let before = g.F.Files.faults c.args.files.now in
     let now = g.F.Files.faults c.read_start.new.files in
-    let names = solve_names c.args.model.now c.args.initial.now (option_copied c.args.closed) in
+    let names = names_of c.args.names.now in
     let out = writing g.O.Sink c.args.out.now c.try_from-ended.new.out in
     let lots = c.args.lots.now in
     let i = c.in_ok-start.start.inst.tables in
@@ -45,11 +45,14 @@ returns g c =
 pub returns-in_err-start : goal.returns-in_err-start
 returns-in_err-start g c =
     let held = g.F.Files.held c.args.files.now in
-    let names = solve_names c.args.model.now c.args.initial.now (option_copied c.args.closed) in
+    let names = names_of c.args.names.now in
     let out = output g.O.Sink c.args.out.now c.args.out.now in
-    not_tried (repair_command c.args.model.now c.args.initial.now (option_copied c.args.closed) (These c.args.lots.now))
+    not_tried (over (repaired names (These c.args.lots.now)))
     (reading g.F.Files c.args.files.now c.read_start.new.files) out _ _ c.from_residual.ensures
     (reason_anywhere held names (g.F.Files.faults c.args.files.now) (g.F.Files.faults c.read_start.new.files)
     ((repaired names (These c.args.lots.now)).refuses held (Took out.sink) (BrokeOff out.sink)) _
     c.in_err-start.ensures.refused)
     refl c.read_start.ensures.leaves (omega arith)
+
+pub read_start-requires-clause-alone : goal.read_start-requires-clause-alone
+read_start-requires-clause-alone g c = alone_at (names_of c.args.names.now) c.requires.last

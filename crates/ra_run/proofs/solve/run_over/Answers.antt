@@ -1,5 +1,7 @@
 -- What is known of a run is what its report asks for, and what the report says.
 use Rattle.ra_io.specs.Outside.{writing, Took}
+use Rattle.ra_model.proofs.BrokenLemmas.{feasible_from_unbroken}
+use Rattle.ra_token.proofs.ToldLemmas.{at_exit}
 use Rattle.ra_jobs.specs.Output.{BrokeOff}
 use Rattle.ra_run.proofs.SolveLemmas.{run_told, best_told, bound_told}
 use Rattle.ra_run.proofs.solve.run_over.Goals as goal
@@ -9,21 +11,28 @@ report-ended-requires-clause-best g c κs within = best_told _ _ _ _ c.solve-run
 
 pub report-ended-requires-clause-bound : goal.report-ended-requires-clause-bound
 report-ended-requires-clause-bound g c κs within =
-    let is = rw (c.in-Ok-make.ensures.instance, c.in-Ok-make.ensures.initial, c.in-Ok-make.ensures.lots) at
+    let is = rw (c.in_ok-prepared.ensures.instance, c.in_ok-prepared.ensures.initial, c.in_ok-prepared.ensures.lots) at
     c.solve-run.ensures in
-    bound_told c.args.inst.now.tables c.args.initial.now.items c.args.lots.now c.solve-run.result _ is c.in-Ok.ensures
+    bound_told c.args.opening.now.inst.now.tables c.args.opening.now.initial.now.items c.args.lots.now c.solve-run.result
+    c.in_ok-bound.bound is c.in_ok-bound.ensures
 
-pub returns-in-Ok-ended-clause-printed : goal.returns-in-Ok-ended-clause-printed
-returns-in-Ok-ended-clause-printed g c =
-    let is = rw (c.in-Ok-make.ensures.instance, c.in-Ok-make.ensures.initial, c.in-Ok-make.ensures.lots) at
+pub returns-clause-printed : goal.returns-clause-printed
+returns-clause-printed g c =
+    let o = c.args.opening.now in
+    let is = rw (c.in_ok-prepared.ensures.instance, c.in_ok-prepared.ensures.initial, c.in_ok-prepared.ensures.lots) at
     c.solve-run.ensures in
-    run_told c.args.inst.now.tables c.args.initial.now.items c.args.lots.now c.solve-run.result
-    (Took (writing g.O.Sink c.args.out.now c.report-ended.new.out)) is c.requires.feasible
-    c.in-Ok-ended.ensures.whole
+    run_told o.inst.now.tables o.initial.now.items c.args.lots.now c.solve-run.result
+    (Took (writing g.O.Sink c.args.out.now c.report-ended.new.out)) is
+    (feasible_from_unbroken o.inst.now.tables o.initial.now.items o.initial.now.items o.inst.now.well_formed o.fits
+    o.unbroken) c.in_ok-ended.ensures.whole
 
-pub returns-in-Err-clause-refused : goal.returns-in-Err-clause-refused
-returns-in-Err-clause-refused g c =
-    let is = rw (c.in-Ok-make.ensures.instance, c.in-Ok-make.ensures.initial, c.in-Ok-make.ensures.lots) at
+pub returns-in_err-ended-clause-refused : goal.returns-in_err-ended-clause-refused
+returns-in_err-ended-clause-refused g c =
+    let o = c.args.opening.now in
+    let is = rw (c.in_ok-prepared.ensures.instance, c.in_ok-prepared.ensures.initial, c.in_ok-prepared.ensures.lots) at
     c.solve-run.ensures in
-    run_told c.args.inst.now.tables c.args.initial.now.items c.args.lots.now c.solve-run.result
-    (BrokeOff (writing g.O.Sink c.args.out.now c.report-ended.new.out)) is c.requires.feasible c.in-Err.ensures.part
+    at_exit _ _ _ c.from_residual-in_err-ended.ensures
+    (run_told o.inst.now.tables o.initial.now.items c.args.lots.now c.solve-run.result
+    (BrokeOff (writing g.O.Sink c.args.out.now c.report-ended.new.out)) is
+    (feasible_from_unbroken o.inst.now.tables o.initial.now.items o.initial.now.items o.inst.now.well_formed o.fits
+    o.unbroken) c.in_err-ended.ensures.part)

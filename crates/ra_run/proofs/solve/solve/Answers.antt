@@ -1,15 +1,15 @@
 -- What the run says, in the words of the files.
-use Rattle.std.specs.Option.{option_copied}
 use Rattle.std.proofs.Common.{refl, arith}
 use Rattle.ra_io.specs.Outside.{reading, writing, Took}
-use Rattle.ra_jobs.specs.Commands.{These}
-use Rattle.ra_jobs.specs.Files.{solve_names}
+use Rattle.ra_jobs.specs.Commands.{These, over}
+use Rattle.ra_jobs.specs.Files.{names_of}
 use Rattle.ra_jobs.specs.Output.{output, BrokeOff}
+use Rattle.ra_jobs.proofs.ComesLemmas.{alone_at}
 use Rattle.ra_jobs.proofs.DoesLemmas.{not_tried}
 use Rattle.ra_jobs.proofs.EndLemmas.{not_write}
 use Rattle.ra_jobs.proofs.ResultLemmas.{on_ok_then, if_err_then}
 use Rattle.ra_jobs.proofs.StageLemmas.{reason_anywhere}
-use Rattle.ra_run.specs.Headline.{solving, solve_command}
+use Rattle.ra_run.specs.Headline.{solving}
 use Rattle.ra_run.proofs.SolveLemmas.{solved, reason_run, reason_these}
 use Rattle.ra_run.proofs.solve.solve.Goals as goal
 
@@ -18,7 +18,7 @@ returns g c =
     let held = g.F.Files.held c.args.files.now in
     let before = g.F.Files.faults c.args.files.now in
     let now = g.F.Files.faults c.read_start.new.files in
-    let names = solve_names c.args.model.now c.args.initial.now (option_copied c.args.closed) in
+    let names = names_of c.args.names.now in
     let lots = c.args.lots.now in
     let out = writing g.O.Sink c.args.out.now c.run_from-ended.new.out in
     let inst = c.in_ok-start.start.inst in
@@ -33,7 +33,7 @@ returns g c =
           )) c.run_from-ended.ensures.printed;
       refused = if_err_then c.run_from-ended.result _ _
           (λ r reason. reason_these held names lots before now (BrokeOff out) r
-          (reason_run held names inst.tables a0 lots before now (BrokeOff out) refl inst.well_formed
+          (reason_run held names inst.tables a0 lots before now (BrokeOff out) c.requires.initial inst.well_formed
           c.in_ok-start.ensures.read r reason)) c.run_from-ended.ensures.refused;
       no_output = if_err_then c.run_from-ended.result _ _ (λ r same first. same (not_write r first))
           c.run_from-ended.ensures.no_output;
@@ -44,11 +44,13 @@ returns g c =
 pub returns-in_err-start : goal.returns-in_err-start
 returns-in_err-start g c =
     let held = g.F.Files.held c.args.files.now in
-    let names = solve_names c.args.model.now c.args.initial.now (option_copied c.args.closed) in
+    let names = names_of c.args.names.now in
     let out = output g.O.Sink c.args.out.now c.args.out.now in
-    not_tried (solve_command c.args.model.now c.args.initial.now (option_copied c.args.closed) (These c.args.lots.now))
-    (reading g.F.Files c.args.files.now c.read_start.new.files) out _ _ c.from_residual.ensures
+    not_tried (over (solving names (These c.args.lots.now))) (reading g.F.Files c.args.files.now c.read_start.new.files) out _ _ c.from_residual.ensures
     (reason_anywhere held names (g.F.Files.faults c.args.files.now) (g.F.Files.faults c.read_start.new.files)
     ((solving names (These c.args.lots.now)).refuses held (Took out.sink) (BrokeOff out.sink)) _
     c.in_err-start.ensures.refused)
     refl c.read_start.ensures.leaves (omega arith)
+
+pub read_start-requires-clause-alone : goal.read_start-requires-clause-alone
+read_start-requires-clause-alone g c = alone_at (names_of c.args.names.now) c.requires.last

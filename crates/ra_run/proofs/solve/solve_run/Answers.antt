@@ -1,18 +1,7 @@
--- The end of the command, and what follows from it.
-use Rattle.std.specs.Option.{option_copied}
-use Rattle.ra_io.specs.Outside.{reading}
 use Rattle.ra_jobs.specs.Commands.{These}
-use Rattle.ra_jobs.specs.Output.{output}
-use Rattle.ra_jobs.proofs.ResultLemmas.{if_err_then}
-use Rattle.ra_jobs.proofs.StageLemmas.{can_tell_judged}
-use Rattle.ra_run.proofs.SolveLemmas.{solve_so}
+use Rattle.ra_run.specs.Headline.{solving}
+use Rattle.ra_jobs.proofs.DoesLemmas.{does_for}
 use Rattle.ra_run.proofs.solve.solve_run.Goals as goal
 
-pub finish-requires : goal.finish-requires
-finish-requires g c = if_err_then c.solve-ended.result _ _ (can_tell_judged _ _ _ _ _) c.solve-ended.ensures.refused
-
 pub returns : goal.returns
-returns g c = solve_so c.args.model.now (option_copied c.args.closed) c.args.initial.now (These c.args.lots.now)
-    (reading g.F.Files c.args.files.now c.solve-ended.new.files) (output g.O.Sink c.args.out.now c.solve-ended.new.out)
-    (output g.E.Sink c.args.err.now c.finish.new.err) c.solve-ended.result c.finish.result c.solve-ended.ensures
-    c.finish.ensures
+returns g c = does_for (λ names. solving names (These c.args.lots.now)) _ _ _ _ _ _ c.of_solve-names.ensures.names c.solve_job.ensures

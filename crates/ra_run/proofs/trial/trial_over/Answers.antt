@@ -1,5 +1,6 @@
 -- What is known of a run is what its summary asks for, and what the summary says.
 use Rattle.ra_io.specs.Outside.{writing, Took}
+use Rattle.ra_token.proofs.ToldLemmas.{at_exit}
 use Rattle.ra_jobs.specs.Output.{BrokeOff}
 use Rattle.ra_run.proofs.SolveLemmas.{best_told, bound_told}
 use Rattle.ra_run.proofs.TrialLemmas.{summarized}
@@ -12,19 +13,23 @@ pub summarize-ended-requires-clause-bound : goal.summarize-ended-requires-clause
 summarize-ended-requires-clause-bound g c =
     let is = rw (c.in_ok-prepared.ensures.instance, c.in_ok-prepared.ensures.initial, c.in_ok-prepared.ensures.lots) at
     c.solve-run.ensures in
-    bound_told c.args.inst.now.tables c.args.initial.now.items c.args.lots.now c.solve-run.result c.in_ok-bound.bound is
-    c.in_ok-bound.ensures
+    bound_told c.args.opening.now.inst.now.tables c.args.opening.now.initial.now.items c.args.lots.now c.solve-run.result
+    c.in_ok-bound.bound is c.in_ok-bound.ensures
 
-pub returns-in-Ok-clause-printed : goal.returns-in-Ok-clause-printed
-returns-in-Ok-clause-printed g c =
+pub returns-clause-printed : goal.returns-clause-printed
+returns-clause-printed g c =
+    let o = c.args.opening.now in
     let is = rw (c.in_ok-prepared.ensures.instance, c.in_ok-prepared.ensures.initial, c.in_ok-prepared.ensures.lots) at
     c.solve-run.ensures in
-    summarized c.args.inst.now.tables c.args.initial.now.items c.args.lots.now c.solve-run.result
-    (Took (writing g.O.Sink c.args.out.now c.summarize-ended.new.out)) is c.requires.one c.in-Ok.ensures.whole
+    summarized o.inst.now.tables o.initial.now.items c.args.lots.now c.solve-run.result
+    (Took (writing g.O.Sink c.args.out.now c.summarize-ended.new.out)) is c.requires.one c.in_ok-ended.ensures.whole
 
-pub returns-in-Err-clause-refused : goal.returns-in-Err-clause-refused
-returns-in-Err-clause-refused g c =
+pub returns-in_err-ended-clause-refused : goal.returns-in_err-ended-clause-refused
+returns-in_err-ended-clause-refused g c =
+    let o = c.args.opening.now in
     let is = rw (c.in_ok-prepared.ensures.instance, c.in_ok-prepared.ensures.initial, c.in_ok-prepared.ensures.lots) at
     c.solve-run.ensures in
-    summarized c.args.inst.now.tables c.args.initial.now.items c.args.lots.now c.solve-run.result
-    (BrokeOff (writing g.O.Sink c.args.out.now c.summarize-ended.new.out)) is c.requires.one c.in-Err.ensures.part
+    at_exit _ _ _ c.from_residual-in_err-ended.ensures
+    (summarized o.inst.now.tables o.initial.now.items c.args.lots.now c.solve-run.result
+    (BrokeOff (writing g.O.Sink c.args.out.now c.summarize-ended.new.out)) is c.requires.one
+    c.in_err-ended.ensures.part)

@@ -1,29 +1,7 @@
--- The end of the command, and what follows from it.
-use Rattle.std.specs.Option.{option_copied}
-use Rattle.ra_io.specs.Outside.{reading, writing, Took}
 use Rattle.ra_jobs.specs.Commands.{These}
-use Rattle.ra_jobs.specs.Files.{verify_names}
-use Rattle.ra_jobs.specs.Output.{output, BrokeOff}
-use Rattle.ra_jobs.proofs.ResultLemmas.{if_err_then}
-use Rattle.ra_jobs.proofs.StageLemmas.{can_tell}
-use Rattle.ra_run.specs.Verifying.{VerifyPrinted, verifying}
-use Rattle.ra_run.proofs.VerifyLemmas.{own_tells, verify_so}
+use Rattle.ra_run.specs.Verifying.{verifying}
+use Rattle.ra_jobs.proofs.DoesLemmas.{does_for}
 use Rattle.ra_run.proofs.verify.verify_run.Goals as goal
 
-pub finish-requires : goal.finish-requires
-finish-requires g c =
-    let held = g.F.Files.held c.args.files.now in
-    let names = verify_names c.args.model.now c.args.initial.now c.args.report.now (option_copied c.args.closed) in
-    let out = writing g.O.Sink c.args.out.now c.accept-ended.new.out in
-    let own = (verifying names (These c.args.lots.now)).refuses held (Took out) (BrokeOff out) in
-    if_err_then c.accept-ended.result _ _
-    (can_tell held names _ _ own
-    (λ r reason. own_tells held names reason.0 (VerifyPrinted held names reason.0 (BrokeOff out)) r reason.2))
-    c.accept-ended.ensures.refused
-
 pub returns : goal.returns
-returns g c =
-    verify_so c.args.model.now (option_copied c.args.closed) c.args.initial.now c.args.report.now c.args.lots.now
-    (reading g.F.Files c.args.files.now c.accept-ended.new.files)
-    (output g.O.Sink c.args.out.now c.accept-ended.new.out) (output g.E.Sink c.args.err.now c.finish.new.err)
-    c.accept-ended.result c.finish.result c.accept-ended.ensures c.finish.ensures
+returns g c = does_for (λ names. verifying names (These c.args.lots.now)) _ _ _ _ _ _ c.of_verify-names.ensures.names c.verify_job.ensures
