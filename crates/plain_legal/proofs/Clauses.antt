@@ -19,7 +19,7 @@ use Rattle.ra_journal.proofs.Places.{made_place}
 use Rattle.ra_journal.specs.Legal.{IsLegalAt, IsLegal}
 use Rattle.plain_legal.specs.Touching.{IsApartFrom}
 
--- none of the first n entries is of worker w and at place q or behind it
+-- none of the first n entries is of worker w and at place q or after it
 pub record SeenBelow (h : List Entry) (w q n : ℕ) : Type 0 where
   pub each : (j : ℕ) → j < n → (entry_at h j).worker ≡ w → j < q
 

@@ -141,6 +141,12 @@ states_fit i a0 l h limits fits (suc n) legal k below = ⊎_elim
     (made_fits i (state a0 h n) e.mv.steps e.verdict (earlier n (omega arith)) planned.reaches))
     (cases_lt k (suc n))
 
+-- so a replayed state is one
+pub replay_fits : (i : Tables) (a0 a : List Machine) (l : Lots) (h : List Entry) (n : ℕ) → WellFormed i →
+    IsAssignment i a0 → IsLegal i a0 l h n → a ≡ state a0 h n → IsAssignment i a
+replay_fits i a0 a l h n limits fits legal is =
+    subst (IsAssignment i) (sym is) (states_fit i a0 l h limits fits n legal n (omega arith))
+
 -- what is known of an entry's move at its own place j, by the clauses before its verdict
 pub move_at : (i : Tables) (a0 : List Machine) (l : Lots) (h : List Entry) (j : ℕ) (e : Entry) → WellFormed i →
     IsAssignment i a0 → IsLegal i a0 l h j → e.q ≤ j →

@@ -5,10 +5,9 @@ ghost use Rattle.ra_model.specs.Situations.{situation};
 ghost use Rattle.ra_moves.specs.Judging.{judge};
 ghost use Rattle.ra_moves.specs.Options.{plan_of};
 ghost use Rattle.ra_moves.specs.Steps.{StandsAt, from_in, to_in};
-ghost use Rattle.ra_journal.specs.Entries.{worker_count, budget, words, allowed};
+ghost use Rattle.ra_journal.specs.Entries.{words, allowed};
 ghost use Rattle.ra_journal.specs.States.{state};
-ghost use Rattle.ra_journal.specs.Legal.{IsLegal};
-ghost use Rattle.plain_legal.specs.Benches.{IsBenchFor, CanReplay};
+ghost use Rattle.plain_legal.specs.Benches.{IsBenchFor, CanReplay, CanTry};
 
 use crate::places::entry;
 use crate::proposals::{allowed_of, words_of};
@@ -53,10 +52,7 @@ impl Bench {
     ) -> Move
         requires start { IsAssignment inst.now.tables a0.now.items }
         requires made { IsBenchFor self.old inst.now.tables }
-        requires there { e.now.q ≤ length entries.now }
-        requires before { IsLegal inst.now.tables a0.now.items lots.now entries.now e.now.q }
-        requires worker { e.now.worker < worker_count lots.now }
-        requires left { e.now.k < budget lots.now e.now.worker }
+        requires can { CanTry inst.now.tables a0.now.items lots.now entries.now e.now.q e.now }
         ensures planned { result ≡ plan_of (situation inst.now.tables a0.now.items
             (state a0.now.items entries.now e.now.q))
             (words lots.now e.now.worker e.now.k) lots.now.drawing
@@ -94,10 +90,7 @@ impl Bench {
     ) -> Verdict
         requires start { IsAssignment inst.now.tables a0.now.items }
         requires made { IsBenchFor self.old inst.now.tables }
-        requires there { j ≤ length entries.now }
-        requires before { IsLegal inst.now.tables a0.now.items lots.now entries.now j }
-        requires worker { e.now.worker < worker_count lots.now }
-        requires left { e.now.k < budget lots.now e.now.worker }
+        requires can { CanTry inst.now.tables a0.now.items lots.now entries.now j e.now }
         requires stands { StandsAt from_in e.now.mv.steps (state a0.now.items entries.now j) }
         requires reaches { (n : ℕ) → n < length e.now.mv.steps →
             to_in e.now.mv.steps n < machine_count inst.now.tables }

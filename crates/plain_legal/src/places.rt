@@ -48,7 +48,7 @@ fn count_of(entries: &[Entry], n: usize, worker: u32) -> u64
     count
 }
 
-/// Whether an entry for place `j` was planned at that place or an earlier one, behind all earlier entries of its
+/// Whether an entry for place `j` was planned at that place or an earlier one, after all earlier entries of its
 /// worker.
 pub(crate) fn is_placed(entries: &[Entry], j: usize, e: &Entry) -> bool
     requires { j ≤ length entries.now }
