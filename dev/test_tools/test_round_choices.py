@@ -34,18 +34,18 @@ class Rounds(ToolCase):
         """Rounds go on with parts, of which each run is made again by the log."""
         model, initial = self.make_instance("parts", 20, 400, 3, 3)
         words = [model, initial, "--out", "parts/best", "--workers", 1, "--budget", 20_000, "--log", "parts/log"]
-        self.expect(0, "rounds", *words, "--rounds", 3)
-        rounds = lines_of("parts/log")
-        self.assertEqual([one["begins"] for one in rounds], ["start", "parts", "parts"])
-        runs = sum(one["runs"] for one in rounds)
-        self.assertGreater(runs, 3)
-        self.assertEqual([one["seed"] for one in rounds], [1, 17, 17 + 16 * rounds[1]["runs"]])
-        self.assertEqual(rounds[-1]["cost"], self.cost(model, initial, "parts/best"))
+        self.expect(0, "rounds", *words, "--rounds", 2)
+        first, second = lines_of("parts/log")
+        self.assertEqual((first["begins"], first["runs"], first["seed"]), ("start", 1, 1))
+        self.assertEqual((second["begins"], second["seed"]), ("parts", 17))
+        self.assertGreater(second["runs"], 3)
+        self.assertEqual(second["cost"], self.cost(model, initial, "parts/best"))
         log = run("sh", "parts/best.rounds/log")
         accepted = [int(line.split()[1]) for line in log.stdout.splitlines() if line.startswith("accepted ")]
-        self.assertEqual((log.returncode, len(accepted), sum(accepted)), (0, runs, 60_000), log.stdout + log.stderr)
+        self.assertEqual((log.returncode, len(accepted), sum(accepted)), (0, 1 + second["runs"], 40_000), log.stdout + log.stderr)
         self.expect(0, "rounds", *words, "--rounds", 1, "--keep", "--slack", 30)
-        self.assertEqual((lines_of("parts/log")[3]["round"], lines_of("parts/log")[3]["slack"]), (4, 30))
+        third = lines_of("parts/log")[2]
+        self.assertEqual((third["round"], third["slack"], third["seed"]), (3, 30, 17 + 16 * second["runs"]))
 
     def test_seconds(self):
         model, initial = self.make_instance("timed", 20, 100, 3, 2)

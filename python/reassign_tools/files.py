@@ -56,8 +56,8 @@ def write_whole(name, pieces):
 
 
 def lock(name, what):
-    """Locks a file, which is made if it isn't there, until what this answers is closed. Raises Problem with status 7 if another one has
-    locked it, since both would write what it stands for."""
+    """Locks a file, which is made if it isn't there, until what this answers is closed. Raises Problem with status 7 if another
+    call has locked it, since both would write what it stands for."""
     try:
         file = open(name, "a+", encoding="utf-8")
     except OSError as fault:

@@ -13,6 +13,7 @@ from .words import processors
 
 MOST_ALONE = 1_000_000  # numbers of ways that one process computes alone
 
+
 def going_on(model, start, last, raised=False):
     """The model of a run that begins at the list `last` and makes only lists that are feasible from `start`. With the ways
     raised none of them costs more from there than the run says; with the ways as written none does if a detour is never

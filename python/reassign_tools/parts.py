@@ -57,8 +57,8 @@ class Parts:
         return more, held
 
     def model_of(self, part, last):
-        """The model of a run that begins at `last` and moves processes of the part alone, none that is held. Answers it, and how
-        many resources should have a twin and have none."""
+        """The model of a run that begins at `last` and moves processes of the part alone, none that is held. Answers it, and
+        how many resources should have a twin and have none."""
         whole, left_out = going_on(self.model, self.start, last)
         inside, numbers = set(part.processes), {service: number for number, service in enumerate(part.services)}
         staying = [row if process not in inside else [0] * whole.resources for process, row in enumerate(whole.required)]

@@ -12,10 +12,6 @@ def grouped(number):
     return f"{number:,}" if number < 10**15 else f"{float(number):.4g}"
 
 
-def percent(part):
-    return f"{100 * part:.1f} %"
-
-
 def wide(words, size):
     """How wide a text is, at most, in the fonts that are asked for."""
     return size * sum(0.36 if letter in ".,:; il|'" else 0.68 for letter in words)

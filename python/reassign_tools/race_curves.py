@@ -3,7 +3,8 @@ import math
 
 from .pictures import ACROSS, BLACK, BLUE, FAINT, GREEN, GRID, ORANGE, PURPLE, SKY, Picture, decades, log_ticks
 from .race_plan import OWN
-from .race_rows import grouped, percent
+from .race_rows import groups_of
+from .texts import percent
 
 COLOURS = (BLUE, ORANGE, GREEN, PURPLE, SKY, BLACK)
 DASHES = ("", "7 4", "2 3", "9 3 2 3")
@@ -122,7 +123,7 @@ class Panel:
 def curves(rows):
     """The picture, of the runs with the greatest budget of each instance."""
     instances = {}
-    for group in grouped(rows).values():
+    for group in groups_of(rows).values():
         instances.setdefault(group[0].instance, []).append(group)
     picture, top, solvers = Picture(84), 112, order_of(rows)
     for name, groups in instances.items():

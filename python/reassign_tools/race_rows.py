@@ -9,6 +9,7 @@ from statistics import median
 from .problems import Problem
 from .race_plan import OWN
 from .race_runs import read_outcome
+from .texts import percent
 
 LATE_SHARE, LATE_SECONDS = 0.1, 1.0  # by how much a run may be longer than its seconds
 
@@ -132,15 +133,11 @@ def key_of(row):
     return row.instance, row.budget_proposals, row.budget_seconds if row.budget_proposals is None else None, row.solver, row.slack
 
 
-def grouped(rows):
+def groups_of(rows):
     groups = {}
     for row in rows:
         groups.setdefault(key_of(row), []).append(row)
     return groups
-
-
-def percent(share):
-    return f"{100 * share:.1f} %"
 
 
 def table(heads, lines):
@@ -161,9 +158,9 @@ def run_table(rows):
     has_seconds = any(row.budget_proposals is None for row in rows)
     heads = ["instance", "budget" if has_seconds else "proposals", "solver", *["slack"] * has_slacks, "runs", "least", "median",
              "most", "spread", "left", "time"]
-    spoilt = [word for word in ("infeasible", "late") if any(counts_of(group)[word] for group in grouped(rows).values())]
+    spoilt = [word for word in ("infeasible", "late") if any(counts_of(group)[word] for group in groups_of(rows).values())]
     lines = []
-    for group in sorted(grouped(rows).values(), key=place_of(rows)):
+    for group in sorted(groups_of(rows).values(), key=place_of(rows)):
         first, counts = group[0], counts_of(group)
         costs = sorted(row.cost for row in group if row.feasible)
         way = max(first.start - first.bound, 1)

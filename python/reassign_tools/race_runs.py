@@ -127,7 +127,7 @@ def wait_for(running, run, limit, ended):
 
 
 def limit_of(seconds):
-    """After how many seconds a run is ended that should take so many."""
+    """After how many seconds a run of another program is ended that should take so many."""
     return 2 * seconds + 60
 
 
@@ -193,7 +193,7 @@ def run_rounds(running, program, instance, job, workers, new):
     budget = ["--proposals", job.proposals] if job.proposals else ["--seconds", f"{job.seconds:g}"]
     words = [*command_of("rounds"), instance.model, instance.initial, "--out", new, "--program", program, "--workers", workers,
              "--seed", job.seed, "--slack", job.slack, "--log", log, *budget]
-    run = timed(running, words, limit=limit_of(job.seconds) if job.seconds else None)
+    run = timed(running, words)
     outcome = Outcome(seconds=run.seconds, processor=run.processor)
     try:
         with open(log, encoding="utf-8") as file:

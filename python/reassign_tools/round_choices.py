@@ -127,4 +127,5 @@ class Chooser:
         if spread == 0:
             return 0.0
         z = (best_cost - mean) / spread
-        return (best_cost - mean) * 0.5 * (1 + math.erf(z / math.sqrt(2))) + spread * math.exp(-z * z / 2) / math.sqrt(2 * math.pi)
+        below = 0.5 * (1 + math.erf(z / math.sqrt(2)))
+        return (best_cost - mean) * below + spread * math.exp(-z * z / 2) / math.sqrt(2 * math.pi)

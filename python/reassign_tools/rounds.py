@@ -44,6 +44,7 @@ from .program import COSTS, Program, closed_words, slack_words
 from .round_choices import BEST, PARTS, START, Chooser
 from .round_ends import Ends
 from .running import command_of, no_more_stops, run_tool, say
+from .texts import percent
 from .words import LARGEST_SEED, MOST_LOTS, MOST_PROPOSALS, Words, file_name, number, processors
 
 IDLE_ROUNDS = 4
@@ -91,10 +92,6 @@ def seconds(word):
     return float(word)
 
 
-def percent(part, whole):
-    return f"{100 * part / whole:.1f} %" if whole > 0 else "0.0 %"
-
-
 @dataclass
 class Run:
     """The files of a run: its model and the list from which it begins; and the words with which the model is made again."""
@@ -133,7 +130,8 @@ class Rounds:
         return self.program.numbers("check", self.words.model, self.words.initial, name, *self.closing)["cost"]
 
     def left(self):
-        return percent(self.cost - self.bound, self.start_cost - self.bound)
+        way = self.start_cost - self.bound
+        return percent((self.cost - self.bound) / way if way > 0 else 0)
 
     def on_closed(self, now):
         return {process for process, machine in enumerate(now) if machine in self.closed}

@@ -2,8 +2,9 @@
 import math
 from array import array
 
-from .pictures import ACROSS, BLUE, FAINT, GREY, GRID, ORANGE, PURPLE, SKY, Picture, grouped, log_ticks, percent, ticks, wide
+from .pictures import ACROSS, BLUE, FAINT, GREY, GRID, ORANGE, PURPLE, SKY, Picture, grouped, log_ticks, ticks, wide
 from .run_reports import DONE, LATE
+from .texts import percent
 from .words import shown
 
 BARS = 160

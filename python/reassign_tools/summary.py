@@ -20,7 +20,7 @@ import sys
 from collections import Counter
 
 from .files import Room, list_text, read_list, write_whole
-from .machine_uses import headline, uses_of
+from .machine_uses import headline, share_of, uses_of
 from .models import Model, same_sizes
 from .names import Names
 from .problems import Problem
@@ -116,7 +116,7 @@ class Journal:
 def fullest(model, use, top):
     """The machines with the greatest share of a capacity in use: (machine, resource, used, capacity)."""
     def share(row, capacity):
-        return max((used / room if room else float(used > 0), -r) for r, (used, room) in enumerate(zip(row, capacity)))
+        return max((share_of(used, room), -r) for r, (used, room) in enumerate(zip(row, capacity)))
     shares = [(*share(row, capacity), machine) for machine, (row, capacity) in enumerate(zip(use, model.capacity))]
     shares.sort(key=lambda it: (-it[0], it[2]))
     return [{"machine": m, "resource": -r, "used": use[m][-r], "capacity": model.capacity[m][-r]} for _, r, m in shares[:top]]

@@ -7,6 +7,11 @@ def counted(count, word, several=""):
     return f"{count:,} {word if count == 1 else several or f'{word}s'}"
 
 
+def percent(share):
+    """A share in per cents: 12.1 %."""
+    return f"{100 * share:.1f} %"
+
+
 def print_in_utf8():
     """Names are printed as they stand in tables and files of names, whatever the locale says."""
     for stream in (sys.stdout, sys.stderr):
