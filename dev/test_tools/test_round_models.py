@@ -117,7 +117,7 @@ class RoundModels(ToolCase):
         _, report = program("solve", model_name, initial, "1:3000")
         parts, last = Parts(Model.read(model_name), read_list(initial)), list(map(int, report.splitlines()[8].split()[1:]))
         seen = set()
-        for number in range(200):
+        for number in range(600):
             part = parts.chosen(last, number)
             free = set(part.processes) - part.held
             self.assertTrue(all(part.homes[last[p]] == parts.start[p] for p in free))
