@@ -1,4 +1,4 @@
--- What is known of a planned move.
+-- What holds of a planned move.
 use Rattle.std.specs.Prelude.{◌≡◌, ℕ, ◌<◌, List, length, None}
 use Rattle.ra_base.specs.declared.causes.Drawing.{Drawing}
 use Rattle.ra_model.specs.Numbers.{machine_count}

@@ -15,8 +15,8 @@ use ra_model::Instance;
 use ra_moves::{Move, Verdict, apply, first_flaw, undo};
 
 /// The verdict on a move of assignment `a`, whose cost is `before`: the first cause for which it is refused, in the
-/// order Repeat, Same, the first constraint that is broken after it, Rise; or Done with the cost after it. The move is
-/// applied to `a`, the outcome is checked from scratch, and the move is undone. No memory is taken.
+/// order Repeat, Same, the first constraint that is broken after it, Rise; or Done with the cost after it. It applies
+/// the move to `a`, checks the outcome from scratch, and undoes the move. It takes no memory.
 #[tactic(auto, using(crate::proofs::Judged::judge_flaw))]
 pub fn judge_plainly(
     inst: &Instance,

@@ -1,4 +1,4 @@
-//! The plain planner: it judges a move by the checker, on an assignment that it changes and gives back, and plans by
+//! The plain planner: it judges a move by the checker, on an assignment that it changes and restores, and plans by
 //! judging each option in that way. It is slow and short, and computes the definitions from scratch.
 #![tactic(auto)]
 

@@ -18,13 +18,13 @@ use ra_moves::{Move, Verdict, options, resolve};
 pub struct Planned {
     /// The move.
     pub mv: Move,
-    /// What is said of it.
+    /// The verdict on it.
     pub verdict: Verdict,
 }
 
-/// What the eight words of a proposal make of assignment `a`, whose cost is `before`: the first option of least cost
-/// among those that are judged Done, and option 0 if there is none. Each option is judged from scratch on `other`, a
-/// second assignment that equals `a`. No memory is taken.
+/// Plans a proposal on assignment `a`, whose cost is `before`: the first option of least cost among those that its
+/// eight words name and that are judged Done, and option 0 if there is none. Each option is judged from scratch on
+/// `other`, a second assignment that equals `a`. It takes no memory.
 pub fn plan_plainly(
     inst: &Instance,
     a0: &Assignment,

@@ -21,13 +21,14 @@ pub record IsBenchFor (b : Bench) (i : Tables) : Type 0 where
   pub other : b.other.room ≡ process_count i
   pub scratch : IsMadeFor b.scratch i
 
--- the processes of each of the first n moves are where the move takes them from, and one that is done names none twice
+-- the processes of each of the first n moves are where the move takes them from, and a move that is done names none
+-- twice
 pub record CanReplay (a0 : List Machine) (h : List Entry) (n : ℕ) : Type 0 where
   pub stands : (j : ℕ) → j < n → StandsAt from_in (entry_at h j).mv.steps (state a0 h j)
   pub distinct : (j : ℕ) → j < n → IsDistinctIfDone (entry_at h j).mv.steps (entry_at h j).verdict
 
--- an entry can be looked at from place n: all entries before that place are legal, and the entry's proposal is one of
--- its worker's budget
+-- an entry can be tested from place n: all entries before that place are legal, and the entry's proposal is within its
+-- worker's budget
 pub record CanTry (i : Tables) (a0 : List Machine) (l : Lots) (h : List Entry) (n : ℕ) (e : Entry) :
     Type 0 where
   pub there : n ≤ length h

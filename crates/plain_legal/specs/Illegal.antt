@@ -7,7 +7,7 @@ use Rattle.ra_journal.specs.declared.entries.Entry.{Entry}
 use Rattle.ra_journal.specs.Entries.{entry_at}
 use Rattle.ra_journal.specs.Legal.{IsLegalAt, IsLegal}
 
--- there is an entry at place j, all before it are legal, and it isn't
+-- there is an entry at place j that isn't legal, and all before it are
 pub record IsFirstIllegal (i : Tables) (a0 : List Machine) (l : Lots) (h : List Entry) (j : ℕ) :
     Type 0 where
   pub there : j < length h

@@ -4,6 +4,6 @@ use Rattle.ra_model.specs.declared.raw.Tables.{Tables}
 use Rattle.ra_moves.specs.declared.steps.Step.{Step}
 use Rattle.ra_guards.specs.Versions.{Apart}
 
--- no guard of the steps is written by what an entry makes, if it makes anything
+-- what an entry makes, if anything, writes no guard of the steps
 abbrev pub IsApartFrom : Tables → List Step → Option (List Step) → Type 0
 IsApartFrom i steps made = (others : List Step) → made ≡ Some others → Apart i steps others

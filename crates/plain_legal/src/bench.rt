@@ -20,7 +20,7 @@ use ra_model::Instance;
 use ra_moves::{Move, Verdict};
 use std::alloc::Global;
 
-/// What planning and judging work on: a state of the journal, the same once more, and the tables of the checker.
+/// What planning and judging work on: a state of the journal, a second copy of it, and the tables of the checker.
 #[derive(Drop)]
 pub(crate) struct Bench {
     pub(crate) state: Assignment,
@@ -41,7 +41,7 @@ impl Bench {
         })
     }
 
-    /// What the proposal of an entry plans at the state of the place that the entry names.
+    /// The plan for the proposal of an entry, at the state of the place that the entry names.
     pub(crate) fn plan(
         &mut self,
         inst: &Instance,
@@ -114,7 +114,7 @@ impl Bench {
     }
 }
 
-/// Makes an assignment the state at place `n`.
+/// Replays a journal: makes an assignment the state at place `n`.
 fn replay(a: &mut Assignment, a0: &Assignment, entries: &[Entry], n: usize)
     requires room { length a0.now.items ≤ a.old.room }
     requires there { n ≤ length entries.now }
@@ -129,7 +129,7 @@ fn replay(a: &mut Assignment, a0: &Assignment, entries: &[Entry], n: usize)
     }
 }
 
-/// Writes one assignment over another.
+/// Overwrites one assignment with another.
 fn copy_to(to: &mut Assignment, from: &Assignment)
     requires { length from.now.items ≤ to.old.room }
     ensures items { to.new.items ≡ from.now.items }

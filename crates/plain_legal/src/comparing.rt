@@ -2,7 +2,7 @@ ghost use Rattle.std.specs.Prelude.{◌≡◌, ◌↔◌, ◌<◌, ◌≤◌, tr
 
 use ra_moves::{Move, Verdict};
 
-/// Whether two moves are one.
+/// Whether two moves are equal.
 #[tactic(auto, using(crate::proofs::SameMoves::one_move))]
 pub(crate) fn is_same_move(one: &Move, other: &Move) -> bool
     ensures { (result ≡ true) ↔ (one.now ≡ other.now) }
@@ -27,7 +27,7 @@ fn has_same_steps(one: &Move, other: &Move) -> bool
     true
 }
 
-/// Whether two verdicts are one.
+/// Whether two verdicts are equal.
 pub(crate) fn is_same_verdict(one: &Verdict, other: &Verdict) -> bool
     ensures { (result ≡ true) ↔ (one.now ≡ other.now) }
 {

@@ -1,5 +1,5 @@
-//! The plain test of legality: decides whether a journal is legal, each entry by what the definition asks of it. Every
-//! state is made anew from the start, and every proposal is planned and judged from scratch.
+//! The plain test of legality: decides whether a journal is legal, and tests each entry by the definition. It computes
+//! every state again from the start, and plans and judges every proposal from scratch.
 #![tactic(auto)]
 
 mod bench;

@@ -14,8 +14,8 @@ pub(crate) fn entry(entries: &[Entry], j: usize) -> &Entry
     &entries[j]
 }
 
-/// Whether the worker of an entry for place `j` exists, and the entry's number is that of its earlier entries and below
-/// its budget.
+/// Whether the worker of an entry for place `j` exists, and the entry's number is the number of its earlier entries and
+/// below its budget.
 #[tactic(auto, unfolding(ra_journal::specs::Entries::worker_count, ra_journal::specs::Entries::budget, ra_draws::specs::Lots::budget_of))]
 pub(crate) fn is_numbered(lots: &Lots, entries: &[Entry], j: usize, e: &Entry) -> bool
     requires { j ≤ length entries.now }

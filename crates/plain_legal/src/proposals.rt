@@ -3,7 +3,7 @@ ghost use Rattle.ra_journal.specs.Entries.{worker_count, budget, words, allowed}
 
 use ra_draws::{Draws, Lots, allow};
 
-/// The words of proposal `k` of a worker: those of the proposals before it are drawn first.
+/// The words of proposal `k` of a worker. It first draws those of the proposals before.
 pub(crate) fn words_of(lots: &Lots, worker: u32, k: u64) -> [u64; 8]
     requires there { worker < worker_count lots.now }
     requires left { k < budget lots.now worker }
@@ -17,7 +17,7 @@ pub(crate) fn words_of(lots: &Lots, worker: u32, k: u64) -> [u64; 8]
     draws.words_for_next()
 }
 
-/// The rise of cost that proposal `k` of a worker is allowed.
+/// By how much proposal `k` of a worker may raise the cost.
 pub(crate) fn allowed_of(lots: &Lots, worker: u32, k: u64) -> u64
     requires there { worker < worker_count lots.now }
     requires left { k < budget lots.now worker }

@@ -62,11 +62,11 @@ past_none ts n none = ⊎_elim
     (λ past. past.0)
     (slice_get_cases ts n).1
 
--- behind the last token there is none
+-- after the last token there is none
 past_all : (bytes : List ℕ) (n : ℕ) → GaveAll bytes n → slice_get (tokens bytes) n ≡ None
 past_all bytes n all = slice_get_past (tokens bytes) n (omega (arith, all))
 
--- the fault of the file, where the machine of process n is due
+-- the fault of the file instead of the machine of process n
 pub process_fault : (bytes : List ℕ) (i : Tables) (n : ℕ) (fault : TokenFault) → IsAnswer bytes n (Err fault) →
     AssignSays (process_test bytes i n) (assign_fault fault)
 unfolding process_test machine_test none_left
@@ -75,7 +75,7 @@ process_fault bytes i n fault answer =
     (⊎_elim (λ (e : fault ≡ told.ReadFault). inl e) (λ (h : GaveAll bytes n × (first_fault bytes ≡ Some fault)).
     inr (rw (past_all bytes n h.0, h.1) refl)) answer)
 
--- the end of the file, where the machine of process n is due
+-- the end of the file instead of the machine of process n
 pub process_missing : (bytes : List ℕ) (i : Tables) (n : ℕ) → IsAnswer bytes n (Ok None) →
     process_test bytes i n ≡ Some (Missing (record { 0 = n }))
 unfolding process_test machine_test none_left
@@ -96,7 +96,7 @@ process_inside bytes i n t answer inside =
     rw answer (cond-true (nat_lt t.value (machine_count i)) None (Some (NoMachine (record { 0 = n }) t.value))
     (lt-ltb t.value (machine_count i) inside))
 
--- behind the last process
+-- after the last process
 pub end_fault : (bytes : List ℕ) (n : ℕ) (fault : TokenFault) → IsAnswer bytes n (Err fault) →
     AssignSays (end_test bytes n) (assign_fault fault)
 unfolding end_test behind_test
@@ -228,7 +228,7 @@ refused_at bytes i place n a fault within taken says = says_same (process_test b
     (assign_refusal bytes i) fault (λ (e : process_test bytes i (tokens_before bytes place) ≡ Some fault).
     refusal_at bytes i n fault within taken.sound (rw taken.given at e)) says
 
--- what is wrong behind the last process is the refusal
+-- what is wrong after the last process is the refusal
 pub refused_behind : (bytes : List ℕ) (i : Tables) (place : ℕ) (a : List Machine) (fault : AssignFault) →
     HasTaken bytes i place (process_count i) a → AssignSays (end_test bytes (tokens_before bytes place)) fault →
     AssignSays (assign_refusal bytes i) fault

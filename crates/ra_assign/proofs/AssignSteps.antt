@@ -31,7 +31,7 @@ fault_read (told.TooLarge at) e = cc
 fault_read told.TooLong e = cc
 fault_read told.NoMemory e = cc
 
--- where the machine of process p is due: a fault, the end, a number that is no machine's, and a machine
+-- at the machine of process p: a fault, the end, a number that doesn't name a machine, and a machine
 pub stopped : (bytes : List ℕ) (i : Tables) (x p : ℕ) (fault : AssignFault) → HasFault assign_fault bytes x fault →
     tokens_before bytes x ≡ p → AssignSays (process_test bytes i p) fault
 stopped bytes i x p fault h e = subst (λ (n : ℕ). AssignSays (process_test bytes i n) fault) e
@@ -60,7 +60,7 @@ takes bytes i x y t h within = record {
   next = h.one_more;
 }
 
--- behind the last process: a fault, the end, and a number
+-- after the last process: a fault, the end, and a number
 pub stopped_behind : (bytes : List ℕ) (x : ℕ) (fault : AssignFault) → HasFault assign_fault bytes x fault →
     AssignSays (end_test bytes (tokens_before bytes x)) fault
 stopped_behind bytes x fault h = subst (λ (f : AssignFault). AssignSays (end_test bytes (tokens_before bytes x)) f)
@@ -93,7 +93,7 @@ in_range_more i a m n size before here k within = ⊎_elim
     ∙ get_or-append_seam a m [] (record { 0 = 0 }))) here)
     (cases_lt k n)
 
--- what is wrong with the machine of process n, and what is wrong behind the last process, is the refusal
+-- what is wrong with the machine of process n, and what is wrong after the last process, is the refusal
 pub refused_now : (bytes : List ℕ) (i : Tables) (place n : ℕ) (a : List Machine) (fault : AssignFault) →
     n < process_count i → HasTaken bytes i place n a →
     (tokens_before bytes place ≡ n → AssignSays (process_test bytes i n) fault) →

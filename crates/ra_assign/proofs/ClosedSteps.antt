@@ -30,7 +30,7 @@ fault_read (told.TooLarge at) e = cc
 fault_read told.TooLong e = cc
 fault_read told.NoMemory e = cc
 
--- where a machine or the end is due: a fault, a number that is no machine's, and a machine
+-- at a machine or the end: a fault, a number that doesn't name a machine, and a machine
 pub stopped : (bytes : List ℕ) (i : Tables) (x : ℕ) (fault : ClosedFault) → HasFault closed_fault bytes x fault →
     ClosedStop bytes i x fault
 stopped bytes i x fault h flags flagged = subst (λ (f : ClosedFault). ClosedSays (closed_refusal bytes i) f)
@@ -68,7 +68,7 @@ first_more bytes i x y n flags after m before one within e = record {
   given = one.next ∙ ap (λ (k : ℕ). k + 1) before.given;
 }
 
--- a reader cannot be behind more tokens than a file can have
+-- a reader cannot be past more tokens than a file can have
 pub too_many : (bytes : List ℕ) (i : Tables) (n : ℕ) (flags : List Bool) (reader : Standing) →
     HasFlaggedFirst bytes i reader.place n flags → StandsIn bytes reader → PLACE_LIMIT < n →
     IsClosedRefusal bytes i TooLong

@@ -7,7 +7,7 @@ use Rattle.std.specs.Prelude.{drop, decimal}
 use Rattle.ra_base.specs.declared.ids.Machine.{Machine}
 use Rattle.ra_assign.specs.Lists.{assignment_bytes, more_text, machine_text, text_from}
 
--- one machine and what is behind it
+-- one machine and what is after it
 text_step : (p : ℕ) (m : Machine) (ms : List Machine) → text_from p (m ∷ ms) ≡ machine_text p m ++ text_from (suc p) ms
 unfolding text_from machine_text assignment_bytes more_text
 text_step zero m ms = refl
@@ -18,7 +18,7 @@ pub none_written : (a : List Machine) → [] ++ text_from 0 (drop 0 a) ≡ assig
 unfolding text_from
 none_written a = refl
 
--- behind the last machine
+-- after the last machine
 pub all_written : (p : ℕ) (text : List ℕ) (a : List Machine) → text ++ text_from p [] ≡ assignment_bytes a →
     text ++ 10 ∷ [] ≡ assignment_bytes a
 unfolding text_from assignment_bytes more_text
@@ -40,7 +40,7 @@ pub written : (p : ℕ) (text after : List ℕ) (a : List Machine) → length a 
 written p text after a past before e =
     e ∙ all_written p text a (ap (λ (r : List Machine). text ++ text_from p r) (sym (drop_all p a past)) ∙ before)
 
--- a machine behind others, and the first
+-- a machine after others, and the first
 pub pushed_later : (p : ℕ) (m : Machine) (before between after : List ℕ) → 0 < p → between ≡ before ++ 32 ∷ [] →
     after ≡ between ++ decimal m.0 → after ≡ before ++ machine_text p m
 unfolding machine_text

@@ -15,7 +15,7 @@ use Rattle.ra_assign.specs.declared.faults.ClosedFault.{ClosedFault}
 use Rattle.ra_assign.specs.declared.faults.ClosedFault.TheVariants.{ReadFault, BadByte, TooLarge, TooLong, NoMachine}
 use Rattle.ra_assign.specs.declared.faults.ClosedFault.TheVariants.{NoMemory}
 
--- a token's fault, as one of a closed list
+-- a token's fault, as a fault of a closed list
 unfoldable pub closed_fault : TokenFault → ClosedFault
 closed_fault token.ReadFault = ReadFault
 closed_fault (token.BadByte at byte) = BadByte at byte

@@ -16,7 +16,7 @@ use Rattle.ra_assign.specs.declared.faults.AssignFault.{AssignFault}
 use Rattle.ra_assign.specs.declared.faults.AssignFault.TheVariants.{ReadFault, BadByte, TooLarge, TooLong, Missing}
 use Rattle.ra_assign.specs.declared.faults.AssignFault.TheVariants.{NoMachine, Extra, NoMemory}
 
--- a token's fault, as one of an assignment
+-- a token's fault, as a fault of an assignment
 unfoldable pub assign_fault : TokenFault → AssignFault
 assign_fault token.ReadFault = ReadFault
 assign_fault (token.BadByte at byte) = BadByte at byte
@@ -38,7 +38,7 @@ machine_test i fault p (Some t) =
 unfoldable pub process_test : List ℕ → Tables → ℕ → Option AssignFault
 process_test bytes i p = machine_test i (first_fault bytes) p (slice_get (tokens bytes) p)
 
--- what is wrong behind the last process: a token, or the first fault of the file
+-- what is wrong after the last process: a token, or the first fault of the file
 unfoldable pub behind_test : Option TokenFault → Option Token → Option AssignFault
 behind_test fault (Some t) = Some (Extra t.at)
 behind_test None None = None
@@ -71,7 +71,7 @@ pub record IsAssignmentOf (bytes : List ℕ) (i : Tables) (a : List Machine) : T
   pub file : IsAssignmentFile bytes i
   pub machines : a ≡ map machine_of (tokens bytes)
 
--- the text of machines behind others: a space and the number for each, and LF
+-- the text of machines after others: a space and the number for each, and LF
 unfoldable pub more_text : List Machine → List ℕ
 more_text [] = 10 ∷ []
 more_text (m ∷ ms) = 32 ∷ decimal m.0 ++ more_text ms

@@ -1,4 +1,4 @@
--- What is known on the way through a list.
+-- What holds on the way through a list.
 use Rattle.std.specs.Prelude.{◌≡◌, ℕ, ◌+◌, ◌<◌, List, map, take, slice_get, slice_index_or, Bool, false, Option, Some}
 use Rattle.std.specs.Prelude.{None, Ok}
 use Rattle.ra_base.specs.Searches.{first}

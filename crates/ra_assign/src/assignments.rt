@@ -20,8 +20,8 @@ use std::alloc::Global;
 ///
 /// # Errors
 ///
-/// The first refusal in the order of the numbers: a fault of the file, a machine that is missing or doesn't exist, or
-/// a number behind the last process.
+/// The first refusal in the order of the numbers: a fault of the file, a machine that is missing or doesn't exist, or a
+/// number after the last process.
 pub fn read_assignment<F: Files>(
     alloc: Global,
     files: &mut F,
@@ -105,7 +105,7 @@ fn next_machine<F: Files>(
     Ok(Machine(token.value))
 }
 
-/// The end of the file, behind the last process.
+/// The end of the file, after the last process.
 fn read_end<F: Files>(files: &mut F, tokens: &mut Tokens) -> Result<(), AssignFault>
     requires stands { Stands (moment F.Files files.old tokens.old) }
     ensures gives { OnOk result (Went (λ bytes before after. HasEnded bytes before)
@@ -137,7 +137,7 @@ fn next_token<F: Files>(files: &mut F, tokens: &mut Tokens) -> Result<Option<Tok
     }
 }
 
-/// The fault of a token, as one of an assignment.
+/// The fault of a token, as a fault of an assignment.
 #[tactic(auto, unfolding(crate::specs::Lists::assign_fault))]
 fn fault_of(fault: TokenFault) -> AssignFault
     ensures { result ≡ assign_fault fault }

@@ -14,12 +14,12 @@ use ra_model::{Instance, copies};
 use ra_token::{PLACE_LIMIT, Token, TokenFault, Tokens};
 use std::alloc::Global;
 
-/// A flag for each machine of an instance, that says whether a closed list names it. `Ok` says that the file was read
-/// to its end.
+/// A flag for each machine of an instance that says whether a closed list names it. `Ok` says that the file was read to
+/// its end.
 ///
 /// # Errors
 ///
-/// The first refusal in the order of the numbers: a number that is no machine's, or a fault of the file.
+/// The first refusal in the order of the numbers: a number that doesn't name a machine, or a fault of the file.
 pub fn read_closed<F: Files>(
     alloc: Global,
     files: &mut F,
@@ -116,7 +116,7 @@ fn next_token<F: Files>(files: &mut F, tokens: &mut Tokens) -> Result<Option<Tok
     }
 }
 
-/// The fault of a token, as one of a closed list.
+/// The fault of a token, as a fault of a closed list.
 #[tactic(auto, unfolding(crate::specs::ClosedLists::closed_fault))]
 fn fault_of(fault: TokenFault) -> ClosedFault
     ensures { result ≡ closed_fault fault }

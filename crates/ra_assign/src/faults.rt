@@ -22,10 +22,10 @@ pub enum AssignFault {
     /// The machine of a process doesn't exist.
     #[error("no machine {value}")]
     NoMachine { process: Process, value: u32 },
-    /// A number stands behind the last process.
+    /// A number follows the last process.
     #[error("extra number at {at}")]
     Extra { at: u64 },
-    /// Memory was refused.
+    /// The system refused memory.
     #[error("out of memory")]
     NoMemory,
 }
@@ -45,10 +45,10 @@ pub enum ClosedFault {
     /// The file has too many bytes.
     #[error("too long")]
     TooLong,
-    /// The number at a place is no machine's.
+    /// The number at a place doesn't name a machine.
     #[error("no machine {value} at {at}")]
     NoMachine { at: u64, value: u32 },
-    /// Memory was refused.
+    /// The system refused memory.
     #[error("out of memory")]
     NoMemory,
 }

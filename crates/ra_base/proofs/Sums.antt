@@ -157,7 +157,7 @@ unfolding total
 total_minus zero f g = omega arith
 total_minus (suc n) f g = omega (arith, total_minus n f g)
 
--- the same with one sum weighed
+-- with the sum of f taken c times
 pub total_times_minus : (n c : ℕ) (f g : ℕ → ℕ) → c * total n f - total n g ≤ total n (λ k. c * f k - g k)
 total_times_minus n c f g = omega (arith, total_minus n (λ k. c * f k) g, total_times n c f)
 

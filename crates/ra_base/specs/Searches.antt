@@ -11,7 +11,7 @@ unfoldable pub first : {X : Type 0} → ℕ → (ℕ → Option X) → Option X
 first zero f = None
 first (suc n) f = or_else (first n f) (f n)
 
--- an answer that is there and below the best so far
+-- an answer is there and is below the best so far
 unfoldable pub is_better : Option ℕ → Option ℕ → Bool
 is_better None best = false
 is_better (Some x) None = true
@@ -22,7 +22,7 @@ unfoldable pub least : ℕ → (ℕ → Option ℕ) → Option ℕ
 least zero f = None
 least (suc n) f = if is_better (f n) (least n f) then f n else least n f
 
--- the first place of the least answer, and zero if no answer is there
+-- the first place that gives the least answer, and zero if no answer is there
 unfoldable pub least_place : ℕ → (ℕ → Option ℕ) → ℕ
 least_place zero f = 0
 least_place (suc n) f = if is_better (f n) (least n f) then n else least_place n f

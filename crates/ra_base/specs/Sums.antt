@@ -6,7 +6,7 @@ unfoldable pub total : ℕ → (ℕ → ℕ) → ℕ
 total zero f = 0
 total (suc n) f = total n f + f n
 
--- one for what passes, else zero
+-- one if a test passes, else zero
 abbrev pub one_if : Bool → ℕ
 one_if test = if test then 1 else 0
 
@@ -19,7 +19,7 @@ unfoldable pub greatest : ℕ → (ℕ → ℕ) → ℕ
 greatest zero f = 0
 greatest (suc n) f = max (greatest n f) (f n)
 
--- those below n that pass, ascending
+-- the numbers below n that pass, ascending
 unfoldable pub pick : ℕ → (ℕ → Bool) → List ℕ
 pick zero test = []
 pick (suc n) test = if test n then pick n test ++ n ∷ [] else pick n test
@@ -29,6 +29,6 @@ unfoldable pub is_named : ℕ → (ℕ → ℕ) → ℕ → Bool
 is_named zero e m = false
 is_named (suc k) e m = is_named k e m || (e k == m)
 
--- f at the j-th name, counted only where that is named first
+-- f at the j-th name if no earlier name is equal, else zero
 unfoldable pub fresh : (ℕ → ℕ) → (ℕ → ℕ) → ℕ → ℕ
 fresh e f j = if is_named j e (e j) then 0 else f (e j)

@@ -1,4 +1,4 @@
--- Whole numbers, which may be below zero, cut off at zero.
+-- Whole numbers, which may be negative, cut off at zero.
 use Rattle.std.specs.Prelude.{ℕ, ℤ, pos, negsuc}
 
 -- max(0, x)

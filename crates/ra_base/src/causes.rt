@@ -36,15 +36,15 @@ pub enum Cause {
         has: u32,
         wants: u32,
     },
-    /// A process of a service is in a neighbourhood, given by its label, that has no process of a
-    /// service that it needs.
+    /// A process of a service is in a neighbourhood, given by its label, in which no process of a service that it needs
+    /// is.
     Dependency {
         service: Service,
         needs: Service,
         neighbourhood: u32,
     },
-    /// The cost rises from `before` to `after`, which is by more than is allowed. (The shortest field is first, so that
-    /// a cause takes 48 bytes and not 64.)
+    /// The cost rises from `before` to `after`, which is more than the allowance permits. (The shortest field is first,
+    /// so that a cause takes 48 bytes and not 64.)
     Rise {
         allowed: u64,
         before: u128,

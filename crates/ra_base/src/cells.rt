@@ -3,7 +3,7 @@ ghost use Rattle.ra_base.specs.Tables.{cell};
 
 use crate::lists::Fixed;
 
-/// The number of a table of this width at a row and a column.
+/// The number at a row and a column of a table of this width.
 #[tactic(auto, unfolding(crate::specs::Tables::cell))]
 pub fn read_cell(table: &Fixed<u64>, width: u32, row: u32, column: u32) -> u64
     requires { row * width + column < length table.now.items }
@@ -13,7 +13,7 @@ pub fn read_cell(table: &Fixed<u64>, width: u32, row: u32, column: u32) -> u64
     table.get(row as usize * width as usize + column as usize)
 }
 
-/// Adds to the number of a table of this width at a row and a column.
+/// Adds to the number at a row and a column of a table of this width.
 pub fn add_to_cell(table: &mut Fixed<u64>, width: u32, row: u32, column: u32, amount: u32)
     requires place { row * width + column < length table.old.items }
     requires fits { cell width table.old.items row column + amount < 2 ^ 64 }

@@ -5,13 +5,13 @@ use crate::ids::Service;
 pub struct Parts {
     /// Use above the safety capacities.
     pub load: u128,
-    /// What is lacking of one available resource beside another.
+    /// The shortfall of one available resource against another.
     pub balance: u128,
     /// Moves of processes.
     pub process: u128,
     /// The greatest number of moved processes of one service.
     pub service: u128,
-    /// The ways from machine to machine.
+    /// The costs of the ways from machine to machine.
     pub machine: u128,
     /// The sum of the five.
     pub total: u128,

@@ -21,11 +21,10 @@ impl<L: Ledger> Model for Steps<L> {
 }
 
 impl<L: Ledger> Steps<L> {
-    /// A counter at 0, over a new ledger. A call that is handed no counter makes one in
-    /// a function `f<L: Ledger>(blank: Blank, ..)` with these three `requires`, which it calls as
-    /// `f::<Brand>(Blank::new(1), ..)`; its `Invariants.antt` picks the ledger by
-    /// `ghosts-f a = record { name = a.blank.name; parts = a.blank.parts }`, or `ghosts-f g a`
-    /// if the caller has bounds.
+    /// A counter at 0, over a new ledger. A call that is given no counter makes one in a function `f<L: Ledger>(blank:
+    /// Blank, ..)` with these three `requires`, which it calls as `f::<Brand>(Blank::new(1), ..)`; its
+    /// `Invariants.antt` picks the ledger by `ghosts-f a = record { name = a.blank.name; parts = a.blank.parts }`, or
+    /// `ghosts-f g a` if the caller has bounds.
     pub fn make(blank: Blank) -> Steps<L>
         requires name { blank.name ≡ L.name }
         requires parts { blank.parts ≡ L.parts }

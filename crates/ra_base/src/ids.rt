@@ -14,12 +14,12 @@ pub struct Service(pub u32);
 #[derive(Clone, Copy, Debug, PartialEq, Eq, PartialOrd, Ord)]
 pub struct Resource(pub u32);
 
-/// What a move has to find untouched: a machine or a service. Machines come before services, and
-/// both are in the order of their numbers.
+/// What no other move may have touched before a move commits: a machine or a service. Machines come before services,
+/// and both are in the order of their numbers.
 #[derive(Clone, Copy, Debug, PartialEq, Eq, PartialOrd, Ord)]
 pub enum Guard {
     /// A machine that a move leaves or enters.
     Machine(Machine),
-    /// A service of a moved process, or one that such a service depends on or serves.
+    /// The service of a process that moves, or a service that such a service depends on or serves.
     Service(Service),
 }

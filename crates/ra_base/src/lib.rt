@@ -1,5 +1,5 @@
-//! What every other crate names: machines, processes, services and resources, lists of a reserved
-//! room, tables of numbers, names of files, the causes for which a move or an assignment is refused, and a counter.
+//! What every other crate names: machines, processes, services and resources, lists of a reserved room, tables of
+//! numbers, names of files, the causes for which a move or an assignment is refused, and a counter of reads.
 #![tactic(auto)]
 
 mod amounts;

@@ -4,7 +4,7 @@ use crate::ids::Machine;
 use std::alloc::{AllocError, AllocFailed, Global};
 use std::marker::Model;
 
-/// Memory was refused.
+/// The system refused memory.
 #[derive(Clone, Copy, Debug, PartialEq, Eq)]
 pub struct NoMemory;
 
@@ -20,7 +20,7 @@ impl<T: Drop> From<AllocFailed<T>> for NoMemory {
     }
 }
 
-/// A list with a room that is reserved once, so that no call but `make` takes memory.
+/// A list whose room is reserved once, so that no call but `make` takes memory.
 #[derive(Drop)]
 pub struct Fixed<T: Copy> {
     items: Vec<T>,
@@ -38,7 +38,7 @@ impl<T: Copy> Model for Fixed<T> {
     ghost invariant = { λ f. (vec_len f.items ≤ f.room) × (f.room ≤ vec_capacity f.items) };
 }
 
-/// The machine of each process, in the order of their numbers.
+/// The machine of each process, in the order of the processes' numbers.
 pub type Assignment = Fixed<Machine>;
 
 impl<T: Copy> Fixed<T> {
@@ -92,7 +92,7 @@ impl<T: Copy> Fixed<T> {
         self.as_slice()[place]
     }
 
-    /// Takes all items out. The room stays.
+    /// Removes all items. The room stays.
     pub fn clear(&mut self)
         ensures items { self.new.items ≡ [] }
         ensures room { self.new.room ≡ self.old.room }
@@ -108,7 +108,7 @@ impl<T: Copy> Fixed<T> {
         self.items.len()
     }
 
-    /// How many items there is room for, those that are there among them.
+    /// How many items there is room for, including those that are there.
     pub fn room(&self) -> usize
         ensures value { result ≡ self.now.room }
         ensures within { length self.now.items ≤ self.now.room }

@@ -4,7 +4,7 @@ use crate::lists::NoMemory;
 use std::alloc::Global;
 use std::marker::Model;
 
-/// A text that is owned, as the name of a file. Contracts see its bytes.
+/// An owned text, such as the name of a file. Contracts see its bytes.
 #[derive(Drop)]
 pub struct Name {
     text: String,

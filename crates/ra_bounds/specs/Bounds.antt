@@ -24,7 +24,7 @@ capacity i r = total (machine_count i) (λ m. capacity_of i m r)
 unfoldable pub overload : Tables → ℕ → ℕ
 overload i r = required i r - safety i r
 
--- the load part of the bound: the sum over r of loadWeight(r) times that
+-- the load part of the bound: the sum over r of loadWeight(r) times this overload
 unfoldable pub load_bound : Tables → ℕ
 load_bound i = total (resource_count i) (λ r. load_weight_of i r * overload i r)
 
@@ -32,11 +32,11 @@ load_bound i = total (resource_count i) (λ r. load_weight_of i r * overload i r
 unfoldable pub spare : Tables → ℕ → ℤ
 spare i r = pos (capacity i r) -ℤ pos (required i r)
 
--- max(0, target * a1 - a2) of balance objective b, where a1 and a2 are those signed numbers for its two resources
+-- max(0, target * a1 - a2) of balance objective b, if a1 and a2 are these signed numbers for its two resources
 unfoldable pub lack : Tables → ℕ → ℕ
 lack i b = above_zero (pos (target_of i b) *ℤ spare i (first_of i b) -ℤ spare i (second_of i b))
 
--- the balance part of the bound: the sum over the objectives of the weight times that
+-- the balance part of the bound: the sum over the objectives of the weight times this lack
 unfoldable pub balance_bound : Tables → ℕ
 balance_bound i = total (balance_count i) (λ b. balance_weight_of i b * lack i b)
 

@@ -33,7 +33,7 @@ NoneCostsLessPinned =
     (i : Tables) (a0 a : List Machine) → WellFormed i → IsAssignment i a → Feasible i a0 a
     → IsBelowPinned i a0 a
 
--- which is at least the bound of the instance alone
+-- the bound of an instance and a start is at least the bound of the instance alone
 abbrev pub PinnedIsAtLeast : Type 0
 PinnedIsAtLeast =
     (i : Tables) (a0 : List Machine) → (bound_of i).total ≤ (pinned_bound_of i a0).total

@@ -8,7 +8,7 @@ use Rattle.ra_model.specs.Numbers.{resource_count, machine_count, process_count,
 pub record AreTotals (columns n : ℕ) (f : ℕ → ℕ → ℕ) (sums : List ℕ) : Type 0 where
   pub each : (r : ℕ) → r < columns → slice_index_or sums r 0 ≡ total n (λ k. f k r)
 
--- the same, with row n added in the columns below r
+-- the sums of f over the first n rows, and over row n too in the columns below r
 pub record ArePartTotals (columns n r : ℕ) (f : ℕ → ℕ → ℕ) (sums : List ℕ) : Type 0 where
   pub done : (j : ℕ) → j < columns → j < r → slice_index_or sums j 0 ≡ total (n + 1) (λ k. f k j)
   pub to_come : (j : ℕ) → j < columns → r ≤ j → slice_index_or sums j 0 ≡ total n (λ k. f k j)

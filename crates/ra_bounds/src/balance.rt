@@ -27,7 +27,7 @@ pub(crate) fn balance_bound(
     cost
 }
 
-/// The weight of an objective times what it lacks.
+/// The weight of an objective times its shortfall over all machines together.
 #[tactic(auto, unfolding(ra_model::specs::Numbers::balance_weight_of))]
 fn weighed_lack(
     inst: &Instance,
@@ -45,7 +45,8 @@ fn weighed_lack(
     u128::from(inst.balance(b).weight) * lack
 }
 
-/// What the machines together lack of the second resource of an objective beside what they have of the first.
+/// The shortfall of all machines together: by how much the available amount of the second resource is below the target
+/// times that of the first.
 fn lack(
     inst: &Instance,
     required: &[u64; MOST_RESOURCES],
@@ -64,7 +65,7 @@ fn lack(
     shortage(objective.target, first, second)
 }
 
-/// What `second` lacks of the target times `first`, and zero if it lacks nothing. Either may be below zero.
+/// By how much `second` is below the target times `first`, and zero if it isn't below. Either may be negative.
 fn shortage(target: u32, first: i128, second: i128) -> u128
     requires first { unsigned_abs first ≤ 2 ^ 48 }
     requires second { unsigned_abs second ≤ 2 ^ 48 }
@@ -75,7 +76,7 @@ fn shortage(target: u32, first: i128, second: i128) -> u128
     if short > 0 { short as u128 } else { 0 }
 }
 
-/// The capacity of all machines for a resource less what all processes require of it, which may be below zero.
+/// The capacity of all machines for a resource minus what all processes require of it, which may be negative.
 fn spare(
     inst: &Instance,
     required: &[u64; MOST_RESOURCES],

@@ -3,8 +3,8 @@
 pub struct Bound {
     /// What all processes together require above the safety capacities of all machines together.
     pub load: u128,
-    /// What all machines together lack of one available resource beside another.
+    /// The shortfall of all machines together of one available resource against another.
     pub balance: u128,
-    /// The sum of the two.
+    /// The sum of the two parts.
     pub total: u128,
 }

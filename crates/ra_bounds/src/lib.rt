@@ -1,4 +1,4 @@
-//! The lower bound: a cost that no feasible assignment of an instance is below.
+//! The lower bound: no feasible assignment of an instance costs less.
 #![tactic(auto)]
 
 mod balance;

@@ -13,8 +13,8 @@ use ra_model::Instance;
 use std::marker::Brand;
 use std::sync::ledger::Blank;
 
-/// The lower bound of an instance: the load and balance costs as they would be if all machines were one. No feasible
-/// assignment costs less. Each table is read once, and no memory is taken.
+/// The lower bound of an instance: the load and balance costs as if all machines were one. No feasible assignment costs
+/// less. It reads each table once, and takes no memory.
 #[tactic(auto, unfolding(crate::specs::Bounds::bound_of))]
 pub fn bound(inst: &Instance) -> Bound
     ensures value { result ≡ bound_of inst.now.tables }

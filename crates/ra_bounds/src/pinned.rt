@@ -19,9 +19,9 @@ use ra_pins::Pins;
 use std::marker::Brand;
 use std::sync::ledger::Blank;
 
-/// The lower bound of an instance and a start, given the pins of both: the balance cost as it would be if all machines
-/// were one, and for each resource the load cost as it would be if all machines were one, or that of the pinned
-/// processes alone, whichever is greater. No assignment that is feasible with respect to the start costs less.
+/// The lower bound of an instance and a start, given the pins of both: the balance cost as if all machines were one,
+/// and for each resource the greater of the load cost as if all machines were one and that of the pinned processes
+/// alone. No assignment that is feasible with respect to the start costs less.
 pub fn pinned_bound(inst: &Instance, pins: &Pins) -> Bound
     requires pins { ArePinsOf pins.now inst.now.tables }
     ensures value { (a0 : List Machine) → ArePins pins.now inst.now.tables a0 →

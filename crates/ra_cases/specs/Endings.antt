@@ -1,4 +1,4 @@
--- How a run ended, and what is said of it.
+-- How a run ended, and the line that tells it.
 use Rattle.std.specs.Prelude.{◌≡◌, ℕ, List, [], ◌∷◌, ◌++◌, Bool, true, false, Option, codes}
 use Rattle.std.specs.Io.KnownBytes.{Appends}
 use Rattle.ra_report.specs.Pieces.{joined}
@@ -10,7 +10,7 @@ pub record Same (came wanted : Ending) : Type 0 where
   pub out : came.out.now ≡ wanted.out.now
   pub err : came.err.now ≡ wanted.err.now
 
--- the line of a case: its name, and whether it ended as it has to
+-- the line of a case: its name, and whether it ended as it should
 unfoldable pub verdict_text : List ℕ → Bool → List ℕ
 verdict_text name true = joined (name ∷ codes ": ok\n" ∷ [])
 verdict_text name false = joined (name ∷ codes ": FAILED\n" ∷ [])

@@ -9,7 +9,7 @@ pub(crate) struct Ending<'b> {
     pub(crate) err: &'b [u8],
 }
 
-/// Whether a run ended as it has to.
+/// Whether a run ended as it should.
 pub(crate) fn is_same(came: &Ending<'_>, wanted: &Ending<'_>) -> bool
     ensures { IsTrue result ↔ Same came.now wanted.now }
 {

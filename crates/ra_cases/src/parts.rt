@@ -11,8 +11,7 @@ use std::alloc::Global;
 /// The most bytes of an output, and of an error line, of a case.
 const ROOM: usize = 100_000;
 
-/// A case: its lines below the name, with the pieces of one of its rows, and the texts that it
-/// shares.
+/// A case: the lines after its name, with the pieces of one of its rows, and the shared texts.
 #[derive(Clone, Copy)]
 pub(crate) struct Case<'c> {
     pub(crate) lines: &'c [&'c str],
@@ -20,7 +19,7 @@ pub(crate) struct Case<'c> {
     pub(crate) texts: &'c [Text<'c>],
 }
 
-/// The text behind a word at the head of a line.
+/// The text after a word at the head of a line.
 pub(crate) fn behind<'t>(line: &'t str, word: &str) -> Option<&'t str> {
     match line.strip_prefix(word) {
         Some("") => Some(""),
@@ -29,8 +28,7 @@ pub(crate) fn behind<'t>(line: &'t str, word: &str) -> Option<&'t str> {
     }
 }
 
-/// The text behind a word at the head of the first line that begins with it, and the lines below
-/// that.
+/// The text after a word at the head of the first line that begins with it, and the lines below that.
 pub(crate) fn part<'c>(lines: &'c [&'c str], word: &str) -> Option<(&'c str, &'c [&'c str])> {
     let mut rest = lines;
     while let [line, below @ ..] = rest {
@@ -62,7 +60,7 @@ fn strings(alloc: Global, pieces: &[Token<'_>]) -> Result<Vec<String>, Trouble> 
     Ok(words)
 }
 
-/// The text behind a word, and nothing if no line begins with it.
+/// The text after a word, and nothing if no line begins with it.
 pub(crate) fn wanted(alloc: Global, case: &Case<'_>, word: &str) -> Result<Vec<u8>, Trouble> {
     match part(case.lines, word) {
         Some((rest, below)) => text_of(alloc, case.texts, rest, below, case.row),
@@ -70,13 +68,13 @@ pub(crate) fn wanted(alloc: Global, case: &Case<'_>, word: &str) -> Result<Vec<u
     }
 }
 
-/// The one number behind a word, if a line begins with it.
+/// The one number after a word, if a line begins with it.
 pub(crate) fn number(alloc: Global, case: &Case<'_>, word: &str) -> Result<Option<u64>, Trouble> {
     let numbers = numbers(alloc, case, word)?;
     Ok(numbers.as_slice().first().copied())
 }
 
-/// The numbers behind a word, and none if no line begins with it.
+/// The numbers after a word, and none if no line begins with it.
 fn numbers(alloc: Global, case: &Case<'_>, word: &str) -> Result<Fixed<u64>, Trouble> {
     let rest = match part(case.lines, word) {
         Some((rest, _)) => rest,
@@ -88,7 +86,7 @@ fn numbers(alloc: Global, case: &Case<'_>, word: &str) -> Result<Fixed<u64>, Tro
     numbers
 }
 
-/// The numbers that pieces are.
+/// The pieces as numbers.
 fn values(alloc: Global, pieces: &[Token<'_>]) -> Result<Fixed<u64>, Trouble> {
     let mut numbers = Fixed::make(alloc, pieces.len())?;
     for piece in pieces {
@@ -131,8 +129,7 @@ fn add_file(
     Ok(())
 }
 
-/// A sink of a case: how much it takes at once, and which of its puts fail, are behind these
-/// words.
+/// A sink of a case. The numbers after these words say how much it takes at once, and which of its puts fail.
 pub(crate) fn sink_of(
     alloc: Global,
     case: &Case<'_>,

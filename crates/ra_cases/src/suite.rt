@@ -26,7 +26,7 @@ const HEADS: [&str; 12] = [
     "err",
 ];
 
-/// How many cases were tried, and how many of them didn't end as they have to.
+/// How many cases were tried, and how many of them didn't end as they should.
 #[derive(Clone, Copy)]
 pub struct Tally {
     pub tried: u64,
@@ -34,7 +34,7 @@ pub struct Tally {
 }
 
 impl Tally {
-    /// None was tried.
+    /// A tally of no cases.
     pub(crate) fn none() -> Tally {
         Tally {
             tried: 0,
@@ -51,11 +51,11 @@ impl Tally {
     }
 }
 
-/// Tries all cases of a text, and puts a line for each, and last how many there were.
+/// Tries all cases of a text, puts a line for each, and at the end how many there were.
 ///
 /// # Errors
 ///
-/// `NoMemory`, or `Write` if a line can't be put. A paragraph that isn't a case is counted as one that failed.
+/// `NoMemory`, or `Write` if a line can't be put. A paragraph that isn't a case counts as one that failed.
 pub fn try_all<R: Threads + Wait + Sync, O: Sink>(
     rt: &R,
     alloc: Global,
@@ -73,7 +73,7 @@ pub fn try_all<R: Threads + Wait + Sync, O: Sink>(
     Ok(tally)
 }
 
-/// The lines of a text but for those that begin with `#`.
+/// The lines of a text without those that begin with `#`.
 fn lines_of<'t>(alloc: Global, text: &'t str) -> Result<Vec<&'t str>, Trouble> {
     let mut lines = Vec::new(alloc);
     for line in text.lines() {
@@ -84,7 +84,7 @@ fn lines_of<'t>(alloc: Global, text: &'t str) -> Result<Vec<&'t str>, Trouble> {
     Ok(lines)
 }
 
-/// Tries the cases of lines, whose paragraphs are between empty ones.
+/// Tries the cases of lines. Empty lines separate their paragraphs.
 fn try_lines<'t, R: Threads + Wait + Sync, O: Sink>(
     rt: &R,
     alloc: Global,

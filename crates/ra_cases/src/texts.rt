@@ -11,8 +11,8 @@ pub(crate) struct Text<'t> {
     pub(crate) bytes: Vec<u8>,
 }
 
-/// The text behind a word of a line: the pieces of the rest of the line, then the lines
-/// that follow it and begin with four spaces, each with a line feed.
+/// The text after a word of a line: the pieces of the rest of the line, then the lines that follow it and begin with
+/// four spaces, each with a line feed.
 pub(crate) fn text_of(
     alloc: Global,
     texts: &[Text<'_>],
@@ -70,8 +70,8 @@ fn push_piece(
     Ok(count)
 }
 
-/// How many pieces a text is that begins with this word: with those that it takes if it makes a text, and else one, the
-/// name of a shared text.
+/// How many pieces make up a text that begins with this word: the word with those that it takes, if it makes a text,
+/// and else one, the name of a shared text.
 fn takes(word: &str) -> usize
     ensures { 0 < result }
 {

@@ -35,8 +35,8 @@ fn push_words<'t>(found: &mut Vec<Token<'t>>, part: &'t str) -> Result<(), Alloc
     Ok(())
 }
 
-/// The pieces of a line of a case, with those of its row in their places: `*` stands for all of
-/// them, `$1`, `$2` and `$3` for one. A piece that the row doesn't have is empty.
+/// The pieces of a line of a case, with those of its row put in: `*` is replaced by all of them, `$1`, `$2` and `$3` by
+/// one each. A piece that the row doesn't have is empty.
 pub(crate) fn filled<'t>(
     alloc: Global,
     line: &'t str,
@@ -48,7 +48,7 @@ pub(crate) fn filled<'t>(
     all
 }
 
-/// The same of the line's pieces.
+/// The pieces of the line in `pieces`, with those of its row put in, as in `filled`.
 fn fill<'t>(
     alloc: Global,
     pieces: &[Token<'t>],
@@ -64,8 +64,8 @@ fn fill<'t>(
     Ok(all)
 }
 
-/// The place of the pieces of a row for which a piece of a line stands, if it stands for some: 0 for all of them, else that
-/// of one, counted from 1.
+/// Which pieces of a row replace a piece of a line, if any do: 0 for all of them, else the place of one, counted from
+/// 1.
 fn place(piece: &Token<'_>) -> Option<usize> {
     if piece.quoted {
         return None;

@@ -2,12 +2,12 @@ use ra_base::NoMemory;
 use ra_io::Failed;
 use std::alloc::{AllocError, AllocFailed};
 
-/// Why a paragraph, or the cases, were not tried to the end.
+/// Why a paragraph, or the cases, could not be tried to the end.
 #[derive(Clone, Copy, Debug, PartialEq, Eq)]
 pub enum Trouble {
     /// It isn't in the form of cases.
     Unclear,
-    /// Memory was refused.
+    /// The system refused memory.
     NoMemory,
     /// Standard output failed.
     Write,

@@ -17,7 +17,7 @@ use std::marker::Sync;
 use std::sync::Wait;
 use std::thread::Threads;
 
-/// How many bytes files give at once if a case doesn't say it: it is run with each.
+/// How many bytes files give at once if a case doesn't say it: the case is run with each of these.
 const CUTS: [usize; 4] = [1, 7, 65_535, 65_536];
 
 /// What a run works on.
@@ -46,8 +46,8 @@ fn stage_of(alloc: Global, case: &Case<'_>, each: usize) -> Result<Stage, Troubl
     })
 }
 
-/// Runs a stage: whether the run ends as it has to, with the wanted output and error line. If it
-/// doesn't, what came is put beside what had to come.
+/// Runs a stage: whether the run ends as it should, with the wanted output and error line. If it doesn't, it puts the
+/// actual ending beside the wanted one.
 fn try_stage<R: Threads + Wait + Sync, O: Sink>(
     rt: &R,
     alloc: Global,
@@ -85,7 +85,7 @@ fn try_stage<R: Threads + Wait + Sync, O: Sink>(
     Ok(false)
 }
 
-/// Runs a case whose files give at most `each` bytes at once: whether it ends as it has to.
+/// Runs a case whose files give at most `each` bytes at once: whether it ends as it should.
 fn try_cut<R: Threads + Wait + Sync, O: Sink>(
     rt: &R,
     alloc: Global,
@@ -104,7 +104,7 @@ fn try_cut<R: Threads + Wait + Sync, O: Sink>(
     tried
 }
 
-/// Runs a case with each of the cuts, up to the first with which it doesn't end as it has to.
+/// Runs a case with each of the cuts, up to the first with which it doesn't end as it should.
 fn try_cuts<R: Threads + Wait + Sync, O: Sink>(
     rt: &R,
     alloc: Global,
@@ -123,7 +123,7 @@ fn try_cuts<R: Threads + Wait + Sync, O: Sink>(
     Ok(true)
 }
 
-/// Runs a case with the cut that it names, or with each: whether it ends as it has to.
+/// Runs a case with the cut that it names, or with each: whether it ends as it should.
 fn ends_so<R: Threads + Wait + Sync, O: Sink>(
     rt: &R,
     alloc: Global,
@@ -141,7 +141,7 @@ fn ends_so<R: Threads + Wait + Sync, O: Sink>(
     }
 }
 
-/// Runs a case, and puts its line: whether it ended as it has to.
+/// Runs a case, and puts its line: whether it ended as it should.
 pub(crate) fn try_case<R: Threads + Wait + Sync, O: Sink>(
     rt: &R,
     alloc: Global,
@@ -167,7 +167,7 @@ pub(crate) fn try_case<R: Threads + Wait + Sync, O: Sink>(
     tell_case(rt, alloc, case, name, &wanted, sink)
 }
 
-/// The same, if this is how it has to end.
+/// Runs a case that should end as `wanted` says, and puts its line: whether it ended so.
 fn tell_case<R: Threads + Wait + Sync, O: Sink>(
     rt: &R,
     alloc: Global,

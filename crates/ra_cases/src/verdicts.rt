@@ -7,7 +7,7 @@ use crate::trouble::Trouble;
 use ra_io::{Failed, Sink, put_all};
 use std::alloc::{AllocError, Global};
 
-/// Puts the line of a case: its name, and whether it ended as it has to.
+/// Puts the line of a case: its name, and whether it ended as it should.
 #[tactic(auto, unfolding(crate::specs::Endings::verdict_text))]
 pub(crate) fn put_verdict<O: Sink>(sink: &mut O, name: &str, same: bool) -> Result<(), Failed>
     ensures { OnOk result
@@ -50,7 +50,7 @@ fn difference(
     text
 }
 
-/// The same behind this head.
+/// The wanted ending beside the actual one, after this head.
 fn beside(
     alloc: Global,
     head: &str,

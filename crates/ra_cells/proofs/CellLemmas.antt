@@ -1,4 +1,4 @@
--- What cells tell of the assignments that they stand for, and what a change leaves.
+-- What cells tell of the assignments that they represent, and what a change leaves.
 use Rattle.std.proofs.Common.{◌≡◌, ℕ, ◌+◌, ◌-◌, ◌<◌, ◌≤◌, ◌≢◌, Bool, true, false, not, eqb, ltb, ◌&&◌, List, get_or}
 use Rattle.std.proofs.Common.{set, cond, subst, sym, refl, ap, ◌∙◌, ⊎_elim, arith, eq-eqb, length-set, get_or-set_other}
 use Rattle.std.proofs.Common.{get_or-set_same}

@@ -106,7 +106,7 @@ tally_after moved first second third v one two three one_two one_three two_three
     (still second third n g (still first third n f (changes_of moved third three) one_three) two_three) in
     omega (arith, by_first, by_second, by_third)
 
--- a number that is free is no service's count, and one that isn't free is
+-- a number that is free is not a service's count, and one that isn't free is
 free_means : (tallies : List ℕ) (first second third : Option MovedCount) (v : ℕ) →
     is_free tallies first second third v ≡ true →
     get_or tallies v 0 + (gained_at first v + gained_at second v + gained_at third v) ≡ lost_at first v

@@ -10,7 +10,7 @@ pub record AreTallied (counts tallies : List ℕ) (limit : ℕ) : Type 0 where
   pub each : (v : ℕ) → v ≤ limit
       → slice_index tallies v ≡ count (length counts) (λ s. slice_index counts s == v)
 
--- and the most is the greatest of them
+-- number v of a list says how many of the counts are v, and `most` is the greatest count
 pub record AreCounted (counts tallies : List ℕ) (limit most : ℕ) : Type 0 where
   pub tallied : AreTallied counts tallies limit
   pub greatest_is : most ≡ greatest (length counts) (slice_index counts)

@@ -1,5 +1,5 @@
--- The marks of a machine: its number, and the labels of its location and of its neighbourhood. What is counted of a
--- service is how many of its processes have a mark.
+-- The marks of a machine: its number, and the labels of its location and of its neighbourhood. The cells count how many
+-- processes of a service have a mark.
 use Rattle.std.specs.Prelude.{ℕ, not, ◌==◌, List}
 use Rattle.ra_base.specs.Sums.{one_if}
 use Rattle.ra_base.specs.declared.ids.Machine.{Machine}
@@ -19,6 +19,6 @@ mark_of i InNeighbourhood m = neighbourhood_of i m
 unfoldable pub marked : Tables → Mark → List Machine → ℕ → ℕ → ℕ
 marked i mark a s x = members_at i a s (λ p at. mark_of i mark at == x)
 
--- 1 for a process whose initial machine is `home` and whose machine is `at`, if they are two
+-- 1 for a process whose initial machine is `home` and whose machine is `at`, if the two differ, else 0
 unfoldable pub away : ℕ → ℕ → ℕ
 away home at = one_if (not (home == at))

@@ -17,7 +17,7 @@ greatest_with counts first second third =
     greatest (length counts)
     (counted_after third (counted_after second (counted_after first (slice_index counts))))
 
--- a change of a service's count: from the count that it has to one within the limit
+-- a change of a service's count from its present count to one within the limit
 pub record IsChange (moved : MovedCounts) (c : MovedCount) : Type 0 where
   pub there : c.service.0 < length moved.counts
   pub before : slice_index moved.counts c.service.0 ≡ c.before
@@ -27,7 +27,7 @@ pub record IsChange (moved : MovedCounts) (c : MovedCount) : Type 0 where
 abbrev pub AreApart : Option MovedCount → Option MovedCount → Type 0
 AreApart first second = IfSome first (λ c. IfSome second (λ d. c.service.0 ≢ d.service.0))
 
--- one if a change takes its service's count away from v, and one if it makes it v
+-- one if a change takes its service's count away from v, and one if a change makes it v
 unfoldable pub lost_at : Option MovedCount → ℕ → ℕ
 lost_at None v = 0
 lost_at (Some c) v = one_if (c.before == v)

@@ -1,4 +1,4 @@
--- What cells stand for.
+-- What cells represent.
 use Rattle.std.specs.Prelude.{◌≡◌, ℕ, ◌<◌, List, slice_index}
 use Rattle.ra_base.specs.declared.ids.Machine.{Machine}
 use Rattle.ra_model.specs.declared.raw.Tables.{Tables}
@@ -9,7 +9,7 @@ use Rattle.ra_cells.specs.declared.cells.Cells.{Cells}
 use Rattle.ra_cells.specs.declared.marks.Mark.TheVariants.{OnMachine, InLocation, InNeighbourhood}
 use Rattle.ra_cells.specs.Labels.{AreMarks}
 
--- cells stand for assignment a of an instance, with initial assignment a0
+-- cells represent assignment a of an instance, with initial assignment a0
 pub record StandFor (cells : Cells) (i : Tables) (a0 a : List Machine) : Type 0 where
   pub instance : cells.inst.now.tables ≡ i
   pub start : cells.start.now.items ≡ a0
@@ -20,7 +20,7 @@ pub record StandFor (cells : Cells) (i : Tables) (a0 a : List Machine) : Type 0 
   pub moved : (s : ℕ) → s < service_count i
       → slice_index cells.greatest.counts s ≡ moved_of i a0 a s
 
--- some assignment that cells stand for has process p on machine m
+-- some assignment that the cells represent has process p on machine m
 pub record HavePlaced (cells : Cells) (p m : ℕ) : Type 0 where
   pub tables : Tables
   pub initial : List Machine

@@ -19,18 +19,18 @@ use ra_base::{Assignment, Fixed, Machine, NoMemory, Process, Service, one_when};
 use ra_model::{Instance, Members};
 use std::alloc::Global;
 
-/// How the processes of each service are placed by an assignment that the cells stand for, and which they don't hold.
-/// The tables are made once and changed process by process.
+/// How an assignment places the processes of each service. The cells don't hold the assignment. Their tables are made
+/// once, and change process by process.
 pub struct Cells<'a> {
     inst: &'a Instance,
     start: &'a Assignment,
-    /// Where the labels of each service start, and behind the last service where they all end.
+    /// Where the labels of each service start, and after the last service where all labels end.
     starts: Fixed<u32>,
-    /// The machine of each process, service after service, those of a service ascending.
+    /// The machine of each process, service after service, ascending within a service.
     machines: Vec<u32>,
-    /// The labels of their locations in the same way.
+    /// The labels of their locations, in this order of services, ascending within a service.
     locations: Vec<u32>,
-    /// And those of their neighbourhoods.
+    /// The labels of their neighbourhoods, in this order of services, ascending within a service.
     neighbourhoods: Vec<u32>,
     /// How many locations each service is in.
     spreads: Fixed<u32>,
@@ -50,7 +50,7 @@ pub struct Cells<'a> {
     pub ghost start_fits: { IsAssignment inst.now.tables start.now.items },
 }
 
-/// Lets all lists go in one call, so that the end of an owner is short to prove.
+/// Frees all lists in one call, so that the end of an owner is short to prove.
 impl Drop for Cells<'_> {
     fn drop(self) {
         let Cells {
@@ -69,7 +69,7 @@ impl Drop for Cells<'_> {
 impl<'a> Cells<'a> {
     ghost use Rattle.ra_cells.specs.Stands.{StandFor, HavePlaced};
 
-    /// The cells that stand for the initial assignment.
+    /// The cells of the initial assignment.
     pub fn make(
         alloc: Global,
         inst: &'a Instance,
@@ -82,8 +82,8 @@ impl<'a> Cells<'a> {
         Cells::of_members(alloc, inst, a0, &members)
     }
 
-    /// The same, with the processes of each service at hand. It owns only what it gives, so that its exits are short to
-    /// prove.
+    /// Makes the cells of the initial assignment from the processes of each service. It owns only what it gives, so
+    /// that its exits are short to prove.
     fn of_members(
         alloc: Global,
         inst: &'a Instance,
@@ -169,7 +169,7 @@ impl<'a> Cells<'a> {
         &self.greatest
     }
 
-    /// Puts a process on another machine: the cells then stand for each assignment that they stood for with this
+    /// Moves a process to another machine. The cells then represent every assignment that they represented, with this
     /// change.
     pub fn change(&mut self, p: Process, from: Machine, to: Machine)
         requires process { p.0 < process_count self.old.inst.now.tables }
@@ -211,7 +211,7 @@ fn held_of(inst: &Instance, starts: &Fixed<u32>, labels: &Vec<u32>, s: Service, 
     held_in(labels, start, end, x)
 }
 
-/// Changes the moved count of a service, one of whose processes leaves a machine for another.
+/// Changes the moved count of a service if one of its processes leaves a machine for another.
 fn recount(greatest: &mut Greatest, s: Service, home: Machine, from: Machine, to: Machine)
     requires there { s.0 < length greatest.old.counts }
     requires some { away home.0 from.0 ≤ slice_index greatest.old.counts s.0 }
@@ -227,7 +227,7 @@ fn recount(greatest: &mut Greatest, s: Service, home: Machine, from: Machine, to
     greatest.change(s, after);
 }
 
-/// 1 for a process that isn't on its initial machine.
+/// 1 for a process that isn't on its initial machine, else 0.
 #[tactic(auto, unfolding(crate::specs::Marks::away))]
 fn is_away(home: Machine, at: Machine) -> u32
     ensures { result ≡ away home.0 at.0 }

@@ -10,7 +10,7 @@ use std::alloc::Global;
 use std::marker::Model;
 
 /// The moved count of each service, which is the number of its processes that aren't on their initial machine, and the
-/// greatest of them. Contracts see the list of counts, and the limit that no count passes.
+/// greatest of these counts. Contracts see the list of counts, and the limit that no count exceeds.
 pub struct Greatest {
     counts: Fixed<u32>,
     tallies: Fixed<u32>,
@@ -18,7 +18,7 @@ pub struct Greatest {
     most: u32,
 }
 
-/// Lets all lists go in one call, so that the end of an owner is short to prove.
+/// Frees all lists in one call, so that the end of an owner is short to prove.
 impl Drop for Greatest {
     fn drop(self) {
         let Greatest {
@@ -91,7 +91,7 @@ impl Greatest {
         self.most = highest(&self.tallies, top, None, None, None);
     }
 
-    /// The greatest count if a move changes the counts of up to three services, which are different ones.
+    /// The greatest count after a move that changes the counts of up to three different services.
     pub fn greatest_after(
         &self,
         first: Option<MovedCount>,
@@ -113,7 +113,7 @@ impl Greatest {
     }
 }
 
-/// Changes how many services have each count, if that of one service changes.
+/// Updates how many services have each count, if the count of one service changes.
 #[tactic(auto, using(crate::proofs::GreatestLemmas::retallying))]
 fn retally(tallies: &mut Fixed<u32>, left: u32, come: u32)
     requires left { left < length tallies.old.items }
@@ -128,7 +128,7 @@ fn retally(tallies: &mut Fixed<u32>, left: u32, come: u32)
     tallies.set(come, tallies.get(come) + 1);
 }
 
-/// The greatest number up to `top` that some service has as its count, once up to three counts have changed; 0 if there
+/// The greatest number up to `top` that is the count of some service, after up to three counts have changed; 0 if there
 /// is none.
 fn highest(
     tallies: &Fixed<u32>,
@@ -150,7 +150,7 @@ fn highest(
     v
 }
 
-/// Whether a number is above 0 and no service's count.
+/// Whether a number is above 0 and no service has it as its count.
 fn may_lower(
     tallies: &Fixed<u32>,
     v: u32,
@@ -169,7 +169,7 @@ fn may_lower(
     free_at(tallies, v, first, second, third)
 }
 
-/// Whether a number is no service's count.
+/// Whether no service has a number as its count.
 #[tactic(auto, unfolding(crate::specs::Replaced::is_free))]
 fn free_at(
     tallies: &Fixed<u32>,
@@ -187,7 +187,7 @@ fn free_at(
     had + gained == lost
 }
 
-/// 1 if a change takes its service's count away from a number.
+/// 1 if a change takes its service's count away from a number, else 0.
 #[tactic(auto, unfolding(crate::specs::Replaced::lost_at))]
 fn lost_at(change: Option<MovedCount>, v: u32) -> u64
     ensures value { result ≡ lost_at change v }
@@ -199,7 +199,7 @@ fn lost_at(change: Option<MovedCount>, v: u32) -> u64
     }
 }
 
-/// 1 if a change makes its service's count a number.
+/// 1 if a change makes its service's count a number, else 0.
 #[tactic(auto, unfolding(crate::specs::Replaced::gained_at))]
 fn gained_at(change: Option<MovedCount>, v: u32) -> u64
     ensures value { result ≡ gained_at change v }

@@ -1,10 +1,10 @@
 ghost use Rattle.std.specs.Prelude.{◌≡◌, ℕ, ◌+◌, ◌-◌, ◌<◌, ◌≤◌, ◌^◌, true, false, length, slice_index, slice_index_or};
 ghost use Rattle.ra_cells.specs.Held.{held, different, Ascends};
 
-/// Up to this many labels are counted one by one.
+/// At most this many labels are counted one by one.
 const SHORT: usize = 16;
 
-/// How many of the labels from start to end, which ascend, are x.
+/// How many of the ascending labels from start to end are x.
 pub(crate) fn held_in(labels: &Vec<u32>, start: usize, end: usize, x: u32) -> u32
     requires part { start ≤ end }
     requires there { end ≤ length labels.now.items }
@@ -20,7 +20,7 @@ pub(crate) fn held_in(labels: &Vec<u32>, start: usize, end: usize, x: u32) -> u3
     (behind - first) as u32
 }
 
-/// The same, found by looking at each label.
+/// Counts x among the labels from start to end by a look at each of them.
 #[tactic(auto, using(crate::proofs::HeldLemmas::scanning))]
 fn scan(labels: &Vec<u32>, start: usize, end: usize, x: u32) -> u32
     requires part { start ≤ end }
@@ -60,7 +60,7 @@ pub(crate) fn first_from(labels: &Vec<u32>, start: usize, end: usize, x: u64) ->
     low
 }
 
-/// How many different labels there are from start to end, which ascend.
+/// How many different labels there are among the ascending labels from start to end.
 #[tactic(auto, using(crate::proofs::HeldLemmas::differing))]
 pub(crate) fn different_in(labels: &Vec<u32>, start: usize, end: usize) -> u32
     requires part { start ≤ end }
@@ -78,7 +78,7 @@ pub(crate) fn different_in(labels: &Vec<u32>, start: usize, end: usize) -> u32
     count
 }
 
-/// Whether the label at a place differs from that before it, or is the first from the start.
+/// Whether the label at a place is the first from the start, or differs from the label before it.
 fn is_new(labels: &Vec<u32>, start: usize, k: usize) -> bool
     requires from { start ≤ k }
     requires there { k < length labels.now.items }

@@ -5,7 +5,7 @@ ghost use Rattle.ra_cells.specs.Marks.{mark_of};
 use ra_base::Machine;
 use ra_model::Instance;
 
-/// Which of its marks a machine is asked for.
+/// Which of its marks is read of a machine.
 #[derive(Clone, Copy)]
 pub(crate) enum Mark {
     OnMachine,

@@ -9,8 +9,8 @@ use Rattle.ra_check.specs.Services.{AreServicesOf}
 abbrev pub IsGrid : Tables → List ℕ → Type 0
 IsGrid i table = length table ≡ machine_count i * resource_count i
 
--- a scratch is made for an instance, whatever is in its tables: they have the lengths that the instance's counts
--- ask for, and the lists of members and of places are those of the instance
+-- a scratch is made for an instance, whatever its tables contain: they have the lengths that the instance's counts ask
+-- for, and the lists of members and of places are those of the instance
 pub record IsMadeFor (scratch : Scratch) (i : Tables) : Type 0 where
   pub used : IsGrid i scratch.used.items
   pub transient : IsGrid i scratch.transient.items

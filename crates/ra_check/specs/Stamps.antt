@@ -7,7 +7,7 @@ use Rattle.ra_base.specs.declared.ids.Process.{Process}
 use Rattle.ra_model.specs.Assignments.{machine_at}
 use Rattle.ra_model.specs.Members.{member_at, members_of}
 
--- the machine of process k of some
+-- the machine of process k of a list
 unfoldable pub seat_of : List Machine → List Process → ℕ → ℕ
 seat_of a processes k = machine_at a (member_at processes k)
 
@@ -38,7 +38,7 @@ pub record AreBelow (marks : List ℕ) (size bound : ℕ) : Type 0 where
 pub record AreStamped (marks : List ℕ) (size stamp n : ℕ) (e : ℕ → ℕ) : Type 0 where
   pub exactly : (x : ℕ) → x < size → (slice_index_or marks x 0 == stamp) ≡ is_named n e x
 
--- machine m, if more than one of the first n machines e 0, e 1 .. is it
+-- machine m, if it is more than once among the first n machines e 0, e 1 ..
 unfoldable pub crowd_test : (ℕ → ℕ) → ℕ → ℕ → Option Machine
 crowd_test e n m = if nat_lt 1 (count n (λ k. e k == m)) then Some (record { 0 = m }) else None
 
@@ -61,8 +61,8 @@ pub record AreSet (old new : List ℕ) (stamp : ℕ) (test : ℕ → Bool) : Typ
   pub each : (x : ℕ) → x < length old
       → slice_index_or new x 0 ≡ (if test x then stamp else slice_index_or old x 0)
 
--- marks of services: a mark u + 1 says that service u has a process at the place, and all places of the service that
--- was stamped last have its mark
+-- marks of services: a mark u + 1 says that service u has a process at the place, and every place of the service that
+-- was stamped last has its mark
 pub record TellTrue (members : List (List Process)) (places a : List Machine) (size : ℕ)
     (marks : List ℕ) (last : ℕ) : Type 0 where
   pub one_each : length marks ≡ size

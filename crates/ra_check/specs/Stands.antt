@@ -1,4 +1,4 @@
--- What a table of sums, by machine and resource, stands for.
+-- What a table of sums, by machine and resource, represents.
 use Rattle.std.specs.Prelude.{◌≡◌, ℕ, ◌+◌, ◌<◌, Bool, true, false, if◌then◌else◌, ◌==◌, List, slice_index}
 use Rattle.ra_base.specs.Tables.{cell}
 use Rattle.ra_base.specs.declared.ids.Machine.{Machine}

@@ -9,7 +9,7 @@ ghost use Rattle.ra_check.specs.Made.{IsGrid};
 use ra_base::{Fixed, Machine, Resource, read_cell};
 use ra_model::Instance;
 
-/// The balance cost of whatever assignment the table has the use of.
+/// The balance cost of the assignment whose use the table has.
 #[tactic(auto, using(ra_base::proofs::Sums::sums), unfolding(ra_model::specs::Costs::balance_cost))]
 pub(crate) fn balance_cost(inst: &Instance, used: &Fixed<u64>) -> u128
     requires { IsGrid inst.now.tables used.now.items }
@@ -37,7 +37,7 @@ fn balance_part(inst: &Instance, used: &Fixed<u64>, b: u32) -> u128
     u128::from(inst.balance(b).weight) * missing
 }
 
-/// The sum over the machines of what they lack of the second resource of an objective.
+/// The sum over the machines of their shortfalls of the second resource of an objective.
 #[tactic(auto, using(ra_base::proofs::Sums::sums))]
 fn missing(inst: &Instance, used: &Fixed<u64>, b: u32) -> u128
     requires objective { b < balance_count inst.now.tables }
@@ -53,7 +53,8 @@ fn missing(inst: &Instance, used: &Fixed<u64>, b: u32) -> u128
     sum
 }
 
-/// What one machine lacks of the second resource of an objective beside what is available of the first.
+/// By how much one machine's available amount of the second resource of an objective is below the target times that of
+/// the first.
 fn shortfall(inst: &Instance, used: &Fixed<u64>, b: u32, m: Machine) -> u64
     requires objective { b < balance_count inst.now.tables }
     requires machine { m.0 < machine_count inst.now.tables }
@@ -68,7 +69,7 @@ fn shortfall(inst: &Instance, used: &Fixed<u64>, b: u32, m: Machine) -> u64
     wanted.saturating_sub(second)
 }
 
-/// What is available of a resource of a machine.
+/// The available amount of a resource of a machine.
 fn available(inst: &Instance, used: &Fixed<u64>, m: Machine, r: Resource) -> u64
     requires machine { m.0 < machine_count inst.now.tables }
     requires resource { r.0 < resource_count inst.now.tables }

@@ -28,7 +28,7 @@ pub(crate) fn broken_capacity(
     machines_capacity(inst, &scratch.used)
 }
 
-/// The first use above a capacity, for whatever assignment the table has the use of.
+/// The first use above a capacity, for the assignment whose use the table has.
 #[tactic(auto, using(ra_base::proofs::Searches::searches), unfolding(ra_model::specs::Broken::broken_capacity))]
 fn machines_capacity(inst: &Instance, used: &Fixed<u64>) -> Option<Cause>
     requires { IsGrid inst.now.tables used.now.items }

@@ -27,7 +27,7 @@ pub(crate) fn broken_conflict(
     first_conflict(inst, a, &services.members, &mut services.marks)
 }
 
-/// The first conflict, over marks that are clear.
+/// The first conflict, found with marks that are clear.
 #[tactic(auto, using(ra_base::proofs::Searches::searches, crate::proofs::ConflictLemmas::conflicts), unfolding(ra_model::specs::Broken::broken_conflict))]
 fn first_conflict(
     inst: &Instance,
@@ -50,7 +50,7 @@ fn first_conflict(
     None
 }
 
-/// The first machine with two of the processes. Machines are stamped with a stamp that no mark has yet.
+/// The first machine with two of the processes. The machines get a stamp that no mark has yet.
 #[tactic(auto, using(crate::proofs::ConflictLemmas::crowds))]
 fn crowded(
     a: &Assignment,
@@ -73,7 +73,7 @@ fn crowded(
     least
 }
 
-/// The lesser of what was found and a machine, if that counts.
+/// The lesser of what was found and a machine, if the machine counts.
 #[tactic(auto, unfolding(crate::specs::Stamps::lowered))]
 fn lower(least: Option<Machine>, again: bool, machine: Machine) -> Option<Machine>
     ensures { result ≡ lowered least again machine }

@@ -13,8 +13,8 @@ use crate::stamps::{clear, is_stamped, neighbourhood_place, seat};
 use ra_base::{Assignment, Cause, Fixed, Machine, Process, Service};
 use ra_model::{Instance, Members, Places};
 
-/// The first service with a process in whose neighbourhood a service that it needs has none, its first such
-/// dependency and its first such process.
+/// The first service that has a process without a process of a service that it needs in its neighbourhood, its first
+/// such dependency and its first such process.
 pub(crate) fn broken_dependency(
     inst: &Instance,
     a: &Assignment,
@@ -35,7 +35,7 @@ pub(crate) fn broken_dependency(
     )
 }
 
-/// The first broken dependency, over marks that are clear.
+/// The first broken dependency, found with marks that are clear.
 #[tactic(auto, using(ra_base::proofs::Searches::searches, crate::proofs::DependencyLemmas::true_clear), unfolding(ra_model::specs::Broken::broken_dependency))]
 fn first_apart(
     inst: &Instance,
@@ -97,7 +97,7 @@ fn service_apart(
     None
 }
 
-/// Stamps the neighbourhoods that have a process of a service, unless that was done last.
+/// Stamps the neighbourhoods that have a process of a service, unless this service was stamped last.
 #[tactic(auto, using(crate::proofs::DependencyLemmas::true_set))]
 fn stamp_service(
     a: &Assignment,
@@ -145,7 +145,7 @@ fn stamp_all(
     }
 }
 
-/// The machine of the first process in whose neighbourhood the stamp isn't.
+/// The machine of the first process whose neighbourhood doesn't have the stamp.
 #[tactic(auto, using(ra_base::proofs::Searches::searches, crate::proofs::DependencyLemmas::far_seats))]
 fn first_far(
     a: &Assignment,

@@ -17,8 +17,8 @@ use ra_model::Instance;
 
 /// The first constraint that an assignment breaks, with the numbers of its cause: capacity by machine, then resource;
 /// transient use by machine, then resource; conflict by service, then machine; spread by service; dependency by
-/// service, its dependency in file order, then process; closed by process. There is none exactly if the
-/// assignment is feasible. The work is linear, and no memory is taken.
+/// service, its dependency in file order, then process; closed by process. There is none exactly if the assignment is
+/// feasible. It takes linear time, and no memory.
 pub fn first_broken(
     inst: &Instance,
     a0: &Assignment,
@@ -36,7 +36,7 @@ pub fn first_broken(
     search_all(inst, a0, a, scratch)
 }
 
-/// One search after another, in the order of the constraints.
+/// Searches for each constraint in turn, in the order of the constraints.
 #[tactic(auto, using(ra_base::proofs::Searches::choices), unfolding(ra_model::specs::Broken::first_broken))]
 fn search_all(
     inst: &Instance,

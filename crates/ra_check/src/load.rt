@@ -9,7 +9,7 @@ ghost use Rattle.ra_check.specs.Made.{IsGrid};
 use ra_base::{Fixed, Machine, Resource, read_cell};
 use ra_model::Instance;
 
-/// The load cost of whatever assignment the table has the use of.
+/// The load cost of the assignment whose use the table has.
 #[tactic(auto, using(ra_base::proofs::Sums::sums), unfolding(ra_model::specs::Costs::load_cost))]
 pub(crate) fn load_cost(inst: &Instance, used: &Fixed<u64>) -> u128
     requires { IsGrid inst.now.tables used.now.items }

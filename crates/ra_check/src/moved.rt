@@ -40,7 +40,7 @@ fn most(counts: &Fixed<u32>) -> u32
     most
 }
 
-/// Writes the number of moved processes of each service into a list, whatever is in it.
+/// Overwrites a list with the number of moved processes of each service.
 fn count_moved(inst: &Instance, a0: &Assignment, a: &Assignment, counts: &mut Fixed<u32>)
     requires a0_fits { IsAssignment inst.now.tables a0.now.items }
     requires fits { IsAssignment inst.now.tables a.now.items }

@@ -14,8 +14,8 @@ use ra_model::Instance;
 use std::marker::Brand;
 use std::sync::ledger::Blank;
 
-/// The five parts of the cost of an assignment, each multiplied by its weight, and their sum. The challenge speaks of
-/// the cost of feasible assignments alone.
+/// The five parts of the cost of an assignment, each multiplied by its weight, and their sum. The challenge defines the
+/// cost of feasible assignments only.
 #[tactic(auto, unfolding(ra_model::specs::Costs::parts_of, ra_model::specs::Costs::objective))]
 pub fn parts(inst: &Instance, a0: &Assignment, a: &Assignment, scratch: &mut Scratch) -> Parts
     requires a0_fits { IsAssignment inst.now.tables a0.now.items }

@@ -6,8 +6,8 @@ use ra_base::{Fixed, NoMemory};
 use ra_model::Instance;
 use std::alloc::Global;
 
-/// Tables that the checks of one instance write into, so that a check takes no memory. What is in them between
-/// two calls says nothing.
+/// Tables that the checks of one instance write into, so that a check takes no memory. Between two calls their contents
+/// mean nothing.
 pub struct Scratch {
     pub(crate) used: Fixed<u64>,
     pub(crate) transient: Fixed<u64>,
@@ -15,7 +15,7 @@ pub struct Scratch {
     pub(crate) services: Services,
 }
 
-/// Lets all tables go in one call, so that the end of an owner is short to prove.
+/// Frees all tables in one call, so that the end of an owner is short to prove.
 impl Drop for Scratch {
     fn drop(self) {
         let Scratch {
@@ -51,7 +51,7 @@ fn filled<T: Copy + Drop>(alloc: Global, count: usize, item: T) -> Result<Fixed<
     Ok(table)
 }
 
-/// Makes a table one of `count` equal items.
+/// Fills a table with `count` equal items.
 pub(crate) fn fill<T: Copy>(table: &mut Fixed<T>, count: usize, item: T)
     requires { count ≤ table.old.room }
     ensures { table.new.items ≡ replicate count item }

@@ -5,8 +5,8 @@ use ra_base::{Fixed, NoMemory};
 use ra_model::{Instance, Members, Places, copies};
 use std::alloc::Global;
 
-/// What the checks of services stand on: the processes of each service, places instead of labels, and one mark
-/// for each machine, which a check may stamp as it likes.
+/// What the checks of services use: the processes of each service, places instead of labels, and one mark for each
+/// machine, on which a check may put any stamp.
 #[derive(Drop)]
 pub(crate) struct Services {
     pub(crate) members: Members,
@@ -15,7 +15,7 @@ pub(crate) struct Services {
 }
 
 impl Services {
-    /// What the checks of an instance's services stand on.
+    /// The lists that the checks of an instance's services use.
     pub(crate) fn make(alloc: Global, inst: &Instance) -> Result<Services, NoMemory>
         ensures { IfOk result (λ services. AreServicesOf services inst.now.tables) }
     {

@@ -13,7 +13,7 @@ use crate::stamps::{clear, location_place, stamp_place};
 use ra_base::{Assignment, Cause, Fixed, Process, Service};
 use ra_model::{Instance, Members, Places};
 
-/// The first service whose processes are in fewer locations than it wants.
+/// The first service whose processes are in fewer locations than its spread asks for.
 pub(crate) fn broken_spread(
     inst: &Instance,
     a: &Assignment,
@@ -34,7 +34,7 @@ pub(crate) fn broken_spread(
     )
 }
 
-/// The first service in too few locations, over marks that are clear.
+/// The first service in too few locations, found with marks that are clear.
 #[tactic(auto, using(ra_base::proofs::Searches::searches, crate::proofs::SpreadLemmas::spreads), unfolding(ra_model::specs::Broken::broken_spread))]
 fn first_narrow(
     inst: &Instance,
@@ -65,7 +65,7 @@ fn first_narrow(
     None
 }
 
-/// In how many locations the processes are. Locations are stamped with a stamp that no mark has yet.
+/// In how many locations the processes are. The locations get a stamp that no mark has yet.
 #[tactic(auto, using(crate::proofs::SpreadLemmas::spreading), unfolding(crate::specs::Stamps::holds_site))]
 fn count_locations(
     a: &Assignment,

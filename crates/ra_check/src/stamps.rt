@@ -5,7 +5,7 @@ ghost use Rattle.ra_check.specs.Stamps.{seat_of, site_of, AreBelow};
 use ra_base::{Assignment, Fixed, Machine, Process};
 use ra_model::Places;
 
-/// The machine of process `k` of some.
+/// The machine of process `k` of a list.
 #[tactic(auto, using(crate::proofs::StampLemmas::reads))]
 pub(crate) fn seat(a: &Assignment, processes: &[Process], k: usize) -> Machine
     requires there { k < length processes.now }
@@ -68,7 +68,7 @@ pub(crate) fn stamp_place(marks: &mut Fixed<u32>, place: Machine, stamp: u32) ->
     before
 }
 
-/// Takes all stamps away.
+/// Clears all stamps.
 #[tactic(auto, using(crate::proofs::StampLemmas::clearing))]
 pub(crate) fn clear(marks: &mut Fixed<u32>)
     ensures { AreBelow marks.new.items (length marks.old.items) 1 }

@@ -30,7 +30,7 @@ pub(crate) fn broken_transient(
     machines_transient(inst, &scratch.transient)
 }
 
-/// The first transient use above a capacity, for whatever assignment the table has the transient use of.
+/// The first transient use above a capacity, for the assignment whose transient use the table has.
 #[tactic(auto, using(ra_base::proofs::Searches::searches), unfolding(ra_model::specs::Broken::broken_transient))]
 fn machines_transient(inst: &Instance, used: &Fixed<u64>) -> Option<Cause>
     requires { IsGrid inst.now.tables used.now.items }

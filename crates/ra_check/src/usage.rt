@@ -11,7 +11,7 @@ use ra_base::{Assignment, Fixed, Machine, Process, Resource, Steps, add_to_cell}
 use ra_model::{Instance, machine_of};
 use std::sync::ledger::{Blank, Ledger};
 
-/// Writes the use of each machine's resources into a table, whatever is in it.
+/// Overwrites a table with the use of each machine's resources.
 pub(crate) fn sum_usage<L: Ledger>(
     inst: &Instance,
     a: &Assignment,
@@ -35,7 +35,7 @@ pub(crate) fn sum_usage<L: Ledger>(
     }
 }
 
-/// Writes the transient use of each machine's resources into a table, whatever is in it.
+/// Overwrites a table with the transient use of each machine's resources.
 pub(crate) fn sum_transient<L: Ledger>(
     inst: &Instance,
     a0: &Assignment,
@@ -63,7 +63,7 @@ pub(crate) fn sum_transient<L: Ledger>(
 }
 
 /// Adds the requirements of a process to the row of the machine that it leaves and to that of the machine that it
-/// takes; if it stays, they are one row.
+/// enters, or once if the process stays.
 fn add_rows<L: Ledger>(
     inst: &Instance,
     p: Process,

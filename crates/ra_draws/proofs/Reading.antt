@@ -81,7 +81,7 @@ handed_list lot k list words reads given = record {
   words_are = given ∙ sym (proposal_of_list list.now k) ∙ ap (λ (s : Source). proposal_words s k) (sym reads.0);
 }
 
--- the words of a proposal within the budget stand in the list
+-- the words of a proposal within the budget are in the list
 pub list_reaches : (lot : Lot) (k : ℕ) (list : Bor (Listed ℕ)) (reader : Reader) → ReadsFrom reader lot k →
     reader ≡ WrittenList list → k < lot.budget → 8 * k + 8 ≤ length list.now.items
 unfolding ReadsFrom

@@ -1,6 +1,6 @@
--- The rise of cost that a proposal is allowed: it falls from the slack to nothing as the budget is used.
+-- The rise of cost that a proposal may bring: it falls from the slack to 0 as the budget is used.
 use Rattle.std.specs.Prelude.{ℕ, ◌-◌, ◌*◌, ◌/◌}
 
--- floor(slack * (budget - 1 - k) / budget), what proposal k is allowed
+-- floor(slack * (budget - 1 - k) / budget), the rise that proposal k may bring
 unfoldable pub allowance : ℕ → ℕ → ℕ → ℕ
 allowance slack budget k = slack * (budget - 1 - k) / budget

@@ -18,7 +18,7 @@ budget_of lots w = (lot_at lots w).budget
 unfoldable pub words_of : List Lot → ℕ → ℕ → List ℕ
 words_of lots w k = proposal_words (lot_at lots w).source k
 
--- the rise of cost that proposal k of worker w is allowed
+-- the rise of cost that proposal k of worker w may bring
 unfoldable pub allowance_of : ℕ → List Lot → ℕ → ℕ → ℕ
 allowance_of slack lots w k = allowance slack (budget_of lots w) k
 

@@ -16,7 +16,7 @@ pub struct Lots {
 impl Lots {
     ghost use Rattle.ra_draws.specs.Shown.{slack_in, drawing_in, lots_in};
 
-    /// These lots: 1 to 16 of them, with budgets of at most 1,000,000 together, and with eight words for each
+    /// The lots of a run: 1 to 16 of them, with budgets of at most 1,000,000 together, and with eight words for each
     /// proposal of a written lot.
     pub fn of(slack: u64, drawing: Drawing, lots: Vec<Lot>) -> Lots
         requires { IsLots lots.items }
@@ -31,7 +31,8 @@ impl Lots {
         }
     }
 
-    /// The rise of cost that a worker's first proposal is allowed at most; it falls to 0 at the last one.
+    /// An upper bound of the rise of cost that a worker's first proposal may bring; the allowance falls to 0 at its
+    /// last one.
     pub fn slack(&self) -> u64
         ensures { result ≡ slack_in self.now }
     {

@@ -1,5 +1,5 @@
 //! The random words of a run: lots, each a source of words with a budget of proposals, the eight words of each
-//! proposal, and the rise of cost that a proposal is allowed.
+//! proposal, and the rise of cost that a proposal may bring.
 #![tactic(auto)]
 
 mod allowance;

@@ -122,7 +122,7 @@ pub closed_with : (d : Drafted) (m : ℕ) → closed_at (instance_of d) m ≡ cl
 unfolding with_processes closed_at
 closed_with d m = refl
 
--- the same number in two drafts of one instance
+-- a number that edits leave alone, in two drafts of one instance
 pub with_both : (d e : Drafted) (f : Tables → ℕ) → e.origin ≡ d.origin →
     ((g : Drafted) → f (instance_of g) ≡ f g.origin) → f (instance_of e) ≡ f (instance_of d)
 with_both d e f origin same = same e ∙ ap f origin ∙ sym (same d)

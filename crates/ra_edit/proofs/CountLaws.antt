@@ -37,7 +37,7 @@ count_written f g s x w writes t y = ap (λ o. unwrap_or o 0)
     (writes (t, y) ∙ ap (λ b. cond b w (f (t, y))) (key_test s x t y))
     ∙ cond_at (eqb s t && eqb x y) w (f (t, y))
 
--- what is true of each key if it is so of this one, and of the others, where nothing is written
+-- what holds of each key if it holds of this one, and of the others, where nothing is written
 by_key : (P : ℕ → ℕ → Bool → Type 0) (s x : ℕ) → P s x true → ((t y : ℕ) → P t y false) → (t y : ℕ) →
     P t y (eqb s t && eqb x y)
 by_key P s x here other t y = ⊎_elim

@@ -358,7 +358,7 @@ between_enough d e p m r loads are one w there =
     let all = rw there at more in
     omega (arith, transient_kept e loads m r are w, all)
 
--- the same at a row that was read
+-- what a process requires at a row that was read
 
 pub go_used : (d e : Drafted) (p at r : ℕ) (amounts : List ℕ) (loads : Loads) → AreLoadsOf e loads → OneMore d e p →
     at ≡ machine_at e.current p → Asks e p amounts → r < resource_count e.origin →

@@ -235,7 +235,7 @@ pub resized_down : (e : Drafted) (home here : ℕ) (x : Option Cause) → row_ca
 unfolding resized_breaks first_of_two
 resized_down e home here x none down is = is ∙ sym (rw (none, le-ltb home here down, or_else_none) refl)
 
--- what is found first, or behind what isn't there
+-- what is found first, or after what isn't there
 
 pub found_first : {X : Type 0} → (a b : Option X) (x : X) → a ≡ Some x → Some x ≡ or_else a b
 unfolding or_else

@@ -16,11 +16,12 @@ key_cmp x y = ordering_then (nat_cmp x.0 y.0) (nat_cmp x.1 y.1)
 abbrev pub count_in : Counts → ℕ → ℕ → ℕ
 count_in counts s label = count_at (get key_cmp counts.map) (s, label)
 
--- to count one more of them takes no memory
+-- to count one more of these processes takes no memory
 abbrev pub HasCount : Counts → ℕ → ℕ → Type 0
 HasCount counts s label = IsSome (get key_cmp counts.map (s, label))
 
--- one has a process more of service s at a label, and the same of each other service and at each other label
+-- one of two counts has one more process of service s at a label, and as many of each other service and at each other
+-- label
 abbrev pub HasOneAt : ℕ → ℕ → Counts → Counts → Type 0
 HasOneAt s label low high =
     (t other : ℕ) → count_in high t other ≡ count_in low t other + one_if (s == t && label == other)

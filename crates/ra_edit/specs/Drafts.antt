@@ -5,13 +5,13 @@ use Rattle.ra_model.specs.declared.raw.ProcessRow.{ProcessRow}
 use Rattle.ra_model.specs.declared.raw.Tables.{Tables}
 
 pub record Drafted : Type 0 where
-  -- the instance from which all but the processes is
+  -- the instance that the draft started from, of which all but the processes stays
   pub origin : Tables
   -- the processes
   pub rows : List ProcessRow
   -- what they require, by process, then resource
   pub requirements : List ℕ
-  -- the machine of each process at first, and its machine now
+  -- the initial machine of each process, and its present machine
   pub initial : List Machine
   pub current : List Machine
 

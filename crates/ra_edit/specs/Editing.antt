@@ -30,7 +30,7 @@ unfoldable pub drop_row : ℕ → List ℕ → ℕ → ℕ → List ℕ
 drop_row width table n p =
     take ((n - 1) * width) (put_row width table p (row_of width table (n - 1)))
 
--- a process more, which stands on its machine at first and now
+-- a process more, with its initial and its present machine
 unfoldable pub added : Drafted → Service → Machine → ℕ → List ℕ → Drafted
 added d service machine cost requirements = record d {
   rows = d.rows ++ process_of service cost ∷ [];
@@ -48,7 +48,7 @@ retired d p = record d {
   current = swap_remove d.current p (record { 0 = 0 });
 }
 
--- other requirements of a process
+-- a process with other requirements
 unfoldable pub resized : Drafted → ℕ → List ℕ → Drafted
 resized d p requirements =
     record d { requirements = put_row (resource_count d.origin) d.requirements p requirements }

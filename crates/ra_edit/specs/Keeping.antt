@@ -40,13 +40,13 @@ pub record IsSound (d : Drafted) : Type 0 where
   pub initial : IsAssignment (instance_of d) d.initial
   pub current : IsAssignment (instance_of d) d.current
 
--- besides, the current list breaks no constraint, and its cost has these parts
+-- a sound draft whose current list breaks no constraint and costs these parts
 pub record IsKept (d : Drafted) (parts : Parts) : Type 0 where
   pub sound : IsSound d
   pub unbroken : broken_in d ≡ None
   pub parts_are : parts ≡ parts_of (instance_of d) d.initial d.current
 
--- what is found of a draft: its first broken constraint, or the parts of its cost
+-- what is known of a draft: its first broken constraint, or the parts of its cost
 abbrev pub IsJudged : Drafted → Judged → Type 0
 IsJudged d (Refused cause) = broken_in d ≡ Some cause
 IsJudged d (Fine parts) =

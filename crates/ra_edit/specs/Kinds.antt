@@ -23,7 +23,7 @@ pub record HasGone (d e : Drafted) (p : ℕ) : Type 0 where
   pub there : p < length d.rows
   pub fewer : OneMore e d p
 
--- process p requires something else
+-- process p has other requirements
 pub record HasOther (d e : Drafted) (p : ℕ) : Type 0 where
   pub there : p < length d.rows
   pub before : OneMore (retired d p) d p
@@ -38,13 +38,13 @@ pub record Asks (d : Drafted) (p : ℕ) (amounts : List ℕ) : Type 0 where
   pub each : (r : ℕ) → r < resource_count d.origin
       → slice_index amounts r ≡ requirement_of (instance_of d) p r
 
--- an edit that gives these requirements has made a draft another one
+-- an edit that gives these requirements turns one draft into another
 abbrev pub IsEdited : Drafted → Edit → List ℕ → Drafted → Type 0
 IsEdited d (Add s m c) amounts e = HasCome d e s.0 m.0 × Asks e (length d.rows) amounts
 IsEdited d (Retire p) amounts e = HasGone d e p
 IsEdited d (Resize p) amounts e = HasOther d e p × Asks e p amounts
 
--- of service s no process is left in a neighbourhood, and of each other one as many as before
+-- no process of service s is left in a neighbourhood, and of each other service as many as before are
 pub record IsLeft (d e : Drafted) (s label : ℕ) : Type 0 where
   pub origin : e.origin ≡ d.origin
   pub none : in_neighbourhood (instance_of e) e.current s label ≡ 0

@@ -1,4 +1,4 @@
--- What is kept of the use of the machines while edits change it.
+-- The use of the machines, which is kept while edits change it.
 use Rattle.std.specs.Prelude.{◌≡◌, ℕ, ◌+◌, ◌<◌, if◌then◌else◌, ◌==◌, ◌||◌, true, List, length, slice_index}
 use Rattle.ra_base.specs.Tables.{cell}
 use Rattle.ra_model.specs.Numbers.{resource_count}
@@ -14,25 +14,25 @@ use Rattle.ra_edit.specs.Keeping.{drafted, HasRoom, IsKept}
 use Rattle.ra_edit.specs.Members.{AreMembersOf}
 use Rattle.ra_edit.specs.Moved.{AreMovedOf}
 
--- one table has more than another: an amount of each resource at machine `at`
+-- one table has more than another by an amount of each resource at machine `at`, and by nothing elsewhere
 pub record HasMoreAt (width at : ℕ) (amount : ℕ → ℕ) (low high : List ℕ) : Type 0 where
   pub each : (m r : ℕ) → r < width
       → cell width high m r ≡ cell width low m r + (if at == m then amount r else 0)
   pub same_length : length high ≡ length low
 
--- an amount of each resource at two machines, and once if they are one
+-- one table has more than another by an amount of each resource at two machines, once if they are equal
 pub record HasMoreBetween (width home at : ℕ) (amount : ℕ → ℕ) (low high : List ℕ) : Type 0 where
   pub each : (m r : ℕ) → r < width
       → cell width high m r
       ≡ cell width low m r + (if (home == m) || (at == m) then amount r else 0)
   pub same_length : length high ≡ length low
 
--- one of two has what a process uses besides, whose machine was `home` at first and is `at` now
+-- one of two has in addition what a process uses, whose machine was `home` at first and is `at` now
 pub record HasMore (width home at : ℕ) (amount : ℕ → ℕ) (low high : Loads) : Type 0 where
   pub used : HasMoreAt width at amount low.used.items high.used.items
   pub between : HasMoreBetween width home at amount low.between.items high.between.items
 
--- what the first n processes of a draft use of each resource of each machine, now and in between
+-- what the first n processes of a draft use of each resource of each machine, now and in transition
 pub record HasCounted (d : Drafted) (n : ℕ) (loads : Loads) : Type 0 where
   pub used : IsTally (resource_count d.origin) n (use_share (instance_of d)) d.current
       loads.used.items
@@ -41,7 +41,7 @@ pub record HasCounted (d : Drafted) (n : ℕ) (loads : Loads) : Type 0 where
   pub used_grid : IsGrid d.origin loads.used.items
   pub between_grid : IsGrid d.origin loads.between.items
 
--- what all of them use
+-- what all processes of a draft use
 abbrev pub AreLoadsOf : Drafted → Loads → Type 0
 AreLoadsOf d loads = HasCounted d (length d.rows) loads
 
@@ -57,7 +57,7 @@ pub record IsTransientRow (d : Drafted) (m : ℕ) (row : List ℕ) : Type 0 wher
   pub each : (r : ℕ) → r < resource_count d.origin
       → slice_index row r ≡ transient_of (instance_of d) d.initial d.current m r
 
--- a machine of process p: the initial one, or that of now
+-- a machine of process p: its initial or its present one
 abbrev pub IsThere : Drafted → ℕ → ℕ → Type 0
 IsThere d p m = ((machine_at d.initial p == m) || (machine_at d.current p == m)) ≡ true
 
@@ -65,7 +65,7 @@ IsThere d p m = ((machine_at d.initial p == m) || (machine_at d.current p == m))
 abbrev pub draft_in : Kept → Drafted
 draft_in k = drafted k.inst.now.tables k.lists
 
--- what is kept is that of one draft: the cost of its current list, what its processes use, where they are by service,
+-- what is kept belongs to one draft: the cost of its current list, what its processes use, where they are by service,
 -- the topology of its instance, and how many processes have moved
 pub record IsHeld (k : Kept) : Type 0 where
   pub kept : IsKept (draft_in k) k.parts

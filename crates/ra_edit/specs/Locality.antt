@@ -1,6 +1,6 @@
--- Edits are local: of two lists that are feasible before an edit, the first broken constraint after it is the first one
--- among those that the edit touches. So that no number of a process stands in these laws, each speaks of two drafts of
--- which one has a process more.
+-- Edits are local: if two lists are feasible before an edit, the first broken constraint after it is the first one
+-- among those that the edit touches. Each law speaks of two drafts of which one has a process more, so that no number
+-- of a process occurs in it.
 use Rattle.std.specs.Prelude.{◌≡◌, ℕ, ◌<◌, None}
 use Rattle.ra_model.specs.Numbers.{machine_count, service_count, service_of, neighbourhood_of}
 use Rattle.ra_model.specs.Assignments.{machine_at}
@@ -33,7 +33,7 @@ RetiresAreLocal =
     → first_broken (instance_of d) d.initial d.current
     ≡ retired_breaks (instance_of d) d.current s label
 
--- a process requires something else, beside the same other processes
+-- a process has other requirements, and the other processes are the same
 abbrev pub ResizesAreLocal : Type 0
 ResizesAreLocal =
     (low d e : Drafted) (p home here : ℕ) → OneMore low d p

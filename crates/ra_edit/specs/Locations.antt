@@ -9,7 +9,7 @@ use Rattle.ra_edit.specs.Counts.{count_in}
 abbrev pub labels_in : Counts → ℕ → ℕ
 labels_in counts s = count (2 ^ 32) (λ label. nat_lt 0 (count_in counts s label))
 
--- the numbers kept are those of so many services
+-- the kept numbers are those of this number of services
 pub record AreNumbered (services : ℕ) (locations : Locations) : Type 0 where
   pub one_each : length locations.numbers.items ≡ services
   pub each : (s : ℕ) → s < services

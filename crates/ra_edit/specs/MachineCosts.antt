@@ -13,7 +13,8 @@ pub record AreCostsOn (d : Drafted) (m : ℕ) (costs : MachineCosts) : Type 0 wh
   pub load_small : costs.load ≤ 20 * 2 ^ 96
   pub balance_small : costs.balance ≤ 10 * 2 ^ 96
 
--- of a cost with these parts in one draft, the load cost and the balance cost with what machine m costs in another
+-- if the cost in one draft has these parts: the load cost and the balance cost, with what machine m costs in another
+-- draft instead
 pub record AreCostsWith (d e : Drafted) (m : ℕ) (cost : Parts) (costs : MachineCosts) : Type 0 where
   pub before : MachineCosts
   pub after : MachineCosts

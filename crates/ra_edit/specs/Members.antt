@@ -1,4 +1,4 @@
--- What is kept of the processes of each service while edits change them: how many are at each spot.
+-- The counts of the processes of each service, by spot, which are kept while edits change them.
 use Rattle.std.specs.Prelude.{◌≡◌, ℕ, ◌+◌, ◌≤◌, ◌==◌, ◌&&◌, length}
 use Rattle.ra_base.specs.Sums.{one_if}
 use Rattle.ra_model.specs.declared.raw.Tables.{Tables}
@@ -26,16 +26,16 @@ pub record HasMembers (d : Drafted) (n : ℕ) (members : Members) : Type 0 where
       ≡ tally n (of_service (instance_of d) s (is_there d.origin spot)) d.current
   pub numbered : AreNumbered (service_count d.origin) members.locations
 
--- all of them are
+-- all processes of a draft are counted
 abbrev pub AreMembersOf : Drafted → Members → Type 0
 AreMembersOf d members = HasMembers d (length d.rows) members
 
--- one has a process more, which is of service s and on machine m
+-- one of two has one more process, which is of service s and on machine m
 pub record HasMember (i : Tables) (s m : ℕ) (low high : Members) : Type 0 where
   pub each : (t : ℕ) (spot : Spot)
       → members_in high t spot ≡ members_in low t spot + one_if (s == t && is_there i spot 0 m)
 
--- the same processes are counted
+-- both lists count the same processes
 pub record AreSameIn (old new : Members) : Type 0 where
   pub each : (s : ℕ) (spot : Spot) → members_in new s spot ≡ members_in old s spot
   pub numbers : new.locations.numbers.items ≡ old.locations.numbers.items

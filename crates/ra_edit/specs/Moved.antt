@@ -1,4 +1,4 @@
--- What is kept of the moved processes while edits change them.
+-- The counts of the moved processes, which are kept while edits change them.
 use Rattle.std.specs.Prelude.{◌≡◌, ℕ, length, slice_index}
 use Rattle.ra_model.specs.Numbers.{service_count}
 use Rattle.ra_model.specs.Services.{moved_of}

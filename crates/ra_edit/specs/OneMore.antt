@@ -14,7 +14,7 @@ pub record IsSame (low : Drafted) (k : ℕ) (high : Drafted) (q : ℕ) : Type 0 
   pub home : machine_at low.initial k ≡ machine_at high.initial q
   pub here : machine_at low.current k ≡ machine_at high.current q
 
--- the second draft has process p besides those of the first, whatever numbers they have
+-- the second draft has process p in addition to those of the first, whatever numbers they have
 pub record OneMore (low high : Drafted) (p : ℕ) : Type 0 where
   pub origin : high.origin ≡ low.origin
   pub size : length high.rows ≡ length low.rows + 1
@@ -22,10 +22,10 @@ pub record OneMore (low high : Drafted) (p : ℕ) : Type 0 where
   -- each process of the first is one of the second
   pub kept : (k : ℕ) → k < length low.rows
       → (q : ℕ) × (q < length high.rows) × (q ≢ p) × IsSame low k high q
-  -- and the other way round, but for process p
+  -- each process of the second but p is one of the first
   pub others : (q : ℕ) → q < length high.rows → q ≢ p
       → (k : ℕ) × (k < length low.rows) × IsSame low k high q
-  -- a sum over the processes of the second is that over those of the first with what process p adds
+  -- a sum over the processes of the second is the sum over those of the first plus what process p adds
   pub sums : (f g : ℕ → ℕ)
       → ((k q : ℕ) → k < length low.rows → q < length high.rows → IsSame low k high q → f k ≡ g q)
       → total (length high.rows) g ≡ total (length low.rows) f + g p

@@ -24,8 +24,8 @@ unfoldable pub judged : Option Cause → ℕ → EditReply
 judged (Some cause) cost = Broken cause
 judged None cost = Done cost
 
--- why an edit makes nothing at all of so many processes: its process doesn't exist, there is no room for one more, or
--- it is the last one
+-- why an edit makes nothing at all of this number of processes: its process doesn't exist, there is no room for one
+-- more, or it is the last one
 unfoldable pub barred : ℕ → Edit → Option EditReply
 barred count (Add service machine cost) = if count == 50000 then Some Full else None
 barred count (Retire p) =
@@ -66,7 +66,7 @@ unfoldable pub replies_to : Drafted → EditLists → ℕ → List EditReply
 replies_to d e zero = []
 replies_to d e (suc n) = replies_to d e n ++ reply_at d e n ∷ []
 
--- a draft stands behind some of the edits
+-- a draft has done some of the edits
 pub record IsAfterSome (before : Drafted) (e : EditLists) (after : Drafted) : Type 0 where
   pub number : ℕ
   pub few : number ≤ length e.edits

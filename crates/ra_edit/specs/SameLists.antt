@@ -20,7 +20,7 @@ pub record HasLists (x y : RawInstance) : Type 0 where
   pub service_weight : x.service_weight ≡ y.service_weight
   pub machine_weight : x.machine_weight ≡ y.machine_weight
 
--- and the same machines are closed
+-- x has the lists of y, and the same machines are closed
 pub record AreSameLists (i j : Tables) : Type 0 where
   pub lists : HasLists j.raw i.raw
   pub closed : (m : ℕ) → m < machine_count i → closed_at j m ≡ closed_at i m

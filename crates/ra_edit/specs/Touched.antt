@@ -1,4 +1,4 @@
--- What an edit can break of two lists that were feasible before it: what it touches, and nothing else.
+-- What an edit can break of two lists that were feasible before it: only what it touches.
 use Rattle.std.specs.Prelude.{ℕ, List, Option, None, if◌then◌else◌, ◌==◌, ◌&&◌, nat_lt}
 use Rattle.ra_base.specs.Searches.{or_else, first}
 use Rattle.ra_base.specs.declared.ids.Machine.{Machine}
@@ -25,23 +25,23 @@ added_breaks i a0 a s m =
     (or_else (conflict_test i a s m)
     (first (dependency_count i s) (far_from i a s (neighbourhood_of i m)))))
 
--- no process of service s is in a neighbourhood where one is of service u, which depends on it
+-- no process of service s is in a neighbourhood that has one of service u, which depends on s
 unfoldable pub left_alone : Tables → List Machine → ℕ → ℕ → ℕ → Option Cause
 left_alone i a s label u =
     cause_if (in_neighbourhood i a s label == 0 && nat_lt 0 (in_neighbourhood i a u label))
     (Dependency (record { 0 = u }) (record { 0 = s }) label)
 
--- the same of a service that may depend on service s or not
+-- `left_alone`, asked only of a service u that depends on service s
 unfoldable pub left_by : Tables → List Machine → ℕ → ℕ → ℕ → Option Cause
 left_by i a s label u = if depends i u s then left_alone i a s label u else None
 
--- a process less, of service s in a neighbourhood: the spread of its service, and those in the neighbourhood that
--- depend on it
+-- a process less, of service s in a neighbourhood: the spread of its service, and the processes in the neighbourhood
+-- that depend on it
 unfoldable pub retired_breaks : Tables → List Machine → ℕ → ℕ → Option Cause
 retired_breaks i a s label =
     or_else (spread_test i a s) (first (service_count i) (left_by i a s label))
 
--- what is found first at two machines, in the order of their numbers
+-- the first thing that is found at two machines, in the order of their numbers
 unfoldable pub first_of_two : ℕ → ℕ → (ℕ → Option Cause) → Option Cause
 first_of_two m n f = if nat_lt m n then or_else (f m) (f n) else or_else (f n) (f m)
 

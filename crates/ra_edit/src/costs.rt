@@ -1,4 +1,4 @@
-//! What the lists cost after an edit, by what it touches.
+//! What the lists cost after an edit, computed from what the edit touches.
 ghost use Rattle.std.specs.Prelude.{◌≡◌, ◌+◌, ◌*◌, ◌^◌, ◌<◌, ◌≤◌, length};
 ghost use Rattle.ra_model.specs.Assignments.{machine_at};
 ghost use Rattle.ra_model.specs.Costs.{process_share};
@@ -22,7 +22,7 @@ pub(crate) struct MachineCosts {
     pub(crate) balance: u128,
 }
 
-/// What a machine costs of which this much is used.
+/// What a machine with this use costs.
 fn costs_on(inst: &Instance, m: Machine, row: &[u64]) -> MachineCosts
     requires machine { m.0 < machine_count inst.now.tables }
     requires one_each { length row.now ≡ resource_count inst.now.tables }
@@ -37,7 +37,7 @@ fn costs_on(inst: &Instance, m: Machine, row: &[u64]) -> MachineCosts
     }
 }
 
-/// The load cost and the balance cost of all machines, if this much of one machine is used instead.
+/// The load cost and the balance cost of all machines, if one machine has this use instead.
 pub(crate) fn costs_with(
     inst: &Instance,
     lists: &Lists,
@@ -91,7 +91,7 @@ pub(crate) fn way_share(inst: &Instance, lists: &Lists, p: Process) -> u128
     u128::from(inst.machine_weight()) * u128::from(way)
 }
 
-/// A sum in which one term is replaced.
+/// A sum with one term replaced.
 fn replaced(sum: u128, before: u128, after: u128) -> u128
     requires counted { before ≤ sum }
     requires fits { sum + after < 2 ^ 128 }
@@ -100,7 +100,7 @@ fn replaced(sum: u128, before: u128, after: u128) -> u128
     sum - before + after
 }
 
-/// Five parts with their sum.
+/// The five parts with their sum.
 pub(crate) fn summed(
     load: u128,
     balance: u128,

@@ -5,14 +5,14 @@ use ra_base::{NoMemory, Service};
 use std::alloc::Global;
 use std::collections::BTreeMap;
 
-/// How many processes of each service are counted at each label. Only counts above 0 are kept, and those for which
+/// How many processes of each service are counted at each label. Only the counts above 0 are kept, and those for which
 /// memory was taken.
 pub(crate) struct Counts {
     /// By service, then label.
     pub(crate) map: BTreeMap<(u32, u32), u32>,
 }
 
-/// Lets the map go in one call, so that the end of an owner is short to prove.
+/// Frees the map in one call, so that the end of an owner is short to prove.
 impl Drop for Counts {
     fn drop(self) {
         let Counts { map: _ } = self;
@@ -36,7 +36,7 @@ impl Counts {
         self.map.get(&(s.0, label)).copied().unwrap_or(0)
     }
 
-    /// Takes the memory to count a process of a service at a label. No count is changed.
+    /// Takes the memory to count a process of a service at a label. No count changes.
     pub(crate) fn admit(&mut self, s: Service, label: u32) -> Result<(), NoMemory>
         ensures same { (t other : ℕ) → count_in self.new t other ≡ count_in self.old t other }
         ensures there { OnOk result (HasCount self.new s.0 label) }
@@ -47,7 +47,7 @@ impl Counts {
         Ok(())
     }
 
-    /// Counts a process more of a service at a label.
+    /// Counts one more process of a service at a label.
     pub(crate) fn come(&mut self, s: Service, label: u32)
         requires there { HasCount self.old s.0 label }
         requires below { count_in self.old s.0 label + 1 < 2 ^ 32 }
@@ -58,7 +58,7 @@ impl Counts {
         }
     }
 
-    /// Counts a process less of a service at a label.
+    /// Counts one process less of a service at a label.
     pub(crate) fn go(&mut self, s: Service, label: u32)
         requires { 0 < count_in self.old s.0 label }
         ensures { HasOneAt s.0 label self.new self.old }

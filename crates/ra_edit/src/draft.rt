@@ -29,7 +29,7 @@ use std::alloc::Global;
 use std::marker::Model;
 
 /// An instance whose processes are edited, with the list of their initial machines and the list of their machines now.
-/// The second is feasible at all times.
+/// The second list is feasible at all times.
 #[derive(Drop)]
 pub struct Draft<'a> {
     kept: Kept<'a>,
@@ -47,11 +47,11 @@ impl<'a> Model for Draft<'a> {
 }
 
 impl<'a> Draft<'a> {
-    /// The draft of a feasible current list, whose cost has these parts. The instance and its topology are lent. The time
-    /// grows with the processes times the resources, or times the logarithm of their number if that is more, with the
-    /// machines times the resources and with the services. The draft keeps two numbers for each machine and resource, two
-    /// for each service, at most three counts and a number for each process, and twice the room of the lists of the most
-    /// processes that an instance may have, of which `leave` and `finish` fill the second.
+    /// The draft of a feasible current list, whose cost has these parts. It borrows the instance and its topology. The
+    /// time grows with the processes times the resources, or times the logarithm of their number if that is more, with
+    /// the machines times the resources and with the services. The draft keeps two numbers for each machine and
+    /// resource, two for each service, at most three counts and a number for each process, and twice the room of the
+    /// lists of the most processes that an instance may have, of which `leave` and `finish` fill the second.
     pub fn make(
         alloc: Global,
         inst: &'a Instance,
@@ -84,11 +84,11 @@ impl<'a> Draft<'a> {
         })
     }
 
-    /// Does edit number `i`, if there is nothing against it. An edit that isn't done changes nothing.
+    /// Does edit number `i`, unless something bars it. An edit that isn't done changes nothing.
     ///
     /// # Errors
     ///
-    /// Want of memory. Nothing is changed then.
+    /// The system refused memory. Then nothing has changed.
     pub fn edit(&mut self, alloc: Global, edits: &Edits, i: u64) -> Result<EditReply, NoMemory>
         requires edit { i < length edits.now.edits }
         requires fits { AreEditsFor self.old.origin edits.now }
@@ -116,7 +116,7 @@ impl<'a> Draft<'a> {
         }
     }
 
-    /// The parts of what the current list costs.
+    /// The parts of the cost of the current list.
     pub fn parts(&self) -> Parts
         ensures parts { result ≡ parts_of (instance_of self.now) self.now.initial self.now.current }
         ensures feasible { Feasible (instance_of self.now) self.now.initial self.now.current }
@@ -179,7 +179,7 @@ impl<'a> Draft<'a> {
     }
 }
 
-/// Why an edit can't apply at all: no such process, none would be left, or the instance is full.
+/// Why an edit can't apply at all: there is no such process, no process would be left, or the instance is full.
 #[tactic(auto, unfolding(crate::specs::Replies::barred))]
 fn barred(lists: &Lists, edit: Edit) -> Option<EditReply>
     ensures { result ≡ barred (length lists.now.rows.items) edit }

@@ -1,4 +1,4 @@
-//! The instance of a draft with the processes that the draft left, in place of its own. Nothing is copied.
+//! The instance of a draft with the processes that the draft left instead of its own. Nothing is copied.
 ghost use Rattle.std.specs.Prelude.{◌≡◌};
 ghost use Rattle.ra_model.specs.Costs.{parts_of};
 ghost use Rattle.ra_model.specs.Feasible.{Feasible};
@@ -10,8 +10,8 @@ ghost use Rattle.ra_edit.specs.SameLists.{AreSameLists};
 use ra_base::{Assignment, Fixed};
 use ra_model::{Instance, ProcessRow};
 
-/// What is left of a draft without its instance: the processes, what they require by process, then resource, and the two
-/// lists of machines.
+/// What a draft leaves when it gives back its instance: the processes, what they require by process, then resource, and
+/// the two lists of machines.
 #[derive(Drop)]
 pub struct Left {
     pub rows: Fixed<ProcessRow>,
@@ -20,7 +20,7 @@ pub struct Left {
     pub current: Assignment,
 }
 
-/// What is left of a draft: the edited instance and its two lists. The machines that were closed are closed.
+/// The edited instance and its two lists. The machines that were closed are closed.
 #[derive(Drop)]
 pub struct Edited {
     pub instance: Instance,
@@ -29,7 +29,7 @@ pub struct Edited {
 }
 
 impl Edited {
-    /// An instance whose draft left these lists, with the processes among them in place of its own.
+    /// An instance whose draft left these lists, with the processes in these lists instead of its own.
     pub fn of(instance: Instance, left: Left) -> Edited
         requires sound { IsSound (left_in instance.tables left) }
         requires feasible { Feasible (instance_of (left_in instance.tables left))

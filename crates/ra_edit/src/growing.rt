@@ -6,7 +6,7 @@ use ra_base::{Fixed, NoMemory};
 use std::alloc::Global;
 use std::marker::Model;
 
-/// A list that changes in place, in room that is taken once. The same room lies empty beside it, so that the items can be
+/// A list that changes in place, in room that is taken once. As much room again is kept empty, so that the items can be
 /// laid out in a `Fixed` without taking memory.
 #[derive(Drop)]
 pub(crate) struct Growing<T: Copy> {
@@ -27,7 +27,7 @@ impl<T: Copy> Model for Growing<T> {
 }
 
 impl<T: Copy> Growing<T> {
-    /// The list of some items, with this room.
+    /// A list of these items, with this room.
     pub(crate) fn make(alloc: Global, items: &[T], room: usize) -> Result<Growing<T>, NoMemory>
         requires { length items.now ≤ room }
         ensures items { IfOk result (λ g. g.items ≡ items.now) }
@@ -78,7 +78,7 @@ impl<T: Copy> Growing<T> {
         self.items.swap_remove(place);
     }
 
-    /// Puts other items in the place of some, from a place on.
+    /// Overwrites items with others, from a place on.
     pub(crate) fn write(&mut self, start: usize, part: &[T])
         requires { start + length part.now ≤ length self.old.items }
         ensures items { self.new.items ≡ take start self.old.items ++
@@ -88,7 +88,7 @@ impl<T: Copy> Growing<T> {
         self.items[start..start + part.len()].copy_from_slice(part);
     }
 
-    /// Puts the last items in the place of as many, from a place on, and takes them away at the end.
+    /// Overwrites items from a place on with as many items from the end, and removes these at the end.
     pub(crate) fn swap_remove_part(&mut self, start: usize, last: usize)
         requires within { last ≤ length self.old.items }
         requires apart { start + (length self.old.items - last) ≤ length self.old.items }

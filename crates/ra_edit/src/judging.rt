@@ -1,4 +1,4 @@
-//! What an edit breaks, found where it can break something.
+//! What an edit breaks, searched for only where it can break something.
 ghost use Rattle.std.specs.Prelude.{◌≡◌, ℕ, ◌<◌, true, length};
 ghost use Rattle.ra_base.specs.Searches.{or_else, first};
 ghost use Rattle.ra_model.specs.Numbers.{resource_count, machine_count, service_count, dependency_count, need_of, neighbourhood_of, service_of, transient_at};
@@ -20,7 +20,7 @@ use ra_base::{Cause, Machine, Process, Resource, Service};
 use ra_model::Instance;
 use ra_topology::Topology;
 
-/// What a process more breaks, which stands on its initial machine, with which this much is used there.
+/// What one more process breaks on its initial machine, given the use of this machine with it.
 pub(crate) fn added_breaks(
     inst: &Instance,
     members: &Members,
@@ -49,7 +49,7 @@ pub(crate) fn added_breaks(
     far_needs(inst, members, s, m)
 }
 
-/// What a process less breaks, which is one of a service and on a machine.
+/// What a process less breaks, given its service and its machine.
 pub(crate) fn retired_breaks(
     inst: &Instance,
     lists: &Lists,
@@ -76,8 +76,8 @@ pub(crate) fn retired_breaks(
     first_left(inst, lists, members, topo, p, s, at)
 }
 
-/// What other requirements of a process break, with which this much is used of its machine, and in between of that and
-/// of its initial machine.
+/// What other requirements of a process break, given the use of its machine with them, and the transient use of this
+/// machine and of its initial machine.
 pub(crate) fn resized_breaks(
     inst: &Instance,
     home: Machine,
@@ -216,7 +216,7 @@ fn over_capacity(inst: &Instance, m: Machine, r: Resource, used: u64) -> Option<
     }
 }
 
-/// One process of a service on a machine, beside one that comes there.
+/// The conflict of a process of a service on a machine with one that comes there.
 fn conflict_test(members: &Members, s: Service, m: Machine) -> Option<Cause>
     ensures { (d e : Drafted) → AreMembersOf d members.now → HasCome d e s.0 m.0 →
         result ≡ conflict_test (instance_of e) e.current s.0 m.0 }
@@ -232,7 +232,7 @@ fn conflict_test(members: &Members, s: Service, m: Machine) -> Option<Cause>
     }
 }
 
-/// The first dependency of a service that no process is near to on a machine, where one of the service comes.
+/// The first dependency of a service that no process fulfils near a machine where one of the service comes.
 fn far_needs(inst: &Instance, members: &Members, s: Service, m: Machine) -> Option<Cause>
     requires service { s.0 < service_count inst.now.tables }
     requires machine { m.0 < machine_count inst.now.tables }
@@ -250,7 +250,7 @@ fn far_needs(inst: &Instance, members: &Members, s: Service, m: Machine) -> Opti
     None
 }
 
-/// A service that has no process in a neighbourhood where it is needed, and where one of another service comes.
+/// A service that has no process in a neighbourhood where one of another service, which needs it, comes.
 fn far_need(members: &Members, s: Service, need: Service, label: u32) -> Option<Cause>
     ensures { (d e : Drafted) (m k : ℕ) → AreMembersOf d members.now → HasCome d e s.0 m →
         label ≡ neighbourhood_of d.origin m → need.0 ≡ need_of (instance_of e) s.0 k →
@@ -270,7 +270,7 @@ fn far_need(members: &Members, s: Service, need: Service, label: u32) -> Option<
     }
 }
 
-/// The number of locations of a service without one of its processes, if it wants more.
+/// The number of locations of a service without one of its processes, if its spread asks for more.
 fn spread_test(
     inst: &Instance,
     lists: &Lists,
@@ -329,8 +329,8 @@ fn locations_without(
     }
 }
 
-/// The first service in a neighbourhood that depends on a service of which no process is left there without one. Only
-/// those that depend on it are looked at.
+/// The first service in a neighbourhood that depends on a service of which, without one process, none is left there.
+/// Only the dependants of that service are looked at.
 fn first_left(
     inst: &Instance,
     lists: &Lists,
@@ -363,7 +363,7 @@ fn first_left(
     None
 }
 
-/// A service in a neighbourhood where no process is left of one that it depends on.
+/// A service in a neighbourhood, if a service on which it depends has no process left there.
 fn left_alone(members: &Members, s: Service, label: u32, u: Service) -> Option<Cause>
     ensures { (d e : Drafted) → AreMembersOf d members.now → IsLeft d e s.0 label →
         result ≡ left_alone (instance_of e) e.current s.0 label u.0 }

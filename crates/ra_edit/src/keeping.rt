@@ -8,8 +8,8 @@ use ra_cells::Greatest;
 use ra_model::Instance;
 use ra_topology::Topology;
 
-/// What a draft keeps: its instance and the topology of that, which are lent, the lists that edits change, what is
-/// counted of them, and the parts of what the current list costs.
+/// What a draft keeps: its instance and the topology of the instance, which it borrows, the lists that edits change,
+/// the counts of these lists, and the parts of the cost of the current list.
 #[derive(Drop)]
 pub(crate) struct Kept<'a> {
     pub(crate) inst: &'a Instance,

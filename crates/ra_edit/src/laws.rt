@@ -1,4 +1,4 @@
-//! What holds of edits, each as the contract of a function that does nothing.
+//! Laws of edits, each as the contract of a function that does nothing.
 ghost use Rattle.ra_edit.specs.Locality.{AddsAreLocal, ResizesAreLocal, RetiresAreLocal};
 
 /// An edit of feasible lists breaks what it touches, or nothing.

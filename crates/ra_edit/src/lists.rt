@@ -28,7 +28,7 @@ pub(crate) struct Lists {
     pub(crate) current: Growing<Machine>,
 }
 
-/// Lets all lists go in one call, so that the end of an owner is short to prove.
+/// Frees all lists in one call, so that the end of an owner is short to prove.
 impl Drop for Lists {
     fn drop(self) {
         let Lists {
@@ -65,7 +65,7 @@ impl Lists {
         })
     }
 
-    /// The four lists. No memory is taken.
+    /// The four lists. It takes no memory.
     pub(crate) fn apart(self) -> (Fixed<ProcessRow>, Fixed<u32>, Assignment, Assignment)
         ensures rows { result.0.items ≡ self.rows.items }
         ensures requirements { result.1.items ≡ self.requirements.items }
@@ -86,7 +86,7 @@ impl Lists {
         )
     }
 
-    /// Does an edit, if nothing bars it. The lists are changed in place, in a time that grows with the resources alone.
+    /// Does an edit, if nothing bars it. It changes the lists in place, in a time that grows only with the resources.
     #[tactic(auto, unfolding(crate::specs::Editing::edited))]
     pub(crate) fn edit(&mut self, inst: &Instance, edit: Edit, requirements: &[u32])
         requires sound { IsSound (drafted inst.now.tables self.old) }
@@ -113,7 +113,7 @@ impl Lists {
         }
     }
 
-    /// One process more.
+    /// Adds a process.
     fn add(&mut self, inst: &Instance, row: ProcessRow, machine: Machine, requirements: &[u32])
         requires sound { IsSound (drafted inst.now.tables self.old) }
         requires room { HasRoom inst.now.tables self.old }
@@ -130,7 +130,7 @@ impl Lists {
         self.current.push(machine);
     }
 
-    /// One process less: the last process takes its number.
+    /// Removes a process. The last process takes its number.
     fn retire(&mut self, inst: &Instance, process: u32)
         requires sound { IsSound (drafted inst.now.tables self.old) }
         requires room { HasRoom inst.now.tables self.old }
@@ -148,7 +148,7 @@ impl Lists {
         self.current.swap_remove(p);
     }
 
-    /// Other requirements of a process.
+    /// Gives a process other requirements.
     fn resize(&mut self, inst: &Instance, process: u32, requirements: &[u32])
         requires sound { IsSound (drafted inst.now.tables self.old) }
         requires room { HasRoom inst.now.tables self.old }

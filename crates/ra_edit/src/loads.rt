@@ -21,14 +21,14 @@ use ra_edit_read::Edit;
 use ra_model::{Instance, copies};
 use std::alloc::Global;
 
-/// What the processes use of each resource of each machine: those that are there now, and those that were there at first
-/// besides. Both tables are by machine, then resource.
+/// What the processes use of each resource of each machine: in one table the processes that are there now, in the other
+/// these and those that were there at first. Both tables are by machine, then resource.
 pub(crate) struct Loads {
     pub(crate) used: Fixed<u64>,
     pub(crate) between: Fixed<u64>,
 }
 
-/// Lets both tables go in one call, so that the end of an owner is short to prove.
+/// Frees both tables in one call, so that the end of an owner is short to prove.
 impl Drop for Loads {
     fn drop(self) {
         let Loads {
@@ -89,7 +89,7 @@ impl Loads {
         read_row(&self.between, inst.resources(), m.0)
     }
 
-    /// The use of a machine with a process more there.
+    /// The use of a machine with one more process there.
     pub(crate) fn use_added(
         &self,
         alloc: Global,
@@ -111,7 +111,7 @@ impl Loads {
         Ok(row_with(alloc, self.use_row(inst, m), asked)?)
     }
 
-    /// The transient use of a machine with a process more there.
+    /// The transient use of a machine with one more process there.
     pub(crate) fn transient_added(
         &self,
         alloc: Global,
@@ -133,7 +133,7 @@ impl Loads {
         Ok(row_with(alloc, self.transient_row(inst, m), asked)?)
     }
 
-    /// The use of the machine of a process without it.
+    /// The use of the machine of a process without the process.
     pub(crate) fn use_retired(
         &self,
         alloc: Global,
@@ -154,7 +154,7 @@ impl Loads {
         Ok(row_without(alloc, self.use_row(inst, m), asked)?)
     }
 
-    /// The transient use of a machine of a process, the initial one or that of now, without the process.
+    /// The transient use of a machine of a process, its initial or its present one, without the process.
     fn transient_retired(
         &self,
         alloc: Global,
@@ -176,7 +176,7 @@ impl Loads {
         Ok(row_without(alloc, self.transient_row(inst, m), asked)?)
     }
 
-    /// The use of the machine of a process that requires something else.
+    /// The use of the machine of a process with other requirements of the process.
     pub(crate) fn use_resized(
         &self,
         alloc: Global,
@@ -201,7 +201,7 @@ impl Loads {
         Ok(row_with(alloc, rests.as_slice(), asked)?)
     }
 
-    /// The transient use of a machine of a process that requires something else.
+    /// The transient use of a machine of a process with other requirements of the process.
     pub(crate) fn transient_resized(
         &self,
         alloc: Global,
@@ -244,7 +244,7 @@ impl Loads {
         }
     }
 
-    /// Follows a process more, on its initial machine.
+    /// Follows the addition of a process on its initial machine.
     fn add(&mut self, inst: &Instance, lists: &Lists, m: Machine, asked: &[u32])
         requires sound { IsSound (drafted inst.now.tables lists.now) }
         requires loads { AreLoadsOf (drafted inst.now.tables lists.now) self.old }
@@ -257,7 +257,7 @@ impl Loads {
         self.come(m, m, asked);
     }
 
-    /// Follows a process less.
+    /// Follows the removal of a process.
     fn retire(&mut self, inst: &Instance, lists: &Lists, p: Process)
         requires sound { IsSound (drafted inst.now.tables lists.now) }
         requires loads { AreLoadsOf (drafted inst.now.tables lists.now) self.old }
@@ -270,7 +270,7 @@ impl Loads {
         self.go(home, here, requirements_of(inst, lists, p));
     }
 
-    /// Follows a process that requires something else.
+    /// Follows a change of a process's requirements.
     fn resize(&mut self, inst: &Instance, lists: &Lists, p: Process, asked: &[u32])
         requires sound { IsSound (drafted inst.now.tables lists.now) }
         requires loads { AreLoadsOf (drafted inst.now.tables lists.now) self.old }
@@ -347,7 +347,7 @@ fn add_amounts(table: &mut Fixed<u64>, at: Machine, amounts: &[u32])
     }
 }
 
-/// Takes an amount of each resource away from a machine.
+/// Subtracts an amount of each resource at a machine.
 fn take_amounts(table: &mut Fixed<u64>, at: Machine, amounts: &[u32])
     requires place { at.0 * length amounts.now + length amounts.now ≤ length table.old.items }
     requires enough { (r : ℕ) → r < length amounts.now → slice_index amounts.now r ≤

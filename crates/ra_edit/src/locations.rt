@@ -16,7 +16,7 @@ pub(crate) struct Locations {
     pub(crate) numbers: Fixed<u32>,
 }
 
-/// Lets both go in one call, so that the end of an owner is short to prove.
+/// Frees both in one call, so that the end of an owner is short to prove.
 impl Drop for Locations {
     fn drop(self) {
         let Locations {
@@ -47,7 +47,7 @@ impl Locations {
         self.numbers.get(s.0 as usize)
     }
 
-    /// Counts a process more of a service in a location.
+    /// Counts one more process of a service in a location.
     pub(crate) fn come(&mut self, s: Service, label: u32)
         requires service { s.0 < length self.old.numbers.items }
         requires numbered { AreNumbered (length self.old.numbers.items) self.old }
@@ -65,7 +65,7 @@ impl Locations {
         }
     }
 
-    /// Counts a process less of a service in a location.
+    /// Counts one process less of a service in a location.
     pub(crate) fn go(&mut self, s: Service, label: u32)
         requires service { s.0 < length self.old.numbers.items }
         requires numbered { AreNumbered (length self.old.numbers.items) self.old }

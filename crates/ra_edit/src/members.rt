@@ -20,7 +20,7 @@ use ra_edit_read::Edit;
 use ra_model::Instance;
 use std::alloc::Global;
 
-/// Where processes are looked for: on a machine, or on one with a label.
+/// Where processes are counted: on a machine, or on the machines with a label.
 #[derive(Clone, Copy)]
 pub(crate) enum Spot {
     OnMachine(Machine),
@@ -36,7 +36,7 @@ pub(crate) struct Members {
     pub(crate) locations: Locations,
 }
 
-/// Lets all counts go in one call, so that the end of an owner is short to prove.
+/// Frees all counts in one call, so that the end of an owner is short to prove.
 impl Drop for Members {
     fn drop(self) {
         let Members {
@@ -99,11 +99,11 @@ impl Members {
         self.locations.number(s)
     }
 
-    /// Follows an edit of the lists, and takes the memory that it wants.
+    /// Follows an edit of the lists, and takes the memory that it needs.
     ///
     /// # Errors
     ///
-    /// Want of memory. No count is changed then.
+    /// The system refused memory. Then no count has changed.
     pub(crate) fn follow(
         &mut self,
         inst: &Instance,
@@ -132,7 +132,7 @@ impl Members {
         }
     }
 
-    /// Follows a process more.
+    /// Follows the addition of a process.
     fn add(
         &mut self,
         inst: &Instance,
@@ -153,7 +153,7 @@ impl Members {
         Ok(())
     }
 
-    /// Follows a process less.
+    /// Follows the removal of a process.
     fn retire(&mut self, inst: &Instance, lists: &Lists, p: Process)
         requires sound { IsSound (drafted inst.now.tables lists.now) }
         requires members { AreMembersOf (drafted inst.now.tables lists.now) self.old }
@@ -166,7 +166,7 @@ impl Members {
         self.go(inst, s, m);
     }
 
-    /// Takes the memory to count a process of a service on a machine. No count is changed.
+    /// Takes the memory to count a process of a service on a machine. No count changes.
     fn admit(&mut self, inst: &Instance, s: Service, m: Machine) -> Result<(), NoMemory>
         requires { m.0 < machine_count inst.now.tables }
         ensures same { AreSameIn self.old self.new }
@@ -177,7 +177,7 @@ impl Members {
         self.locations.counts.admit(s, inst.location(m))
     }
 
-    /// Counts a process more of a service on a machine.
+    /// Counts one more process of a service on a machine.
     fn come(&mut self, inst: &Instance, s: Service, m: Machine)
         requires service { s.0 < service_count inst.now.tables }
         requires machine { m.0 < machine_count inst.now.tables }
@@ -192,7 +192,7 @@ impl Members {
         self.locations.come(s, inst.location(m));
     }
 
-    /// Counts a process less of a service on a machine.
+    /// Counts one process less of a service on a machine.
     fn go(&mut self, inst: &Instance, s: Service, m: Machine)
         requires service { s.0 < service_count inst.now.tables }
         requires machine { m.0 < machine_count inst.now.tables }

@@ -69,7 +69,7 @@ pub(crate) fn follow_moved(moved: &mut Greatest, inst: &Instance, lists: &Lists,
     }
 }
 
-/// Follows a process less.
+/// Follows the removal of a process.
 fn follow_retired(moved: &mut Greatest, inst: &Instance, lists: &Lists, p: Process)
     requires sound { IsSound (drafted inst.now.tables lists.now) }
     requires moved { AreMovedOf (drafted inst.now.tables lists.now) moved.old }

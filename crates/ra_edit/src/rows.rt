@@ -21,7 +21,7 @@ pub(crate) fn requirements_of<'a>(inst: &Instance, lists: &'a Lists, p: Process)
     part(lists.requirements.as_slice(), p.0 as usize * width, width)
 }
 
-/// Some items of a slice, from a place on.
+/// `count` items of a slice, from a place on.
 fn part<T: Copy>(items: &[T], start: usize, count: usize) -> &[T]
     requires { start + count ≤ length items.now }
     ensures { result.now ≡ slice_range items.now start (start + count) }
@@ -42,7 +42,7 @@ pub(crate) fn read_row(table: &Fixed<u64>, width: u32, row: u32) -> &[u64]
     &table.as_slice()[start..start + width as usize]
 }
 
-/// A row to which amounts are added.
+/// A row plus amounts.
 pub(crate) fn row_with(alloc: Global, row: &[u64], amounts: &[u32]) -> Result<Fixed<u64>, NoMemory>
     requires width { length amounts.now ≡ length row.now }
     requires below { (r : ℕ) → r < length row.now → slice_index row.now r < 2 ^ 63 }
@@ -57,7 +57,7 @@ pub(crate) fn row_with(alloc: Global, row: &[u64], amounts: &[u32]) -> Result<Fi
     Ok(sums)
 }
 
-/// A row from which amounts are taken away.
+/// A row minus amounts.
 pub(crate) fn row_without(
     alloc: Global,
     row: &[u64],

@@ -9,11 +9,11 @@ use ra_edit_read::Edits;
 use std::alloc::Global;
 
 impl<'a> Draft<'a> {
-    /// Does all edits in their order, each if there is nothing against it, and gives the reply to each.
+    /// Does all edits in their order, each unless something bars it, and gives the reply to each.
     ///
     /// # Errors
     ///
-    /// Want of memory. The draft stands behind some of the edits then.
+    /// The system refused memory. Then the draft has done some of the edits.
     #[tactic(auto, using(crate::proofs::RunLaws::runs))]
     pub fn edit_all(&mut self, alloc: Global, edits: &Edits) -> Result<Fixed<EditReply>, NoMemory>
         requires { AreEditsFor self.old.origin edits.now }

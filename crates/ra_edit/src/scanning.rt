@@ -36,7 +36,7 @@ pub(crate) fn small(inst: &Instance, lists: &Lists)
     small_numbers(lists.requirements.as_slice());
 }
 
-/// Each of some numbers is below 2^32, by its type.
+/// Each number of a list is below 2^32, by its type.
 pub(crate) fn small_numbers(numbers: &[u32])
     ensures { (k : ℕ) → slice_index numbers.now k < 2 ^ 32 }
 {

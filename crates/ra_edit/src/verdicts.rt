@@ -20,15 +20,15 @@ use ra_base::{Cause, Machine, NoMemory, Parts, Process, Service};
 use ra_edit_read::Edit;
 use std::alloc::Global;
 
-/// What is found of the current list of a draft: the first constraint that it breaks, or what it costs.
+/// What is known of the current list of a draft: the first constraint that it breaks, or what it costs.
 #[derive(Clone, Copy)]
 pub(crate) enum Judged {
     Refused(Cause),
     Fine(Parts),
 }
 
-/// Whether the current list breaks a constraint after an edit of feasible lists, and what it costs. Only what the edit
-/// touches is looked at, and nothing is changed.
+/// Whether the current list breaks a constraint after an edit of feasible lists, and what it costs. It looks only at
+/// what the edit touches, and changes nothing.
 pub(crate) fn judge(
     alloc: Global,
     kept: &Kept<'_>,
@@ -53,7 +53,7 @@ pub(crate) fn judge(
     }
 }
 
-/// What is found after a process of a service has come to a machine.
+/// What is known after a process of a service has come to a machine.
 fn judge_added(
     alloc: Global,
     kept: &Kept<'_>,
@@ -97,7 +97,7 @@ fn judge_added(
     Ok(Judged::Fine(cost))
 }
 
-/// What is found after a process requires something else.
+/// What is known after a process has got other requirements.
 fn judge_resized(
     alloc: Global,
     kept: &Kept<'_>,
@@ -141,7 +141,7 @@ fn judge_resized(
     Ok(Judged::Fine(cost))
 }
 
-/// What is found after a process has gone.
+/// What is known after a process has gone.
 fn judge_retired(alloc: Global, kept: &Kept<'_>, p: Process) -> Result<Judged, NoMemory>
     requires held { IsHeld kept.now }
     requires process { p.0 < length kept.now.lists.rows.items }

@@ -1,4 +1,4 @@
--- The output of edits: the parts of what the edited current list costs, the two edited lists, the answer to each edit,
+-- The output of edits: the parts of the cost of the edited current list, the two edited lists, the answer to each edit,
 -- and the text of the edited instance.
 use Rattle.std.specs.Prelude.{ℕ, zero, suc, List, [], ◌∷◌, ◌++◌, length, codes, slice_index_or}
 use Rattle.ra_base.specs.declared.costs.Parts.{Parts}

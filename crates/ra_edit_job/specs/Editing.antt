@@ -69,7 +69,7 @@ pub record IsTaken (held : Held) (names : Names) (i : Tables) (a0 a : List Machi
   pub edits : EditsAre held names i e
   pub fits : AreEditsFor i e
 
--- and the text of the run of those edits was sent
+-- the files are accepted as `IsTaken` says, and the text of the run of these edits was sent
 pub record Edited (held : Held) (names : Names) (sent : List ℕ → Type 0) : Type 0 where
   pub tables : Tables
   pub a0 : List Machine
@@ -78,7 +78,7 @@ pub record Edited (held : Held) (names : Names) (sent : List ℕ → Type 0) : T
   pub taken : IsTaken held names tables a0 a edits
   pub run : IsEdited tables a0 a edits sent
 
--- the lists were accepted, and the edits file is refused as this
+-- the lists were accepted, and the edits file is refused with this fault
 pub record EditsRefused (held : Held) (names : Names) (fault : EditsFault) : Type 0 where
   pub tables : Tables
   pub a0 : List Machine
@@ -105,8 +105,8 @@ EditOwn held names written (Broken which cause) =
 EditOwn held names written Write = written
 EditOwn held names written refusal = ⊥
 
--- when each of its own statuses comes: all lists are accepted and the edits file is refused; or that is accepted too,
--- and a list breaks a constraint
+-- when each of its own statuses comes: all lists are accepted and the edits file is refused; or the edits file is
+-- accepted too, and a list breaks a constraint
 pub record EditComes (held : Held) (names : Names) (before now : Faults) (status : Status) : Type 0
   where
     pub bad_edits :
@@ -116,7 +116,7 @@ pub record EditComes (held : Held) (names : Names) (before now : Faults) (status
         (EditsAccepted held names
         × ((which : Role) × (cause : Cause) × RoleBreaks held names which cause))
 
--- its files are valid: besides the lists, nothing is wrong with the told edits file
+-- its files are valid: the lists are, and nothing is wrong with the told edits file
 pub record AreEditable (held : Held) (names : Names) : Type 0 where
   pub valid : AreValid held names
   pub edits : (i : Tables) (a0 a : List Machine) → Accepts held names i a0 a
@@ -139,13 +139,13 @@ edit_command model initial current edits closed =
 
 -- ---- the stages
 
--- a refusal of the reader of edits, as one of a job
+-- a refusal of the reader of edits, as a refusal of a job
 abbrev pub edits_as : EditsFault → Refusal
 edits_as reader.ReadFault = Read file.Edits
 edits_as reader.NoMemory = Memory
 edits_as fault = Edits fault
 
--- the edits file
+-- why the edits file is refused
 abbrev pub EditsReason : Held → List ℕ → Tables → Faults → Faults → Refusal → Type 0
 EditsReason held name i before now (Read file.Edits) = Rose (before name) (now name)
 EditsReason held name i before now (Edits fault) =

@@ -14,7 +14,7 @@ use Rattle.ra_edit_job.specs.declared.edit.Outcome.{Outcome}
 use Rattle.ra_edit_job.specs.EditedTexts.{edited_text}
 use Rattle.ra_edit_job.specs.Editing.{left_of}
 
--- the processes and lists are ones of an instance within the limits, whose current list is feasible and has these costs
+-- the processes and lists are those of an instance within the limits, whose current list is feasible and has this cost
 pub record IsWritable (i : Tables) (o : Outcome) : Type 0 where
   pub sound : IsSound (left_in i o.left)
   pub small : Small (instance_of (left_in i o.left))
@@ -23,7 +23,7 @@ pub record IsWritable (i : Tables) (o : Outcome) : Type 0 where
       o.parts
       ≡ parts_of (instance_of (left_in i o.left)) o.left.initial.items o.left.current.items
 
--- besides, they are what the edits leave of feasible lists, and the answers are those to the edits
+-- a writable outcome that edits leave of feasible lists, with the answers to the edits
 pub record IsOutcome (i : Tables) (a0 a : List Machine) (e : EditLists) (o : Outcome) : Type 0 where
   pub start : Feasible i a0 a0
   pub current : Feasible i a0 a

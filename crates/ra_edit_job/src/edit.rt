@@ -25,9 +25,9 @@ use ra_model::Instance;
 use ra_topology::Topology;
 use std::alloc::Global;
 
-/// Adds, retires and resizes processes of a model as the list `edits` says, on the list `current`, which is feasible from
-/// the list `initial`: prints the edited model and lists and the answer to each edit, or puts one line that says why not.
-/// It returns, and waits for nobody.
+/// Adds, retires and resizes processes of a model as the list `edits` says, on the list `current`, which is feasible
+/// from the list `initial`. It prints the edited model and lists and the answer to each edit. If it can't, it puts one
+/// line that says why. It returns, and waits for nobody.
 pub fn edit_run<'n, F: Files, O: Sink, E: Sink>(
     alloc: Global,
     model: &'n Name,
@@ -131,7 +131,7 @@ fn take_edits<F: Files>(
     }
 }
 
-/// A refusal of the reader of edits, as one of a job.
+/// A refusal of the reader of edits, as a refusal of a job.
 fn edits_refused(fault: EditsFault) -> Refusal
     ensures { result ≡ edits_as fault }
 {
@@ -142,8 +142,8 @@ fn edits_refused(fault: EditsFault) -> Refusal
     }
 }
 
-/// The edits and their text, if both lists are feasible. The instance isn't copied: the processes that the edits leave take
-/// the place of its own.
+/// The edits and their text, if both lists are feasible. The instance isn't copied: the processes that the edits leave
+/// replace its own.
 fn edit_from<O: Sink>(alloc: Global, taken: Taken, out: &mut O) -> Result<(), Refusal>
     requires a0_fits { IsAssignment taken.inst.tables taken.lists.initial.items }
     requires fits { IsAssignment taken.inst.tables taken.lists.changed.items }
@@ -164,7 +164,7 @@ fn edit_from<O: Sink>(alloc: Global, taken: Taken, out: &mut O) -> Result<(), Re
     write_outcome(inst, outcome, out)
 }
 
-/// What edits leave: what the current list costs, the lists, and the answer to each edit.
+/// What edits leave: the cost of the current list, the lists, and the answer to each edit.
 #[derive(Drop)]
 struct Outcome {
     parts: Parts,

@@ -16,9 +16,9 @@ use ra_report_text::{
     add_pieces,
 };
 
-/// Writes the output of edits: the six lines of the parts, the lines of the edited initial list and of the edited current
-/// list, a line for each edit with the answer to it, the line `model`, and the text of the edited instance. `parts` are
-/// those of what the edited current list costs.
+/// Writes the output of edits: the six lines of the parts, the lines of the edited initial list and of the edited
+/// current list, a line for each edit with the answer to it, the line `model`, and the text of the edited instance.
+/// `parts` are those of the cost of the edited current list.
 pub fn write_edited<O: Sink>(
     sink: &mut O,
     parts: &Parts,

@@ -1,5 +1,5 @@
-//! The job `edit`: `edit_run`, over files and sinks that are handed in, as those of `ra_jobs`; and what it prints, the output
-//! of edits, gathered and put to a sink in large pieces.
+//! The job `edit`: `edit_run`, over files and sinks that the caller gives, as for the jobs of `ra_jobs`; and what it
+//! prints, the output of edits, gathered and put to a sink in large pieces.
 #![tactic(auto)]
 
 mod edit;

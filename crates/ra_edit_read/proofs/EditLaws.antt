@@ -21,11 +21,11 @@ use Rattle.ra_edit_read.specs.Answers.{EditsSays}
 use Rattle.ra_edit_read.specs.Reading.{TakesNumber, TakesValues, TakesEdit, HasEdit}
 use Rattle.ra_edit_read.proofs.NumberLaws.{says_same, takes_value, takes_any, takes_below, takes_values_any, worth_of}
 
--- a number that is zero or above 3 is no kind
+-- a number that is zero or above 3 is not a kind
 pub no_kind : (n : ℕ) → (n ≡ 0) ⊎ ((n ≡ 0 → ⊥) × (3 < n)) → 0 < n → n < 4 → ⊥
 no_kind n out some few = ⊎_elim (λ (none : n ≡ 0). omega arith) (λ (h : (n ≡ 0 → ⊥) × (3 < n)). omega (arith, h.1)) out
 
--- a search goes on behind what is sound
+-- a search goes on after what is sound
 pub then_says : (a b : Option EditsFault) (fault : EditsFault) → a ≡ None → EditsSays b fault →
     EditsSays (or_else a b) fault
 then_says a b fault sound says =
@@ -258,7 +258,7 @@ has_edit bytes i k x y z t old new edit found next few some kind takes =
           worth (omega (arith, takes.next, next));
     }
 
--- the refusal of edit k, at its kind and behind it
+-- the refusal of edit k, at its kind and after it
 pub found_kind : (bytes : List ℕ) (i : Tables) (k n : ℕ) (t : Token) (fault : EditsFault) →
     slice_get (tokens bytes) n ≡ Some t → kind_test k t ≡ Some fault →
     found_test bytes i k n (slice_get (tokens bytes) n) ≡ Some fault
@@ -275,7 +275,7 @@ found_behind bytes i k x y t fault found next few some kind says =
     rw found (then_says _ _ fault (kind_sound k t few some kind)
     (subst (λ n. EditsSays (numbers_test bytes i k t.value n) fault) behind says))
 
--- the same, as they are met on the way
+-- the refusals of edit k in the order in which a reader meets them
 
 pub at_machine : (bytes : List ℕ) (i : Tables) (k S M x y s : ℕ) (fault : EditsFault) → S ≡ service_count i →
     M ≡ machine_count i → TakesNumber bytes x y s → s < S →

@@ -32,7 +32,7 @@ use Rattle.ra_edit_read.proofs.NumberLaws.{says_same, says_fault}
 use Rattle.ra_edit_read.proofs.Meaning.{kinds_ascend, file_at, each_passes, count_of}
 use Rattle.ra_edit_read.proofs.EditLaws.{kind_wrong, kind_behind, found_kind, found_behind}
 
--- what is wrong with edit k, where its kind is due
+-- what is wrong with edit k at its kind
 test_here : (bytes : List ℕ) (i : Tables) (k n : ℕ) → n ≡ kind_place (resource_count i) bytes k →
     edit_test bytes i k ≡ found_test bytes i k n (slice_get (tokens bytes) n)
 unfolding edit_test
@@ -69,7 +69,7 @@ pub stop_behind : (bytes : List ℕ) (i : Tables) (k x y : ℕ) (t : Token) (fau
 stop_behind bytes i k x y t fault h few some kind says =
     stop_at bytes i k x fault (omega arith) (found_behind bytes i k x y t fault h.answer h.one_more few some kind says)
 
--- behind the last token there is no edit
+-- after the last token there is no edit
 none_past : (bytes : List ℕ) (i : Tables) (k j : ℕ) → kind_place (resource_count i) bytes k ≡ length (tokens bytes) →
     k ≤ j → edit_test bytes i j ≡ None
 unfolding edit_test found_test
@@ -89,7 +89,7 @@ pub all_sound : (bytes : List ℕ) (i : Tables) (k : ℕ) → k < 100001 → kin
 all_sound bytes i k few all sound =
     first_skip k 100001 (edit_test bytes i) (omega arith) (λ j after h. none_past bytes i k j all after) ∙ sound
 
--- a fault of the file, where the kind of edit k is due
+-- a fault of the file instead of the kind of edit k
 file_refused : (bytes : List ℕ) (i : Tables) (k n : ℕ) (fault : TokenFault) → k < 100001 →
     n ≡ kind_place (resource_count i) bytes k → first k (edit_test bytes i) ≡ None → IsAnswer bytes n (Err fault) →
     EditsSays (edits_refusal bytes i) (edits_fault fault)

@@ -20,7 +20,7 @@ use Rattle.ra_edit_read.specs.EditTexts.{resized_test, numbers_test, kind_test, 
 use Rattle.ra_edit_read.proofs.NumberLaws.{worth_of, any_within, any_from_there, below_inside}
 use Rattle.ra_edit_read.proofs.EditLaws.{kind_sound, kind_wrong, kind_behind}
 
--- kinds stand one behind another
+-- kinds come one after another
 pub kinds_ascend : (R : ℕ) (bytes : List ℕ) (k d : ℕ) → kind_place R bytes k ≤ kind_place R bytes (k + d)
 unfolding kind_place
 kinds_ascend R bytes k zero = rw add-zero (le_refl (kind_place R bytes k))
@@ -64,7 +64,7 @@ below_passes bytes k count n within inside =
     below_inside bytes k count n (get_or (tokens bytes) n none) found
     (omega (arith, worth_of bytes n (get_or (tokens bytes) n none) found, inside))
 
--- the numbers behind a kind are there, and an added process fits
+-- the numbers after a kind are there, and an added process fits
 pub record HasNumbers (bytes : List ℕ) (i : Tables) (kind n : ℕ) : Type 0 where
   pub fits : FitsInstance i (edit_from (resource_count i) bytes kind n)
   pub within : n + numbers_behind (resource_count i) kind ≤ length (tokens bytes)
@@ -163,7 +163,7 @@ kind_told k t none = ⊎_elim
     (λ (many : 100000 ≤ k). absurd (let e = kind_behind k t many in cc))
     (cases_lt k 100000)
 
--- edit k is there, and what stands behind it
+-- edit k is there, and what is after it
 pub record HasEditAt (bytes : List ℕ) (i : Tables) (k : ℕ) : Type 0 where
   pub few : k < 100000
   pub is : IsEdit bytes i k
@@ -214,7 +214,7 @@ edit_passes bytes i k has =
     (has_numbers bytes i k t.value (suc n) (omega (arith, worth, has.is.least))
     (omega (arith, worth, has.is.most)) behind))
 
--- a kind stands before those behind it
+-- a kind comes before those after it
 kind_before : (R : ℕ) (bytes : List ℕ) (k c : ℕ) → k < c → kind_place R bytes k < kind_place R bytes c
     × (kind_place R bytes (suc k) ≤ kind_place R bytes c)
 unfolding kind_place

@@ -54,7 +54,7 @@ fault_read (told.TooLarge at) e = cc
 fault_read told.TooLong e = cc
 fault_read told.NoMemory e = cc
 
--- behind the last token there is none
+-- after the last token there is none
 pub past_all : (bytes : List ℕ) (n : ℕ) → GaveAll bytes n → slice_get (tokens bytes) n ≡ None
 past_all bytes n all = slice_get_past (tokens bytes) n (omega (arith, all))
 

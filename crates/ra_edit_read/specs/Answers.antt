@@ -1,4 +1,4 @@
--- What the refusals of the reader say of the bytes: a failed fetch and want of memory say nothing, and every other
+-- What the refusals of the reader say of the bytes: a failed fetch and refused memory say nothing, and every other
 -- refusal is the one of the bytes.
 use Rattle.std.specs.Prelude.{◌≡◌, ℕ, List, Option, Some}
 use Rattle.ra_model.specs.declared.raw.Tables.{Tables}

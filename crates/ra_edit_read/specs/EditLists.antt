@@ -30,8 +30,8 @@ FitsInstance i (Resize process) = Unit {0}
 abbrev pub AllFit : Tables → List Edit → Type 0
 AllFit i edits = (k : ℕ) → k < length edits → FitsInstance i (slice_index_or edits k (Retire 0))
 
--- edits that were read for an instance: a requirement for each of its resources, and no added process has a service or
--- a machine that it lacks
+-- edits that were read for an instance: each has a requirement for each of its resources, and the service and the
+-- machine of each added process exist
 pub record AreEditsFor (i : Tables) (e : EditLists) : Type 0 where
   pub width : e.width ≡ resource_count i
   pub rows : length e.requirements ≡ length e.edits * resource_count i

@@ -1,4 +1,4 @@
--- Files of edits. An edit is a kind and the numbers behind it: 1, a service, a machine, a requirement for each resource
+-- Files of edits. An edit is a kind and the numbers after it: 1, a service, a machine, a requirement for each resource
 -- and a move cost add a process; 2 and a process retire it; 3, a process and a requirement for each resource resize it.
 use Rattle.std.specs.Prelude.{◌≡◌, ℕ, zero, suc, ◌+◌, ◌-◌, ◌<◌, ◌≤◌, ◌==◌, ◌&&◌, nat_lt, if◌then◌else◌, List, [], ◌∷◌}
 use Rattle.std.specs.Prelude.{◌++◌, length, replicate, slice_get, slice_index_or, Option, Some, None}
@@ -22,7 +22,7 @@ use Rattle.ra_edit_read.specs.EditLists.{EditLists, FitsInstance}
 unfoldable pub value_at : List ℕ → ℕ → ℕ
 value_at bytes n = (slice_index_or (tokens bytes) n (record { value = 0; at = 0 })).value
 
--- how many numbers stand behind the kind of an edit, if there are R resources
+-- how many numbers follow the kind of an edit, if there are R resources
 unfoldable pub numbers_behind : ℕ → ℕ → ℕ
 numbers_behind R kind = if kind == 1 then R + 3 else if kind == 2 then 1 else R + 1
 
@@ -68,21 +68,21 @@ kind_of R bytes k = value_at bytes (kind_place R bytes k)
 abbrev pub edit_of : ℕ → List ℕ → ℕ → Edit
 edit_of R bytes k = edit_from R bytes (kind_of R bytes k) (suc (kind_place R bytes k))
 
--- edit k is one: its kind is 1, 2 or 3, and the service and the machine of an added process exist
+-- edit k is valid: its kind is 1, 2 or 3, and the service and the machine of an added process exist
 pub record IsEdit (bytes : List ℕ) (i : Tables) (k : ℕ) : Type 0 where
   pub least : 1 ≤ kind_of (resource_count i) bytes k
   pub most : kind_of (resource_count i) bytes k ≤ 3
   pub fits : FitsInstance i (edit_of (resource_count i) bytes k)
 
--- the bytes are a file of `count` edits, 100,000 at most: they have no fault, each of its edits is one, and behind the
--- last of them stands no token
+-- the bytes are a file of `count` edits, 100,000 at most: they have no fault, each edit is valid, and no token follows
+-- the last one
 pub record IsEditsFile (bytes : List ℕ) (i : Tables) (count : ℕ) : Type 0 where
   pub sound : first_fault bytes ≡ None
   pub few : count ≤ 100000
   pub each : (k : ℕ) → k < count → IsEdit bytes i k
   pub all : kind_place (resource_count i) bytes count ≡ length (tokens bytes)
 
--- a token's fault, as one of edits
+-- a token's fault, as a fault of edits
 unfoldable pub edits_fault : TokenFault → EditsFault
 edits_fault token.ReadFault = ReadFault
 edits_fault (token.BadByte at byte) = BadByte at byte
@@ -95,7 +95,7 @@ unfoldable pub none_left : Option TokenFault → ℕ → EditsFault
 none_left None k = Missing k
 none_left (Some fault) k = edits_fault fault
 
--- what is wrong with a number of edit k that may be any, and with one that is to be below a count
+-- what is wrong with a number of edit k that may have any value, and with one that has to be below a count
 unfoldable pub any_test : Option TokenFault → ℕ → Option Token → Option EditsFault
 any_test fault k None = Some (none_left fault k)
 any_test fault k (Some t) = None
@@ -105,7 +105,7 @@ below_test fault k count None = Some (none_left fault k)
 below_test fault k count (Some t) =
     if nat_lt t.value count then None else Some (Range t.at t.value 0 (count - 1))
 
--- the same of token n of a file, and of R numbers from token n on
+-- what is wrong with token n of a file as a number of edit k, and with the R numbers from token n on
 unfoldable pub any_at : List ℕ → ℕ → ℕ → Option EditsFault
 any_at bytes k n = any_test (first_fault bytes) k (slice_get (tokens bytes) n)
 
@@ -115,7 +115,7 @@ below_at bytes k count n = below_test (first_fault bytes) k count (slice_get (to
 unfoldable pub any_from : List ℕ → ℕ → ℕ → ℕ → Option EditsFault
 any_from bytes k n R = first R (λ j. any_at bytes k (n + j))
 
--- what is wrong first with the numbers behind the kind, which begin with token n
+-- the first thing that is wrong with the numbers after the kind, which begin with token n
 unfoldable pub added_test : List ℕ → Tables → ℕ → ℕ → Option EditsFault
 added_test bytes i k n =
     or_else (below_at bytes k (service_count i) n)

@@ -1,4 +1,4 @@
--- What is known on the way through a file of edits.
+-- What holds on the way through a file of edits.
 use Rattle.std.specs.Prelude.{◌≡◌, ℕ, suc, ◌+◌, ◌*◌, ◌≤◌, List, [], ◌++◌, length, slice_get, Option, Some, None, Result}
 use Rattle.std.specs.Prelude.{Ok, IfSome, IfOk, OnOk, OnSome}
 use Rattle.ra_base.specs.Searches.{first}
@@ -22,13 +22,13 @@ pub record TakesNumber (bytes : List ℕ) (before after value : ℕ) : Type 0 wh
   pub worth : value ≡ token.value
   pub next : tokens_before bytes after ≡ tokens_before bytes before + 1
 
--- the next n tokens were taken, and their values stand behind those of a list
+-- the next n tokens were taken, and their values were added at the end of a list
 pub record TakesValues (bytes : List ℕ) (before after n : ℕ) (old new : List ℕ) : Type 0 where
   pub there : tokens_before bytes before + n ≤ length (tokens bytes)
   pub values : new ≡ old ++ values_from bytes (tokens_before bytes before) n
   pub next : tokens_before bytes after ≡ tokens_before bytes before + n
 
--- the numbers behind the kind of edit k were taken
+-- the numbers after the kind of edit k were taken
 pub record TakesEdit (bytes : List ℕ) (i : Tables) (k kind before after : ℕ) (old new : List ℕ)
     (edit : Edit) : Type 0 where
   pub sound : numbers_test bytes i k kind (tokens_before bytes before) ≡ None
@@ -69,7 +69,7 @@ pub record HasEdits (bytes : List ℕ) (i : Tables) (place k : ℕ) (edits : Lis
   pub edits_are : edits ≡ edits_to (resource_count i) bytes k
   pub requirements_are : requirements ≡ requirements_to (resource_count i) bytes k
 
--- the fault is the refusal of the file, if the edits before edit k were sound and its kind is due here
+-- the fault is the refusal of the file, if the edits before edit k were sound and its kind comes next
 abbrev pub EditStop : List ℕ → Tables → ℕ → ℕ → EditsFault → Type 0
 EditStop bytes i k before fault =
     tokens_before bytes before ≡ kind_place (resource_count i) bytes k
@@ -96,7 +96,7 @@ pub record AddsRow (i : Tables) (old new : Fixed ℕ) (answer : Result Edit Edit
   pub room : OnOk answer (new.room ≡ old.room)
   pub fits : IfOk answer (FitsInstance i)
 
--- the same of an edit or the end of the file, which adds nothing
+-- an edit was read that fits the instance, and its row was added to a list; or the file ended, and nothing was added
 pub record MayAddRow (i : Tables) (old new : Fixed ℕ) (answer : Result (Option Edit) EditsFault) : Type
     0 where
   pub number :
@@ -105,7 +105,7 @@ pub record MayAddRow (i : Tables) (old new : Fixed ℕ) (answer : Result (Option
   pub room : OnOk answer (new.room ≡ old.room)
   pub fits : IfOk answer (λ next. IfSome next (FitsInstance i))
 
--- 100,000 edits at most were read, each of which fits the instance, with a requirement for each resource
+-- at most 100,000 edits were read, each of which fits the instance, with a requirement for each resource
 pub record AreFew (i : Tables) (edits : List Edit) (requirements : List ℕ) : Type 0 where
   pub few : length edits ≤ 100000
   pub rows : length requirements ≡ length edits * resource_count i

@@ -8,13 +8,13 @@ use std::marker::Model;
 /// One edit of an instance's processes.
 #[derive(Clone, Copy, Debug, PartialEq, Eq)]
 pub enum Edit {
-    /// Adds a process, of a service and with a move cost. It is on this machine at the start and now.
+    /// Adds a process of a service, with a move cost. It is on this machine at the start and now.
     Add {
         service: Service,
         machine: Machine,
         move_cost: u32,
     },
-    /// Takes a process away. The last process takes its number.
+    /// Removes a process. The last process takes its number.
     Retire {
         process: u32,
     },

@@ -25,7 +25,7 @@ pub enum EditsFault {
     Missing {
         edit: u64,
     },
-    /// The number at a place is out of its range: a kind that isn't one, or the service or the machine of an added
+    /// The number at a place is out of its range: a kind that doesn't exist, or the service or the machine of an added
     /// process that doesn't exist.
     #[error("number at {at} is out of its range")]
     Range {
@@ -34,12 +34,12 @@ pub enum EditsFault {
         least: u32,
         most: u32,
     },
-    /// A number stands behind the greatest number of edits.
+    /// A number follows the last edit that a file may have.
     #[error("too many edits at {at}")]
     TooMany {
         at: u64,
     },
-    /// Memory was refused.
+    /// The system refused memory.
     #[error("out of memory")]
     NoMemory,
 }

@@ -1,4 +1,4 @@
-//! Numbers of an edit, one or some of them.
+//! Numbers of an edit, one or several.
 ghost use Rattle.std.specs.Prelude.{◌≡◌, ◌+◌, ◌-◌, ◌<◌, ◌≤◌, length, IfOk, IfErr, OnOk};
 ghost use Rattle.ra_token.specs.TokenList.{tokens, tokens_before};
 ghost use Rattle.ra_token.specs.Moments.{moment, Stands, Went, Refuses, HasNext, HasFault};
@@ -11,7 +11,7 @@ use ra_base::Fixed;
 use ra_io::Files;
 use ra_token::{Token, TokenFault, Tokens};
 
-/// A number of edit `k` that may be any.
+/// A number of edit `k` that may have any value.
 pub(crate) fn any_number<F: Files>(
     files: &mut F,
     tokens: &mut Tokens,
@@ -31,7 +31,7 @@ pub(crate) fn any_number<F: Files>(
     Ok(token.value)
 }
 
-/// A number of edit `k` that is below a count.
+/// A number of edit `k` that has to be below a count.
 pub(crate) fn number_below<F: Files>(
     files: &mut F,
     tokens: &mut Tokens,
@@ -112,7 +112,7 @@ pub(crate) fn next_token<F: Files>(
     }
 }
 
-/// The fault of a token, as one of edits.
+/// The fault of a token, as a fault of edits.
 #[tactic(auto, unfolding(crate::specs::EditTexts::edits_fault))]
 fn fault_of(fault: TokenFault) -> EditsFault
     ensures { result ≡ edits_fault fault }

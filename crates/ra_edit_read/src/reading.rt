@@ -23,8 +23,9 @@ pub const MOST_EDITS: u64 = 100_000;
 ///
 /// # Errors
 ///
-/// The first refusal in the order of the numbers: a fault of the file, an edit that isn't whole, a kind that isn't one,
-/// an added process whose service or machine doesn't exist, or a number behind the greatest number of edits.
+/// The first refusal in the order of the numbers: a fault of the file, an edit that isn't whole, a kind that doesn't
+/// exist, an added process whose service or machine doesn't exist, or a number after the last edit that a file may
+/// have.
 pub fn read_edits<F: Files>(
     alloc: Global,
     files: &mut F,
@@ -109,7 +110,7 @@ fn read_all<F: Files>(
     Ok(())
 }
 
-/// The end of the file, behind the greatest number of edits.
+/// The end of the file, after the last edit that a file may have.
 fn read_end<F: Files>(files: &mut F, tokens: &mut Tokens, inst: &Instance) -> Result<(), EditsFault>
     requires stands { Stands (moment F.Files files.old tokens.old) }
     ensures gives { OnOk result (Went (λ bytes before after. HasEnded bytes before)
@@ -160,7 +161,7 @@ fn next_edit<F: Files>(
     Ok(Some(edit))
 }
 
-/// The numbers behind the kind of edit `k`.
+/// The numbers after the kind of edit `k`.
 fn read_numbers<F: Files>(
     files: &mut F,
     tokens: &mut Tokens,

@@ -105,7 +105,7 @@ lower_both i v q one two both a b c parts first second = record {
       second.from;
 }
 
--- the same guards in other words
+-- two groups that hold of the same guards have the same lowest guard
 pub lower_same : (i : Tables) (v : Guard → ℕ) (q : ℕ) (one other : Guard → Type 0) (a b : ℕ) →
     ((g : Guard) → one g → other g) → ((g : Guard) → other g → one g) → IsLower i v q one a b → IsLower i v q other a b
 lower_same i v q one other a b into back lower = record {

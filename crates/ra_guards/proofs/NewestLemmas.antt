@@ -32,7 +32,7 @@ use Rattle.ra_guards.proofs.OrderLemmas.{has_known}
 use Rattle.ra_guards.proofs.GuardLemmas.{machine_guard, service_guard}
 use Rattle.ra_guards.proofs.LowestLemmas.{newer_some, newer_none, guard_read_only, unwritten_guard}
 
--- the same answer at each guard gives the same first
+-- two tests that agree at each guard find the same first guard
 that_same : (i : Tables) (s t : Guard → Bool) (v w : Guard → ℕ) (q : ℕ) →
     ((g : Guard) → IsKnown i g → newer_at s v q g ≡ newer_at t w q g) → first_that i s v q ≡ first_that i t w q
 unfolding first_that IsKnown

@@ -1,4 +1,4 @@
--- Guards that aren't written keep their residents, and what was offered is offered later.
+-- Guards that aren't written keep their residents, and what could be weighed can be weighed later.
 use Rattle.std.proofs.Common.{◌≡◌, ◌≢◌, ℕ, zero, suc, ◌<◌, ◌≤◌, true, false, eqb, List, length, Option, Some, None, sym}
 use Rattle.std.proofs.Common.{refl, ap, subst, ◌∙◌, ⊎_elim, arith, ne_eqb}
 use Rattle.std.proofs.lemmas.Bool.{cases_lt, cases_Bool, or_left, or_parts, both_ways}

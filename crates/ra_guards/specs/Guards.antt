@@ -13,12 +13,13 @@ unfoldable pub writes : Tables → List Step → Guard → Bool
 writes i steps (guard.Machine m) = ends_at steps m.0
 writes i steps (guard.Service s) = moves_service i steps s.0
 
--- its read guards: the services on which one of those services depends, and those that depend on one of them
+-- the read guards of a move: the services on which a service of its processes depends, and those that depend on such a
+-- service
 unfoldable pub reads : Tables → List Step → Guard → Bool
 reads i steps (guard.Machine m) = false
 reads i steps (guard.Service s) = reads_service i steps s.0
 
--- its guards
+-- the guards of a move, for writing or for reading
 unfoldable pub is_guard : Tables → List Step → Guard → Bool
 is_guard i steps g = writes i steps g || reads i steps g
 

@@ -14,7 +14,7 @@ use Rattle.ra_guards.specs.Kept.{version_in, AreVersions}
 use Rattle.ra_guards.specs.Newest.{first_newer, first_newer_read}
 use Rattle.ra_guards.specs.Made.{made_state, AreSound, MadeStand, IsRightLater}
 
--- what the first newer guard is
+-- what the first newer guard of a move is
 pub record NewestIsRight : Type 0 where
   -- the first in a table of the versions is the first by the versions
   pub in_table :
@@ -27,7 +27,7 @@ pub record NewestIsRight : Type 0 where
       (q : ℕ)
       → AreVersions i made n v
       → first_newer_read i steps (version_in v) q ≡ first_newer_read i steps (version i made n) q
-  -- there is none exactly if the move is untouched
+  -- there is none exactly if no guard of the move was touched
   pub none : (i : Tables) (made : List (Option (List Step))) (q n : ℕ) (steps : List Step)
       → WellFormed i → AreWithin i steps
       → (first_newer i steps (version i made n) q ≡ None) ↔ Untouched i made q n steps
@@ -36,8 +36,8 @@ pub record NewestIsRight : Type 0 where
       → ((g : Guard) → writes i steps g ≡ true → v g ≤ q)
       → first_newer i steps v q ≡ first_newer_read i steps v q
 
--- guards that aren't written keep their residents: each machine among them holds the same processes, and each process
--- of a service among them has the same machine
+-- machines and services that aren't written keep their residents: such a machine holds the same processes, and each
+-- process of such a service has the same machine
 abbrev pub GuardsKeepResidents : Type 0
 GuardsKeepResidents =
     (i : Tables) (a0 : List Machine) (made : List (Option (List Step))) (q n : ℕ)
@@ -45,8 +45,8 @@ GuardsKeepResidents =
     → q ≤ n → MadeStand i a0 made n → ApartSince i made q n steps
     → HeldAlike i steps (made_state a0 made q) (made_state a0 made n)
 
--- untouched guards keep the verdict: what was planned at place q, and has had no guard touched since, is weighed at
--- place n as it was at q
+-- untouched guards keep the verdict: if no guard of a move was touched since it was planned at place q, it is weighed
+-- at place n as it was at q
 abbrev pub UntouchedIsRight : Type 0
 UntouchedIsRight =
     (i : Tables) (a0 : List Machine) (made : List (Option (List Step))) (q n : ℕ)

@@ -1,4 +1,4 @@
--- The least number of some guards, those with a version above a place.
+-- The least number of those guards of a group that have a version above a place.
 use Rattle.std.specs.Prelude.{◌≡◌, ℕ, ◌+◌, ◌≤◌, ◌<◌, Bool, true, false, nat_lt, if◌then◌else◌, min, List, ◌⊎◌}
 use Rattle.ra_base.specs.declared.ids.Guard.{Guard}
 use Rattle.ra_base.specs.declared.ids.Guard.TheVariants as guard
@@ -22,7 +22,7 @@ pub record IsFirstNumber (i : Tables) (test : Guard → Bool) (v : Guard → ℕ
   pub passes : n < machine_count i + service_count i → test (guard_of (machine_count i) n) ≡ true
   pub newer : n < machine_count i + service_count i → q < v (guard_of (machine_count i) n)
 
--- a number is the least of one before and the numbers of some guards, those with a version above q
+-- a number is the least of `before` and the numbers of the guards of a group with a version above q
 pub record IsLower (i : Tables) (v : Guard → ℕ) (q : ℕ) (among : Guard → Type 0) (before n : ℕ) :
     Type 0 where
   pub below : n ≤ before
@@ -39,26 +39,26 @@ lowered version q n before = if nat_lt q version then min before n else before
 abbrev pub IsReadOf : Tables → List Step → ℕ → Guard → Type 0
 IsReadOf i steps s g = (writes i steps g ≡ false) × (g ≡ guard.Service (record { 0 = s }))
 
--- it is one of the first n services of a list, and no write guard
+-- the guard is one of the first n services of a list, and no write guard
 abbrev pub IsReadIn : Tables → List Step → List Named → ℕ → Guard → Type 0
 IsReadIn i steps services n g = (k : ℕ) × (k < n) × IsReadOf i steps (service_at services k) g
 
--- it is a service that is joined with service s, and no write guard
+-- the guard is a service that is joined with service s, and no write guard
 abbrev pub IsReadBy : Tables → List Step → ℕ → Guard → Type 0
 IsReadBy i steps s g =
     (u : ℕ) × (u < service_count i) × (are_joined i s u ≡ true) × IsReadOf i steps u g
 
--- it is joined with the service of one of the first n steps, and no write guard
+-- the guard is joined with the service of one of the first n steps, and no write guard
 abbrev pub IsReadBelow : Tables → List Step → ℕ → Guard → Type 0
 IsReadBelow i steps n g = (k : ℕ) × (k < n) × IsReadBy i steps (service_in i steps k) g
 
--- step k writes it
+-- step k writes the guard
 abbrev pub IsWrittenBy : Tables → List Step → ℕ → Guard → Type 0
 IsWrittenBy i steps k g =
     (g ≡ guard.Machine (record { 0 = from_in steps k }))
     ⊎ ((g ≡ guard.Machine (record { 0 = to_in steps k }))
     ⊎ (g ≡ guard.Service (record { 0 = service_in i steps k })))
 
--- one of the first n steps writes it
+-- one of the first n steps writes the guard
 abbrev pub IsWrittenBelow : Tables → List Step → ℕ → Guard → Type 0
 IsWrittenBelow i steps n g = (k : ℕ) × (k < n) × IsWrittenBy i steps k g

@@ -1,4 +1,4 @@
--- The states of a history, which is given as the list of the steps that its entries make.
+-- The states of a history, which is given as a list: what steps each of its entries makes.
 use Rattle.std.specs.Prelude.{◌≡◌, ℕ, zero, suc, ◌<◌, ◌≤◌, List, length, Option, Some, None}
 use Rattle.ra_base.specs.declared.ids.Machine.{Machine}
 use Rattle.ra_model.specs.declared.raw.Tables.{Tables}
@@ -43,7 +43,7 @@ pub record MadeStand (i : Tables) (a0 : List Machine) (made : List (Option (List
   pub each : (j : ℕ) (steps : List Step) → j < n → made_at made j ≡ Some steps
       → StandsHere i (made_state a0 made j) steps
 
--- what was right of a move at place q is right at place n: its machines hold the same processes, and the processes of
+-- what was right for a move at place q is right at place n: its machines hold the same processes, and the processes of
 -- its services have the same machines; it can be weighed; and its weighing is the same
 pub record IsRightLater (i : Tables) (a0 : List Machine) (made : List (Option (List Step)))
     (q n : ℕ) (steps : List Step) : Type 0 where

@@ -29,11 +29,11 @@ first_newer i steps v q = first_that i (is_guard i steps) v q
 unfoldable pub reads_only : Tables → List Step → Guard → Bool
 reads_only i steps g = is_guard i steps g && not (writes i steps g)
 
--- the first of these with a version above q
+-- the first guard of a move that isn't a write guard and has a version above q
 unfoldable pub first_newer_read : Tables → List Step → (Guard → ℕ) → ℕ → Option Newer
 first_newer_read i steps v q = first_that i (reads_only i steps) v q
 
--- the guard of a number, with the place before its version; past the guards of the instance there is none
+-- the guard of a number, with the place before its version; none past the guards of the instance
 unfoldable pub newer_of : Tables → (Guard → ℕ) → ℕ → Option Newer
 newer_of i v n =
     if nat_lt n (machine_count i + service_count i)

@@ -9,9 +9,9 @@ use ra_base::Machine;
 use ra_model::Instance;
 use ra_moves::{Move, Step};
 
-/// Whether no guard of a move is written by another: no step of the other leaves or enters a machine that the move
-/// leaves or enters, and none moves a process of a service that the move moves or that is joined with one by a
-/// dependency.
+/// Whether another move writes no guard of a move: no step of the other one leaves or enters a machine that the move
+/// leaves or enters, and none moves a process of a service that the move moves or that is joined with such a service by
+/// a dependency.
 #[tactic(auto, using(crate::proofs::GuardLemmas::known, crate::proofs::GuardLemmas::meetings))]
 pub fn keeps_apart(inst: &Instance, mv: &Move, other: &Move) -> bool
     requires known { AreKnown inst.now.tables mv.now.steps }

@@ -10,7 +10,7 @@ use ra_moves::Move;
 use ra_topology::Topology;
 
 /// Whether a machine or service is a guard of a move, for writing or for reading. A move has few steps and a service
-/// few needs, so they are looked through, and the topology isn't.
+/// few needs, so these are searched, and not the topology.
 #[tactic(auto, using(crate::proofs::GuardLemmas::machine_guard, crate::proofs::GuardLemmas::service_guard, crate::proofs::GuardLemmas::within_known), unfolding(crate::specs::Order::IsKnown))]
 pub fn is_guard(_topo: &Topology, inst: &Instance, mv: &Move, guard: Guard) -> bool
     requires within { AreWithin inst.now.tables mv.now.steps }

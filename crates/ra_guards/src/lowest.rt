@@ -37,7 +37,8 @@ pub(crate) fn least_guard(
     least
 }
 
-/// The same among the guards that aren't write guards.
+/// The least number of a guard that is not a write guard and has a version above q, and the number of all guards if
+/// there is none.
 #[tactic(auto, using(crate::proofs::LowestLemmas::read_none))]
 pub(crate) fn least_read(
     topo: &Topology,
@@ -60,7 +61,7 @@ pub(crate) fn least_read(
     least
 }
 
-/// The least of a number and those of the newer guards that a step writes.
+/// The least of a number and the numbers of the newer guards that a step writes.
 fn lower_written(
     inst: &Instance,
     mv: &Move,
@@ -83,7 +84,7 @@ fn lower_written(
     lower(versions, q, Guard::Service(service), number, least)
 }
 
-/// The least of a number and those of the newer services that are joined with one and aren't moved.
+/// The least of a number and the numbers of the newer services that are joined with a service and aren't moved.
 fn lower_joined(
     topo: &Topology,
     inst: &Instance,
@@ -104,7 +105,7 @@ fn lower_joined(
     lower_listed(inst, mv, topo.dependants(service), versions, q, least)
 }
 
-/// The least of a number and those of the newer services of a list that aren't moved.
+/// The least of a number and the numbers of the newer services of a list that aren't moved.
 #[tactic(auto, using(crate::proofs::LowestLemmas::listed_none))]
 fn lower_listed(
     inst: &Instance,
@@ -127,7 +128,7 @@ fn lower_listed(
     least
 }
 
-/// The lesser of a number and that of a service, if it is newer and isn't moved.
+/// The lesser of a number and the number of a service, if the service is newer and isn't moved.
 fn lower_service(
     inst: &Instance,
     mv: &Move,
@@ -154,7 +155,7 @@ fn lower_service(
     }
 }
 
-/// The lesser of a number and that of a guard, if the guard's version is above q.
+/// The lesser of a number and the number of a guard, if the guard's version is above q.
 #[tactic(auto, unfolding(crate::specs::Lowest::lowered))]
 fn lower(versions: &Versions, q: u64, guard: Guard, number: u32, before: u32) -> u32
     requires { HasGuard versions.now guard }

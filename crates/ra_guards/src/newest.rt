@@ -15,17 +15,17 @@ use ra_model::Instance;
 use ra_moves::Move;
 use ra_topology::Topology;
 
-/// A guard that was touched from a place on.
+/// A guard that an entry from some place on has touched.
 #[derive(Clone, Copy, Debug, PartialEq, Eq)]
 pub struct Newer {
     /// The guard.
     pub guard: Guard,
-    /// The place of the last entry that touched it: one less than its version.
+    /// The place of the last entry that touched the guard: one less than its version.
     pub at: u64,
 }
 
-/// The first of a move's guards, in guard order, that has a version above q. It answers at once if no guard at all has
-/// one, and else in the time of the move's guards and of the needs and dependants of its services.
+/// The first of a move's guards, in guard order, that has a version above q. The answer is immediate if no guard at all
+/// has one. Otherwise it takes time in proportion to the move's guards and to the needs and dependants of its services.
 #[tactic(auto, using(crate::proofs::LowestLemmas::first_is, crate::proofs::LowestLemmas::first_none))]
 pub fn first_newer(
     topo: &Topology,
@@ -45,8 +45,8 @@ pub fn first_newer(
     newer_of(inst, versions, least_guard(topo, inst, mv, versions, q))
 }
 
-/// The first, in guard order, of a move's guards that aren't write guards, that has a version above q. It takes the
-/// time of `first_newer`.
+/// The first of a move's guards that aren't write guards, in guard order, that has a version above q. It takes the time
+/// of `first_newer`.
 #[tactic(auto, using(crate::proofs::LowestLemmas::first_read_is, crate::proofs::LowestLemmas::first_read_none))]
 pub fn first_newer_read(
     topo: &Topology,
@@ -66,7 +66,7 @@ pub fn first_newer_read(
     newer_of(inst, versions, least_read(topo, inst, mv, versions, q))
 }
 
-/// The guard of a number, with the place before its version; past the guards of the instance there is none.
+/// The guard of a number, with the place before its version; none past the guards of the instance.
 #[tactic(auto, using(crate::proofs::OrderLemmas::has_guard), unfolding(crate::specs::Newest::newer_of))]
 fn newer_of(inst: &Instance, versions: &Versions, number: u32) -> Option<Newer>
     requires sized { IsTableOf inst.now.tables versions.now }

@@ -12,11 +12,11 @@ use std::marker::Model;
 pub struct Versions {
     machines: Fixed<u64>,
     services: Fixed<u64>,
-    /// A number that no version is above.
+    /// An upper bound of all versions.
     newest: u64,
 }
 
-/// Lets all lists go in one call, so that the end of an owner is short to prove.
+/// Frees all lists in one call, so that the end of an owner is short to prove.
 impl Drop for Versions {
     fn drop(self) {
         let Versions {
@@ -64,14 +64,14 @@ impl Versions {
         }
     }
 
-    /// Whether it is known at once that no guard has a version above a number.
+    /// Whether the bound alone shows that no guard has a version above a number.
     pub fn is_at_most(&self, version: u64) -> bool
         ensures { result ≡ true → AreAtMost version self.now }
     {
         self.newest <= version
     }
 
-    /// Gives each of these guards a version, and leaves all others.
+    /// Gives each of these guards a version, and leaves the others as they are.
     #[tactic(auto, using(crate::proofs::KeptLemmas::touching))]
     pub fn touch(&mut self, writes: &WriteGuards, version: u64)
         requires { All (HasGuard self.old) writes.now }

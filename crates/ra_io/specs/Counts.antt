@@ -1,4 +1,4 @@
--- What a count says.
+-- The number that a contract sees of a count.
 use Rattle.std.specs.Prelude.{ℕ}
 use Rattle.ra_io.specs.declared.counts.Count.{Count}
 

@@ -1,4 +1,4 @@
--- What was asked of files in memory, and how many calls and faults there were.
+-- The settings of files in memory, and how many calls and faults there were.
 use Rattle.std.specs.Prelude.{◌≡◌, ℕ, ◌^◌, ◌<◌, Bool, if◌then◌else◌, List, Option}
 use Rattle.ra_io.specs.declared.memory.MemoryFiles.{MemoryFiles}
 use Rattle.ra_io.specs.Faults.{raised}
@@ -27,7 +27,7 @@ held files name = held_in files.texts name
 pub counted : (files : MemoryFiles) → faults files < 2 ^ 64
 counted files = files.faults.small
 
--- one fetch more, which failed or not: nothing else changes
+-- one fetch more, which failed or not; nothing else changes
 pub record Counts (old new : MemoryFiles) (failed : Bool) : Type 0 where
   pub calls_rise : calls new ≡ raised (calls old)
   pub faults_rise : faults new ≡ (if failed then raised (faults old) else faults old)

@@ -1,4 +1,4 @@
--- What was asked of a sink in memory, what it took, and how many calls and faults there were.
+-- The settings of a sink in memory, what it took, and how many calls and faults there were.
 use Rattle.std.specs.Prelude.{◌≡◌, ℕ, ◌-◌, ◌^◌, ◌<◌, Bool, if◌then◌else◌, List, length}
 use Rattle.ra_io.specs.declared.memory.MemorySink.{MemorySink}
 use Rattle.ra_io.specs.Faults.{raised}
@@ -30,7 +30,7 @@ faults sink = sink.faults.value
 pub counted : (sink : MemorySink) → faults sink < 2 ^ 64
 counted sink = sink.faults.small
 
--- one put more, which failed or not: what was asked of the sink stays
+-- one put more, which failed or not; the settings stay
 pub record Counts (old new : MemorySink) (failed : Bool) : Type 0 where
   pub calls_rise : calls new ≡ raised (calls old)
   pub faults_rise : faults new ≡ (if failed then raised (faults old) else faults old)

@@ -1,8 +1,7 @@
 -- Files and a sink, as a call finds them and as it leaves them.
 --
--- In a clause `F.Files` is the record of what a bound `F: Files` tells, so that
---   reading F.Files files.old files.new
--- is what a call that is lent the files did to them, and `writing O.Sink out.old out.new` the same of a sink.
+-- In a clause `F.Files` is the record of what a bound `F: Files` tells, so that `reading F.Files files.old files.new`
+-- is what a call does to the files that it borrows, and `writing O.Sink out.old out.new` is what a call does to a sink.
 use Rattle.std.specs.Prelude.{◌≡◌, ℕ, ◌≤◌, List, Option}
 use Rattle.std.specs.Io.KnownBytes.{Appends, Keeps}
 use Rattle.ra_io.specs.declared.outside.Files as files
@@ -29,7 +28,7 @@ reading told old new = record {
 abbrev pub ReadFailed : Reading → List ℕ → Type 0
 ReadFailed files name = Rose (files.before name) (files.after name)
 
--- what every call leaves of files: all that they hold, and no count that fell
+-- what every call leaves of files: they hold all that they held, and no count fell
 pub record LeavesFiles (files : Reading) : Type 0 where
   pub kept : (other : List ℕ) → files.held_after other ≡ files.held other
   pub never_fall : (other : List ℕ) → files.before other ≤ files.after other

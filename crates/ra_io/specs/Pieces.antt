@@ -16,7 +16,7 @@ pub record Sets (old new : List ℕ → Option (List ℕ)) (name bytes : List �
   pub named : new name ≡ Some bytes
   pub others : (other : List ℕ) → other ≢ name → new other ≡ old other
 
--- how many bytes a fetch gives: as many as there is room for, as may be given at once, and as there are
+-- how many bytes a fetch gives: no more than there is room for, than one fetch may give, and than the file has left
 abbrev pub piece_len : ℕ → ℕ → ℕ → List ℕ → ℕ
 piece_len room each at bytes = min (min room each) (length bytes - at)
 

@@ -5,7 +5,7 @@ ghost use Rattle.ra_io.specs.Faults.{raised};
 use crate::outside::Failed;
 use std::io;
 
-/// A count that goes no further than its last value.
+/// A count that stays at its greatest value once it reaches it.
 #[derive(Drop)]
 pub struct Count {
     value: u64,
@@ -29,14 +29,14 @@ impl Count {
         self.value
     }
 
-    /// Counts one more.
+    /// Counts one more, unless the count is at its greatest value.
     pub fn raise(&mut self)
         ensures { number_of self.new ≡ raised (number_of self.old) }
     {
         self.value = self.value.saturating_add(1);
     }
 
-    /// The number that a call of the system gave, or a failure, which is counted.
+    /// The number that a system call gave, or a failure, which is counted.
     pub fn counted(&mut self, outcome: io::Result<usize>) -> Result<usize, Failed>
         ensures value { result_ok result ≡ result_ok outcome }
         ensures faults { number_of self.new ≡

@@ -11,20 +11,20 @@ use std::{fs, io, rt};
 /// The most bytes of a name, which is the system's limit for a path.
 const MOST_NAME: usize = 4096;
 
-/// The files of the system. What they hold is untold, and one count serves all names.
+/// The files of the system. Contracts don't say what they hold, and one count serves all names.
 ///
-/// The file that was read last stays open. A fetch at place 0 opens the name anew, and one that goes on
-/// where the last one ended reads on in the same file, so that one reading from front to end sees one
-/// file, even if the name stands for another one by then.
+/// The file that was read last stays open. A fetch at place 0 opens the name again. A fetch that goes on where the last
+/// one ended reads on in the open file, so that one reading from start to end sees one file, even if another file has
+/// taken the name by then.
 #[derive(Drop)]
 pub struct DiskFiles<'r, R: rt::Files> {
     rt: &'r R,
     faults: Count,
-    /// The file that was read last, if that didn't fail.
+    /// The file that was read last, unless that failed.
     file: Option<R::File>,
     /// Its name.
     name: ArrayString<MOST_NAME>,
-    /// The place behind what was read last.
+    /// The place after what was read last.
     place: u64,
 }
 
@@ -44,8 +44,7 @@ impl<'r, R: rt::Files> DiskFiles<'r, R> {
         }
     }
 
-    /// Reads from a place of a file on. After a failure no file is kept, so that the next call tries the
-    /// same place again.
+    /// Reads from a place of a file on. After a failure no file is kept, so that the next call tries this place again.
     fn read_at(&mut self, name: &str, at: u64, into: &mut [u8]) -> io::Result<usize>
         ensures bound { IfOk result (λ n. n ≤ length into.new) }
         ensures faults { disk.count self.new ≡ disk.count self.old }
@@ -65,7 +64,7 @@ impl<'r, R: rt::Files> DiskFiles<'r, R> {
         Ok(number)
     }
 
-    /// Keeps an open file with its name. A name that is longer than any path isn't kept.
+    /// Keeps an open file with its name, unless the name is longer than any path.
     fn keep(&mut self, file: R::File, name: &str, place: u64)
         ensures { disk.count self.new ≡ disk.count self.old }
     {

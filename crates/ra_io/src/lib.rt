@@ -1,8 +1,8 @@
-//! The outside: files that are read in pieces, sinks that take bytes in pieces, and the gate that a
-//! worker passes before it commits.
+//! The outside: files that are read in pieces, sinks that take bytes in pieces, and the gate that a worker passes
+//! before it commits.
 //!
-//! What a file holds and what a sink has taken may be untold, as for real files. Then only the clauses
-//! on counts of faults say something.
+//! A contract may leave untold what a file holds and what a sink has taken, as it does for real files. Then only the
+//! clauses on counts of faults say something.
 #![tactic(auto)]
 
 mod counts;

@@ -10,7 +10,7 @@ use ra_base::{Fixed, NoMemory};
 use std::alloc::Global;
 use std::collections::BTreeMap;
 
-/// Files in memory that give few bytes at once, and fail when a test wants it.
+/// Files in memory that give few bytes at once, and fail if a test wants it.
 #[derive(Drop)]
 pub struct MemoryFiles {
     texts: Texts,
@@ -68,7 +68,7 @@ impl Files for MemoryFiles {
     ghost counted = { λ s name. files.counted s };
 
     fn fetch(&mut self, name: &str, at: u64, into: &mut [u8]) -> Result<usize, Failed>
-        // It fails exactly if its number is listed or the name isn't held.
+        // It fails exactly if its number is listed or no such name is held.
         ensures fails { is_err result ≡
             (is_listed (files.fails self.old) (files.calls self.old) || is_none
             (files.held self.old name.now)) }
@@ -97,7 +97,7 @@ impl Files for MemoryFiles {
     }
 }
 
-/// A sink in memory with a room, which takes few bytes at once and fails when a test wants it.
+/// A sink in memory with a limited room, which takes few bytes at once and fails if a test wants it.
 #[derive(Drop)]
 pub struct MemorySink {
     bytes: Fixed<u8>,
@@ -137,7 +137,7 @@ impl MemorySink {
         })
     }
 
-    /// What was taken so far.
+    /// The bytes that were taken so far.
     pub fn bytes(&self) -> &[u8]
         ensures { result.now ≡ sink.bytes self.now }
     {
@@ -165,7 +165,7 @@ impl Sink for MemorySink {
             sink.bytes self.old ++ take (result_unwrap_or result 0) piece.now }
         ensures left { sink.left self.new ≡ sink.left self.old - result_unwrap_or result 0 }
 
-        // It counts itself, and its failure, and what was asked of the sink stays.
+        // It counts itself, and its failure; the sink's settings stay.
         ensures counts { sink.Counts self.old self.new (is_err result) }
     {
         let number = self.calls.value();

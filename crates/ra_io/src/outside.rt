@@ -4,7 +4,7 @@ ghost use Rattle.ra_io.specs.Faults.{Rose};
 
 use std::marker::Sync;
 
-/// A call of the outside failed, and a count of faults rose.
+/// A call to the outside failed, and a count of faults rose.
 #[derive(Clone, Copy, Debug, PartialEq, Eq)]
 pub struct Failed;
 
@@ -36,7 +36,7 @@ pub trait Files {
     ghost counted: { (s : Self) (name : List ℕ) → faults s name < 2 ^ 64 };
 }
 
-/// What takes bytes in pieces.
+/// A receiver of bytes in pieces.
 pub trait Sink {
     /// The bytes that were taken so far, if they are told.
     ghost taken: { Self → Option (List ℕ) };
@@ -52,7 +52,7 @@ pub trait Sink {
         ensures grows { IfOk result (λ n.
             Appends (taken self.old) (taken self.new) (take n piece.now)) }
 
-        // A failure is counted and takes nothing, and the count never falls.
+        // A failure is counted and takes no bytes, and the count never falls.
         ensures failed { OnErr result (Rose (faults self.old) (faults self.new)) }
         ensures unchanged { OnErr result (Keeps (taken self.old) (taken self.new)) }
         ensures never_falls { faults self.old ≤ faults self.new };
@@ -60,13 +60,13 @@ pub trait Sink {
     ghost counted: { (s : Self) → faults s < 2 ^ 64 };
 }
 
-/// What a worker passes between making a plan and committing it.
+/// The gate that a worker passes between making a plan and committing it.
 pub trait Gate: Sync {
-    /// Returns when worker `worker` may commit its proposal `k`.
+    /// Returns as soon as worker `worker` may commit its proposal `k`.
     fn before_commit(&self, worker: u32, k: u64);
 }
 
-/// The gate that is always open.
+/// A gate that is always open.
 #[derive(Clone, Copy, Debug, PartialEq, Eq)]
 pub struct NoGate;
 

@@ -2,18 +2,18 @@ use crate::outside::Gate;
 use std::hint::spin_loop;
 use std::sync::atomic::{AtomicBool, Ordering};
 
-/// How often a worker looks for the other one.
+/// How often a worker looks for the other one, at most.
 const MOST_LOOKS: u32 = 100_000_000;
 
-/// A gate at which workers 0 and 1 wait for each other, each before its first proposal is committed, and no longer than
-/// it takes to look 100,000,000 times. It shows whether they ran beside each other.
+/// A gate at which workers 0 and 1 wait for each other, each before it commits its first proposal. Each looks at most
+/// 100,000,000 times. The gate shows whether the two ran at the same time.
 #[derive(Drop)]
 pub struct PairGate {
     first: Place,
     second: Place,
 }
 
-/// How far one of the two workers is.
+/// How far one of the two workers has come.
 #[derive(Drop)]
 struct Place {
     /// It has come to the gate.
@@ -45,7 +45,7 @@ impl Place {
         }
     }
 
-    /// Comes to the gate, and looks for the other worker.
+    /// Comes to the gate, and waits for the other worker.
     fn meet(&self, other: &Place) {
         self.here.store(true, Ordering::SeqCst);
         for _ in 0..MOST_LOOKS {

@@ -10,14 +10,14 @@ use std::alloc::Global;
 use std::collections::BTreeMap;
 use std::marker::Model;
 
-/// Files in memory that never fail. A name that was not added is held as no bytes.
+/// Files in memory that never fail. A name that was not added has no bytes.
 #[derive(Drop)]
 pub struct SteadyFiles {
     texts: Texts,
 }
 
 impl SteadyFiles {
-    /// No file has bytes yet.
+    /// Makes files without bytes.
     pub fn make(alloc: Global) -> Result<SteadyFiles, NoMemory>
         ensures { IfOk result (λ f. (name : List ℕ) → files.bytes f name ≡ []) }
     {
@@ -59,7 +59,7 @@ impl Files for SteadyFiles {
     }
 }
 
-/// A sink that takes every piece whole and keeps the number of its bytes alone.
+/// A sink that takes every piece whole and keeps only the number of bytes.
 #[derive(Drop)]
 pub struct CountSink {
     count: u64,
@@ -74,14 +74,14 @@ impl Model for CountSink {
 }
 
 impl CountSink {
-    /// Nothing was taken yet.
+    /// Makes a sink that has taken nothing yet.
     pub fn make() -> CountSink
         ensures { result ≡ 0 }
     {
         CountSink { count: 0 }
     }
 
-    /// How many bytes were taken. It stays at its greatest value.
+    /// How many bytes were taken. The count stays at its greatest value once it reaches it.
     pub fn count(&self) -> u64
         ensures { result ≡ self.now }
     {

@@ -7,7 +7,7 @@ use crate::outside::{Failed, Sink};
 use std::io;
 use std::io::{ErrorKind, Write};
 
-/// Standard output, or another writer in its place. What it took is untold.
+/// A sink that writes to standard output, or to another writer. Contracts don't say what it took.
 #[derive(Drop)]
 pub struct OutSink<W: Write + Drop> {
     to: W,
@@ -46,10 +46,10 @@ impl<W: Write + Drop> Sink for OutSink<W> {
     }
 }
 
-/// The same over standard error.
+/// A sink that writes to standard error.
 pub type ErrSink<W> = OutSink<W>;
 
-/// Writes the front of a piece and flushes. To take nothing is an error.
+/// Writes the front of a piece and flushes. A write of no bytes is an error.
 fn write_some<W: Write>(to: &mut W, piece: &[u8]) -> io::Result<usize>
     ensures some { IfOk result (λ n. 0 < n) }
     ensures bound { IfOk result (λ n. n ≤ length piece.now) }

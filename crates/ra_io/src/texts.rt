@@ -22,7 +22,7 @@ pub fn set_text(texts: &mut Texts, alloc: Global, name: &str, bytes: &[u8]) -> R
     Ok(())
 }
 
-/// The bytes of a name, if there are some.
+/// The bytes of a name, if the name was set.
 pub fn text_of<'t>(texts: &'t Texts, name: &str) -> Option<&'t [u8]>
     ensures { option_map (λ t. t.now) result ≡ held_in texts.now name.now }
 {

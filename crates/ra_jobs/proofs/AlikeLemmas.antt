@@ -49,7 +49,7 @@ opened = zero
 abbrev pub whole : RawInstance → Option (Listed Bool) → Tables
 whole raw closed = record { raw = raw; closed = closed }
 
--- no room is looked at
+-- rooms don't matter
 
 repair_bare : (raw : RawInstance) (closed : Option (Listed Bool)) (a0 : List Machine) (lot : Lot) →
     repair_run (bare (whole raw closed)) a0 lot ≡ repair_run (whole raw closed) a0 lot

@@ -1,4 +1,4 @@
--- The room that was reserved for the lists of an instance is no matter of what they say.
+-- The room that was reserved for the lists of an instance doesn't matter for what they say.
 use Rattle.std.proofs.Common.{◌≡◌, ℕ, Bool, List, Option, Some, None, refl}
 use Rattle.ra_base.specs.Listed.{Listed}
 use Rattle.ra_base.specs.Tables.{cell}

@@ -181,7 +181,7 @@ never_both held names before now file.Changed known refused read =
     read.accepts.instance read.accepts.changed
 never_both held names before now f known refused read = absurd refused
 
--- ---- The reason of another status than one whose cause stands is not so of the files
+-- ---- If the cause of one status holds, the reason of another doesn't
 
 -- the status if a file is refused; of the edits and the report it doesn't matter
 abbrev bad_status : File → Status

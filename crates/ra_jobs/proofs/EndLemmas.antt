@@ -44,7 +44,7 @@ unfolding status_of
 never_usage (Read f) e = cc
 never_usage refusal e = cc
 
--- a failed writing comes behind a part of the output
+-- a failed writing comes after a part of the output
 pub not_write : (refusal : Refusal) → puts_first refusal ≡ false → refusal ≢ Write
 not_write refusal nothing e = let both : true ≡ false = subst (λ (r : Refusal). puts_first r ≡ false) e nothing in cc
 

@@ -346,7 +346,7 @@ repair_not held names asked before now status is = record {
   is_repaired = λ i a0 accepts known broken. inr (inr is);
 }
 
--- so it is with the whole command
+-- this holds of the whole command
 
 pub repair_command_more : (names : Names) (asked more : Lots → Type 0) (files : Reading) (out err : Output)
     (status : Status) → ((l : Lots) → asked l → more l) → Does (over (repaired names asked)) files out err status →

@@ -23,12 +23,12 @@ IsKnown held names before now f =
     → IsSome (held (name_of names f))
     × (Rose (before (name_of names f)) (now (name_of names f)) → ⊥)
 
--- so it is with all files that are read up to this one
+-- this holds of all files that are read up to this one
 abbrev pub KnownTo : Held → Names → Faults → Faults → File → Type 0
 KnownTo held names before now last =
     (f : File) → is_up_to f last ≡ true → IsKnown held names before now f
 
--- a status comes only if its cause stands; and if that stands, over files that are known, no other status comes but
+-- a status comes only if its cause holds; and if its cause holds and the files are known, no other status comes except
 -- that of refused memory
 pub record Exactly (status this : Status) (known cause : Type 0) : Type 0 where
   pub only : status ≡ this → cause
@@ -46,7 +46,7 @@ BadClosedComes held names before now status =
     Exactly status BadClosed (KnownTo held names before now file.Closed)
     ((fault : ClosedFault) × ClosedRefused held names.model names.closed fault)
 
--- the instance was read, and the initial list is refused; or that was read too, and the new list is refused
+-- the instance was read, and the initial list is refused; or the initial list was read too, and the new list is refused
 pub record BadAssignmentComes (held : Held) (names : Names) (before now : Faults) (status : Status)
     : Type 0 where
   pub only : status ≡ BadAssignment
@@ -55,8 +55,8 @@ pub record BadAssignmentComes (held : Held) (names : Names) (before now : Faults
       → ((fault : AssignFault) × RoleRefused held names which fault)
       → (status ≡ BadAssignment) ⊎ (status ≡ NoMemory)
 
--- each status of a refused job that any job may have, and when it comes. The status of refused memory is free, but
--- nothing was written then
+-- each status that any refused job may have, and when it comes. The status of refused memory may come at any time, but
+-- then nothing was written
 pub record Comes (held : Held) (names : Names) (before now : Faults) (own : Refusal → Type 0)
     (out_same : Type 0) (status : Status) : Type 0 where
   pub read_fault : status ≡ ReadFault → (f : File) × ReadFailed held names before now f
@@ -66,8 +66,8 @@ pub record Comes (held : Held) (names : Names) (before now : Faults) (own : Refu
   pub write_fault : status ≡ WriteFault → own Write
   pub no_output : status ≢ Done → status ≢ WriteFault → status ≢ Unrepaired → out_same
 
--- of a job whose lists have to be feasible: all files before the report are accepted, and the initial list breaks a
--- constraint; or that is feasible, and the new list breaks one
+-- for a job whose lists have to be feasible: all files before the report are accepted, and the initial list breaks a
+-- constraint; or the initial list is feasible, and the new one breaks one
 abbrev pub InfeasibleComes : Held → Names → Faults → Faults → Status → Type 0
 InfeasibleComes held names before now status =
     Exactly status Infeasible (KnownTo held names before now file.Edits)

@@ -1,5 +1,5 @@
--- A command: its files, what it prints and why it refuses, and how it ends. How far a text came is a predicate on
--- texts: `sent` in what is printed. The output took it whole, or broke off after a front of it.
+-- A command: its files, what it prints and why it refuses, and how it ends. `sent` is a predicate on texts that says
+-- how far a text came: the output took it whole, or broke off after a front of it.
 use Rattle.std.specs.Prelude.{◌≡◌, ◌⊎◌, ℕ, List}
 use Rattle.ra_draws.specs.declared.budgets.Lots.{Lots}
 use Rattle.ra_io.specs.Outside.{Reading, Took}
@@ -15,19 +15,19 @@ use Rattle.ra_jobs.specs.Refusals.{Reason, Judges}
 pub record Command : Type 1 where
   -- the names of its files
   pub names : Names
-  -- what it has printed if it is done, by what its files hold: its text was sent so far
+  -- what it has printed if it is done, given what its files hold and how far its text came
   pub prints : Held → (List ℕ → Type 0) → Type 0
-  -- why it refuses, given which texts the output took whole, and which of them it took a front of and broke off
+  -- why it refuses, given which texts were written fully and which only in part
   pub refuses : Reading → (List ℕ → Type 0) → (List ℕ → Type 0) → Refusal → Type 0
   -- when each of its statuses comes
   pub comes : Reading → Output → Status → Type 0
   -- nothing is wrong with its files, and reading them didn't fail
   pub valid : Reading → Type 0
-  -- then it ends with one of these, if writing didn't fail either
+  -- the statuses with which it ends if its files are valid, apart from failed writing and refused memory
   pub answers : Status → Type 0
 
--- what is a command's own of one that reads a model and lists: its own refusals, when their statuses come, and what
--- makes its files valid
+-- the part of a command over a model and lists that is its own: its refusals, when their statuses come, and what makes
+-- its files valid
 pub record OverFiles : Type 1 where
   pub names : Names
   pub prints : Held → (List ℕ → Type 0) → Type 0
@@ -36,7 +36,7 @@ pub record OverFiles : Type 1 where
   pub valid : Held → Type 0
   pub answers : Status → Type 0
 
--- when the statuses come that any such command may have, and its own
+-- when the statuses come that every such command has, and when its own come
 pub record OverComes (c : OverFiles) (files : Reading) (out : Output) (status : Status) : Type 0
   where
     pub any :
@@ -44,7 +44,7 @@ pub record OverComes (c : OverFiles) (files : Reading) (out : Output) (status : 
         (c.refuses files.held (Took out.sink) (BrokeOff out.sink)) out.same status
     pub own : c.own_comes files status
 
--- the command, with what is common to all that read a model and lists
+-- the whole command: its own part with what is common to all commands over a model and lists
 abbrev pub over : OverFiles → Command
 over c = record {
   names = c.names;
@@ -67,7 +67,7 @@ judged names prints = record {
   answers = λ status. (status ≡ Done) ⊎ (status ≡ NoMemory);
 }
 
--- the lots that were asked for are these. It is a predicate, since there are none if memory was refused before they
+-- these are the lots that were asked for. It is a predicate, since there are no lots if memory was refused before they
 -- were read
 abbrev pub These : Lots → Lots → Type 0
 These lots l = l ≡ lots

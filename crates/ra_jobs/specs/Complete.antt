@@ -1,4 +1,4 @@
--- What has to be so of the files of a job, so that it is done unless writing failed or memory was refused.
+-- What the files of a job have to satisfy so that the job is done unless writing fails or memory is refused.
 use Rattle.std.specs.Prelude.{◌≡◌, ℕ, List, Some, None, IsSome}
 use Rattle.ra_base.specs.declared.ids.Machine.{Machine}
 use Rattle.ra_io.specs.Faults.{Rose}
@@ -16,7 +16,7 @@ ListAccepted held name i =
     (bytes : List ℕ) × (held name ≡ Some bytes) × (assign_refusal bytes i ≡ None)
 
 -- the model, the closed list and the lists of a job are told and accepted: the model file is a model, the closed list
--- is one, if it is named, and the lists that are named are assignments
+-- is valid if one is named, and the lists that are named are assignments
 pub record AreAccepted (held : Held) (names : Names) : Type 0 where
   pub model : (bytes : List ℕ) × (held names.model ≡ Some bytes) × (model_refusal bytes ≡ None)
   pub closed : (name : List ℕ) → names.closed ≡ Some name → (i : Tables)
@@ -27,7 +27,7 @@ pub record AreAccepted (held : Held) (names : Names) : Type 0 where
   pub changed : (name : List ℕ) → names.changed ≡ Some name → (i : Tables)
       → InstanceIs held names.model names.closed i → ListAccepted held name i
 
--- they are accepted, and the lists are feasible
+-- the files are accepted, and the lists are feasible
 pub record AreValid (held : Held) (names : Names) : Type 0 where
   pub accepted : AreAccepted held names
   pub initial : IsSome names.initial → (i : Tables) (a0 a : List Machine)

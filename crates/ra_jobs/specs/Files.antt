@@ -15,8 +15,8 @@ use Rattle.ra_jobs.specs.declared.refusals.File.TheVariants as file
 use Rattle.ra_jobs.specs.declared.refusals.Role.{Role}
 use Rattle.ra_jobs.specs.declared.refusals.Role.TheVariants as role
 
--- the files of a job by their names; those that a job doesn't have are not there. The list `changed` is the new one of
--- a check, and the current one of edits
+-- the names of the files of a job; a file that the job doesn't have has no name. The list `changed` is the new one of a
+-- check, and the current one of edits
 pub record Names : Type 0 where
   pub model : List ℕ
   pub closed : Option (List ℕ)
@@ -52,7 +52,7 @@ abbrev pub edit_names : List ℕ → List ℕ → List ℕ → List ℕ → Opti
 edit_names model initial current edits closed =
     record (check_names model initial current closed) { edits = Some edits }
 
--- those that are lent
+-- the names of borrowed files
 abbrev pub names_of : JobFiles → Names
 names_of files = record {
   model = files.model.now;
@@ -103,7 +103,7 @@ is_up_to f last = nat_le (rank_of f) (rank_of last)
 abbrev pub EndsAt : Names → File → Type 0
 EndsAt names last = (f : File) → IsNamed names f → is_up_to f last ≡ true
 
--- what the files hold, as far as it is told, by their names
+-- what the files hold, by their names, as far as it is told
 abbrev pub Held : Type 0
 Held = List ℕ → Option (List ℕ)
 
@@ -133,7 +133,7 @@ pub record InstanceIs (held : Held) (name : List ℕ) (closed_name : Option (Lis
 abbrev pub ListIs : Held → List ℕ → Tables → List Machine → Type 0
 ListIs held name i a = IfSome (held name) (λ bytes. IsAssignmentOf bytes i a)
 
--- a file that a job may not have means this assignment, if it has it
+-- a file that a job may lack means this assignment, if the job has it
 abbrev pub NamedListIs : Held → Option (List ℕ) → Tables → List Machine → Type 0
 NamedListIs held None i a = Unit {0}
 NamedListIs held (Some name) i a = ListIs held name i a
@@ -144,7 +144,7 @@ pub record Accepts (held : Held) (names : Names) (i : Tables) (a0 a : List Machi
   pub initial : NamedListIs held names.initial i a0
   pub changed : NamedListIs held names.changed i a
 
--- and both lists are feasible
+-- the files are accepted, and both lists are feasible
 pub record Passes (held : Held) (names : Names) (i : Tables) (a0 a : List Machine) : Type 0 where
   pub accepts : Accepts held names i a0 a
   pub initial : Feasible i a0 a0

@@ -10,7 +10,7 @@ use Rattle.ra_jobs.specs.declared.refusals.Refusal.TheVariants.{Read, Model, Clo
 use Rattle.ra_jobs.specs.declared.refusals.Refusal.TheVariants.{Wrong, Write, Memory}
 use Rattle.ra_jobs.specs.Files.{Names, name_of, file_of}
 
--- a name that is lent: from where is no matter of its line
+-- a borrowed name; its owner doesn't matter for the line
 abbrev pub lent : List ℕ → Bor (List ℕ)
 lent name = record { ref_ptr = (0, 0); now = name }
 

@@ -3,7 +3,8 @@ use Rattle.std.specs.Prelude.{◌≡◌, ◌⊎◌, ℕ, List}
 use Rattle.ra_io.specs.declared.outside.Sink as sink
 use Rattle.ra_io.specs.Outside.{Writing, writing, Took, TookPart, WriteFailed}
 
--- what it took and how often that failed; and that it is as it was, with all that no one is told of it
+-- what the sink took and how often taking failed; and a predicate that says that it is unchanged, including what is not
+-- told of it
 pub record Output : Type 1 where
   pub sink : Writing
   pub same : Type 0

@@ -30,7 +30,8 @@ abbrev pub check_command : List ℕ → List ℕ → List ℕ → Option (List �
 check_command model initial changed closed =
     over (checked (check_names model initial changed closed))
 
--- the bound of an instance; if an initial list is named, that of both, which counts the load of the pinned processes
+-- the bound of an instance; if an initial list is named, the bound of both, which counts the load of the pinned
+-- processes
 abbrev pub BoundIs : Held → Option (List ℕ) → Tables → Bound → Type 0
 BoundIs held None i bound = bound ≡ bound_of i
 BoundIs held (Some name) i bound =
@@ -42,13 +43,13 @@ pub record BoundRead (held : Held) (names : Names) (bound : Bound) : Type 0 wher
   pub instance : InstanceIs held names.model names.closed tables
   pub is : BoundIs held names.initial tables bound
 
--- `bound`: the three lines of it were sent
+-- `bound`: the three lines of the bound were sent
 pub record BoundPrinted (held : Held) (names : Names) (sent : List ℕ → Type 0) : Type 0 where
   pub bound : Bound
   pub read : BoundRead held names bound
   pub text : sent (bound_text bound)
 
--- it asks no list to be feasible
+-- the own part of `bound`, which asks no list to be feasible
 abbrev pub bounded : Names → OverFiles
 bounded names = record {
   names = names;

@@ -24,7 +24,7 @@ use Rattle.ra_jobs.specs.Files.{Held, Faults, Names, name_of, file_of, IsNamed, 
 use Rattle.ra_jobs.specs.Files.{Accepts, Passes}
 
 -- what was done before a file of the job is read: the model, then the closed list, then the initial list, then the new
--- or current one, then the edits; a report is read once the initial list is known to be feasible
+-- or current one, then the edits; a report is read after the initial list is known to be feasible
 abbrev pub ReadBefore : Held → Names → File → Type 0
 ReadBefore held names file.Model = Unit {0}
 ReadBefore held names file.Closed = (i : Tables) × ModelIs held names.model i
@@ -36,24 +36,24 @@ ReadBefore held names file.Report = (i : Tables) × (a0 : List Machine) × Passe
 ReadBefore held names file.Edits =
     (i : Tables) × (a0 : List Machine) × (a : List Machine) × Accepts held names i a0 a
 
--- all before it was read, reading a file of the job failed, and its count of faults rose
+-- all files before it were read, reading the file failed, and its count of faults rose
 pub record ReadFailed (held : Held) (names : Names) (before now : Faults) (f : File) : Type 0 where
   pub earlier : ReadBefore held names f
   pub named : IsNamed names f
   pub rose : Rose (before (name_of names f)) (now (name_of names f))
 
--- the model file is refused as this
+-- the model file is refused with this fault
 pub record ModelRefused (held : Held) (name : List ℕ) (fault : ModelFault) : Type 0 where
   pub in_file : IsInModel fault
   pub refused : IfSome (held name) (λ bytes. model_refusal bytes ≡ Some fault)
 
--- a list is refused as this
+-- a list is refused with this fault
 pub record ListRefused (held : Held) (name : List ℕ) (i : Tables) (fault : AssignFault) : Type 0
   where
     pub in_file : IsInList fault
     pub refused : IfSome (held name) (λ bytes. assign_refusal bytes i ≡ Some fault)
 
--- the closed list is refused as this, for the instance of the model file
+-- the closed list is refused with this fault, for the instance of the model file
 pub record ClosedRefused (held : Held) (model_name : List ℕ) (closed_name : Option (List ℕ))
     (fault : ClosedFault) : Type 0 where
   pub model : Tables
@@ -63,7 +63,8 @@ pub record ClosedRefused (held : Held) (model_name : List ℕ) (closed_name : Op
   pub in_file : IsInClosed fault
   pub refused : IfSome (held name) (λ bytes. closed_refusal bytes model ≡ Some fault)
 
--- the instance was read, and so was the initial list before the new one; then the list of this role is refused as this
+-- the instance was read, and so was the initial list before the new one; then the list of this role is refused with
+-- this fault
 pub record RoleRefused (held : Held) (names : Names) (which : Role) (fault : AssignFault) : Type 0
   where
     pub tables : Tables
@@ -73,7 +74,8 @@ pub record RoleRefused (held : Held) (names : Names) (which : Role) (fault : Ass
     pub named : IsNamed names (file_of which)
     pub refused : ListRefused held (name_of names (file_of which)) tables fault
 
--- the initial list breaks this constraint first; or that list is feasible, and the new one breaks it first
+-- the initial list breaks this constraint first; or the initial list is feasible, and the new one breaks this
+-- constraint first
 abbrev pub Breaks : Tables → List Machine → List Machine → Role → Cause → Type 0
 Breaks i a0 a role.Initial cause = first_broken i a0 a0 ≡ Some cause
 Breaks i a0 a role.Changed cause = Feasible i a0 a0 × (first_broken i a0 a ≡ Some cause)
@@ -88,9 +90,9 @@ pub record RoleBreaks (held : Held) (names : Names) (which : Role) (cause : Caus
   pub accepts : Accepts held names tables a0 a
   pub breaks : Breaks tables a0 a which cause
 
--- the reason of each refusal: what is so of the files of a job, whose counts of faults went from before to now. What is
--- the job's own stands in `own`: the reasons of its refusals beyond those of the model, of the closed list, of the
--- lists and of memory
+-- the reason of each refusal: what holds of the files of a job, whose counts of faults went from `before` to `now`.
+-- `own` has the job's own reasons: those of its refusals other than of the model, of the closed list, of the lists and
+-- of memory
 abbrev pub Reason : Held → Names → Faults → Faults → (Refusal → Type 0) → Refusal → Type 0
 Reason held names before now own (Read f) = ReadFailed held names before now f
 Reason held names before now own (Model fault) = ModelRefused held names.model fault
@@ -99,22 +101,22 @@ Reason held names before now own (Assign which fault) = RoleRefused held names w
 Reason held names before now own Memory = Unit {0}
 Reason held names before now own refusal = own refusal
 
--- the own refusals of a job whose lists have to be feasible, and of which `written` is so if writing its output failed
+-- the own refusals of a job whose lists have to be feasible; `written` holds if writing its output failed
 abbrev pub Judges : Held → Names → Type 0 → Refusal → Type 0
 Judges held names written (Broken which cause) = RoleBreaks held names which cause
 Judges held names written Write = written
 Judges held names written refusal = ⊥
 
--- those of a job that asks no list to be feasible
+-- the own refusals of a job that asks no list to be feasible
 abbrev pub OnlyWrites : Type 0 → Refusal → Type 0
 OnlyWrites written Write = written
 OnlyWrites written refusal = ⊥
 
--- those of what is done before any list is judged: there is none
+-- the own refusals before any list is judged: there are none
 abbrev pub Nothing : Refusal → Type 0
 Nothing refusal = ⊥
 
--- a refusal can be told: it is of a file that is named, and what a reader refused stands in the file
+-- a refusal can be told: its file is named, and the fault that a reader found is in the file
 abbrev pub CanTell : Names → Refusal → Type 0
 CanTell names (Read f) = IsNamed names f
 CanTell names (Model fault) = IsInModel fault

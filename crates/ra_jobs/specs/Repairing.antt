@@ -21,7 +21,7 @@ use Rattle.ra_jobs.specs.Files.{Held, Faults, Names, Accepts, solve_names}
 use Rattle.ra_jobs.specs.Stages.{WriteReason}
 
 -- the run of tries from a list: its last list breaks this constraint first, or none, and its text was sent. A list that
--- breaks none is feasible, and before one that breaks some all of the budget was tried
+-- breaks none is feasible; if the last list breaks some, the whole budget was tried
 pub record IsTried (i : Tables) (a0 : List Machine) (lot : Lot) (broken : Option Cause)
     (sent : List ℕ → Type 0) : Type 0 where
   pub is : first_broken i a0 (repair_run i a0 lot).assignment ≡ broken
@@ -29,7 +29,7 @@ pub record IsTried (i : Tables) (a0 : List Machine) (lot : Lot) (broken : Option
   pub tried : broken ≢ None → length (repair_run i a0 lot).tries ≡ lot.budget
   pub text : sent (repair_lines broken (repair_run i a0 lot).assignment (repair_run i a0 lot).tries)
 
--- the files are accepted, and so it is with the run of the one lot from the initial list
+-- the files are accepted, and the run of the one lot from the initial list is as `IsTried` says
 pub record RepairPrinted (held : Held) (names : Names) (l : Lots) (broken : Option Cause)
     (sent : List ℕ → Type 0) : Type 0 where
   pub tables : Tables
@@ -54,8 +54,9 @@ LeavesBroken i a0 l broken =
     (lot : Lot) → l.lots.items ≡ lot ∷ []
     → first_broken i a0 (repair_run i a0 lot).assignment ≡ broken
 
--- of the lots that were asked for: when each of its own statuses comes. No list has to be feasible. Any instance that
--- the files mean will do: by `told_files_mean_one` and `alike_run_alike` of `ra_laws` the run is the same from each
+-- for the lots that were asked for: when each of its own statuses comes. No list has to be feasible. It holds for any
+-- instance that the files mean: by `told_files_mean_one` and `alike_run_alike` of `ra_laws` the run is the same from
+-- each
 pub record RepairComes (held : Held) (names : Names) (asked : Lots → Type 0) (before now : Faults)
     (status : Status) : Type 0 where
   pub never_infeasible : status ≢ Infeasible
@@ -69,7 +70,7 @@ pub record RepairComes (held : Held) (names : Names) (asked : Lots → Type 0) (
       → KnownTo held names before now file.Initial → ((l : Lots) → asked l → LeavesBroken i a0 l None)
       → (status ≡ Done) ⊎ ((status ≡ WriteFault) ⊎ (status ≡ NoMemory))
 
--- of the lots that were asked for: over accepted files its tries are told
+-- the own part of `repair` for the lots that were asked for: over accepted files its tries are told
 abbrev pub repaired : Names → (Lots → Type 0) → OverFiles
 repaired names asked = record {
   names = names;

@@ -32,19 +32,19 @@ IsClosing held name model i = CloseIs held (Some name) model i
 abbrev pub IsList : Held → List ℕ → Tables → List Machine → Type 0
 IsList held name i a = ListIs held name i a × IsAssignment i a
 
--- a refusal of the model reader, as one of a job
+-- a refusal of the model reader, as a refusal of a job
 abbrev pub model_as : ModelFault → Refusal
 model_as reader.ReadFault = Read file.Model
 model_as reader.NoMemory = Memory
 model_as fault = Model fault
 
--- a refusal of the reader of closed lists, as one of a job
+-- a refusal of the reader of closed lists, as a refusal of a job
 abbrev pub closed_as : ClosedFault → Refusal
 closed_as closer.ReadFault = Read file.Closed
 closed_as closer.NoMemory = Memory
 closed_as fault = Closed fault
 
--- the closed list
+-- why the closed list is refused
 abbrev pub ClosedReason : Held → List ℕ → Tables → Faults → Faults → Refusal → Type 0
 ClosedReason held name i before now (Read file.Closed) = Rose (before name) (now name)
 ClosedReason held name i before now (Closed fault) =
@@ -52,18 +52,18 @@ ClosedReason held name i before now (Closed fault) =
 ClosedReason held name i before now Memory = Unit {0}
 ClosedReason held name i before now refusal = ⊥
 
--- the model file, and the closed list if it is named: as a job that has no other files
+-- why the model file is refused, or the closed list if it is named: as for a job that has no other files
 abbrev pub SourceReason : Held → List ℕ → Option (List ℕ) → Faults → Faults → Refusal → Type 0
 SourceReason held model closed before now =
     Reason held (bound_names model None closed) before now Nothing
 
--- a refusal of the reader of lists, as one of a job
+-- a refusal of the reader of lists, as a refusal of a job
 abbrev pub list_as : Role → AssignFault → Refusal
 list_as which assigner.ReadFault = Read (file_of which)
 list_as which assigner.NoMemory = Memory
 list_as which fault = Assign which fault
 
--- one of the two lists
+-- why one of the two lists is refused
 abbrev pub ListReason : Role → Held → List ℕ → Tables → Faults → Faults → Refusal → Type 0
 ListReason which held name i before now (Read f) = (f ≡ file_of which) × Rose (before name) (now name)
 ListReason which held name i before now (Assign one fault) =
@@ -71,24 +71,24 @@ ListReason which held name i before now (Assign one fault) =
 ListReason which held name i before now Memory = Unit {0}
 ListReason which held name i before now refusal = ⊥
 
--- the initial list, if one is named
+-- why the initial list is refused, if one is named
 abbrev pub NamedReason : Held → Names → Tables → Faults → Faults → Refusal → Type 0
 NamedReason held names i before now refusal =
     IsNamed names file.Initial
     × ListReason role.Initial held (name_of names file.Initial) i before now refusal
 
--- writing failed, and then `written` is so; or memory was refused
+-- writing failed, and then `written` holds; or memory was refused
 abbrev pub WriteReason : Type 0 → Refusal → Type 0
 WriteReason written Write = written
 WriteReason written Memory = Unit {0}
 WriteReason written refusal = ⊥
 
--- the two lists, in turn; `written` is so if writing what was made of them failed
+-- why one of the two lists is refused, in turn; `written` holds if writing the result failed
 abbrev pub JudgeReason : Tables → List Machine → List Machine → Type 0 → Refusal → Type 0
 JudgeReason i a0 a written (Broken which cause) = Breaks i a0 a which cause
 JudgeReason i a0 a written refusal = WriteReason written refusal
 
--- the initial list alone
+-- why the initial list alone is refused
 abbrev pub StartReason : Tables → List Machine → Type 0 → Refusal → Type 0
 StartReason i a0 written (Broken role.Initial cause) = Breaks i a0 a0 role.Initial cause
 StartReason i a0 written (Broken role.Changed cause) = ⊥

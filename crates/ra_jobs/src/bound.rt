@@ -25,9 +25,9 @@ use ra_pins::Pins;
 use ra_report::write_bound;
 use std::alloc::Global;
 
-/// Prints the lower bound of a model, or with an initial list that of both, which counts the load of the
-/// processes that are pinned, or puts one line that says why not. The initial list needn't be
-/// feasible. It returns, and waits for nobody.
+/// Prints the lower bound of a model, or, with an initial list, the bound of both, which counts the load of the pinned
+/// processes. If it can't, it puts one line that says why. The initial list needn't be feasible. It returns, and waits
+/// for nobody.
 pub fn bound_run<'n, F: Files, O: Sink, E: Sink>(
     alloc: Global,
     model: &'n Name,
@@ -131,8 +131,8 @@ fn bound_with<F: Files>(
     Ok(bound_from(alloc, inst, &a0)?)
 }
 
-/// The bound of an instance and a start, which counts the load of the pinned processes. The pins are made for it, and let
-/// go again.
+/// The bound of an instance and a start, which counts the load of the pinned processes. It makes the pins and frees
+/// them.
 pub fn bound_from(alloc: Global, inst: &Instance, initial: &Assignment) -> Result<Bound, NoMemory>
     requires fits { IsAssignment inst.now.tables initial.now.items }
     ensures { IfOk result (λ b. b ≡ pinned_bound_of inst.now.tables initial.now.items) }

@@ -21,8 +21,8 @@ use ra_io::{Files, Sink};
 use ra_report::write_parts;
 use std::alloc::Global;
 
-/// Checks the list `changed` against the list `initial` of a model: prints the parts of its cost,
-/// or puts one line that says why not. It returns, and waits for nobody.
+/// Checks the list `changed` against the list `initial` of a model and prints the parts of its cost. If it can't, it
+/// puts one line that says why. It returns, and waits for nobody.
 pub fn check_run<'n, F: Files, O: Sink, E: Sink>(
     alloc: Global,
     model: &'n Name,

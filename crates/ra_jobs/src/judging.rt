@@ -12,7 +12,7 @@ use ra_model::Instance;
 use std::alloc::Global;
 
 /// The parts of the cost of the new list, if both lists are feasible. Else the refusal names the list that breaks a
-/// constraint, the initial one first, and what it breaks; or memory was refused.
+/// constraint, the initial one first, and what it breaks; or the system refused memory.
 pub fn judge(
     alloc: Global,
     inst: &Instance,

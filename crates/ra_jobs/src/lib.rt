@@ -1,6 +1,7 @@
-//! The jobs that need neither solver nor edits: `check_run`, `bound_run` and `repair_run`, over files and sinks that are
-//! handed in; and what every job stands on: its files and what they mean, its refusals, and how it ends. It stands beside
-//! the crates of a run of workers; `ra_run` stands on both. The job `edit` stands in `ra_edit_job`.
+//! The jobs that need neither solver nor edits: `check_run`, `bound_run` and `repair_run`, over files and sinks that
+//! the caller gives; and what every job uses: its files and what they mean, its refusals, and how it ends. The crates
+//! of a run of workers don't depend on this crate, nor it on them; `ra_run` uses both. The job `edit` is in
+//! `ra_edit_job`.
 #![tactic(auto)]
 
 mod bound;

@@ -33,7 +33,7 @@ pub(crate) fn read_list<F: Files>(
     }
 }
 
-/// A refusal of the reader of lists, as one of a job.
+/// A refusal of the reader of lists, as a refusal of a job.
 fn list_refused(role: Role, fault: AssignFault) -> Refusal
     ensures { result ≡ list_as role fault }
 {
@@ -51,8 +51,8 @@ pub struct Lists {
     pub changed: Assignment,
 }
 
-/// The initial list and the new one, each of which fits the instance. Else the first of the two that could not be read, or
-/// that is no assignment for the instance, is refused; or memory was.
+/// The initial list and the new one, each of which fits the instance. Else the refusal names the first of the two that
+/// could not be read, or that is not an assignment for the instance; or the system refused memory.
 pub fn read_lists<F: Files>(
     alloc: Global,
     files: &mut F,

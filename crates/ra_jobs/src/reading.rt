@@ -12,8 +12,9 @@ use ra_model::Instance;
 use ra_model_read::read_model;
 use std::alloc::Global;
 
-/// The instance of the model file, with the machines of the closed list closed, if one is named. Else the first of the
-/// two files that could not be read, or that is no model or no closed list for it, is refused; or memory was.
+/// The instance of the model file, with the machines of the closed list closed, if one is named. Else the refusal names
+/// the first of the two files that could not be read, or that is not a model or not a closed list for it; or the system
+/// refused memory.
 pub fn read_instance<F: Files>(
     alloc: Global,
     files: &mut F,

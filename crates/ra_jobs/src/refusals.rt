@@ -20,8 +20,8 @@ pub enum File {
     Edits,
 }
 
-/// One of the two lists of a job: the initial one, from which processes move, or the one that is judged, which is the new one
-/// of a check and the current one of edits.
+/// One of the two lists of a job: the initial one, from which processes move, or the one that is judged, which is the
+/// new list of a check and the current list of edits.
 #[derive(Clone, Copy)]
 pub enum Role {
     Initial,
@@ -40,28 +40,28 @@ impl Role {
     }
 }
 
-/// Why a job was not done, in the order in which it is found, that of the initial list first.
+/// Why a job was not done, in the order in which the causes are found. A cause in the initial list comes first.
 #[derive(Clone, Copy)]
 pub enum Refusal {
     /// Reading a file failed.
     Read(File),
-    /// The model file is no model.
+    /// The model file is not a model.
     Model(ModelFault),
-    /// The closed list is none for the model.
+    /// The closed list is not one for the model.
     Closed(ClosedFault),
-    /// This list is no assignment for the model.
+    /// This list is not an assignment for the model.
     Assign(Role, AssignFault),
-    /// The edits file has none for the model.
+    /// The edits file has no edits for the model.
     Edits(EditsFault),
     /// This list breaks a constraint.
     Broken(Role, Cause),
-    /// This line of the report is told to be wrong.
+    /// This line of the report is wrong.
     Wrong(u64),
     /// The last list of a repair breaks a constraint.
     Unrepaired(Cause),
     /// Writing the output failed.
     Write,
-    /// Memory was refused.
+    /// The system refused memory.
     Memory,
 }
 
@@ -117,7 +117,7 @@ impl From<ClosedFault> for Refusal {
     }
 }
 
-/// The names of a job's files, lent from it. Those that it doesn't have are not there.
+/// The names of a job's files, borrowed from the job. A file that the job doesn't have has no name here.
 #[derive(Clone, Copy)]
 pub struct JobFiles<'n> {
     pub model: &'n Name,

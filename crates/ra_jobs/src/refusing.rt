@@ -19,8 +19,7 @@ use ra_report::{Fault, write_fault};
 use std::io;
 use std::io::ErrorKind;
 
-/// How a job ends: it is done, or its refusal is told, with its status, which a failing put doesn't
-/// change.
+/// How a job ends: it is done, or its refusal is told. The status is that of the refusal, even if a put fails.
 pub fn finish<E: Sink>(err: &mut E, names: &JobFiles<'_>, ended: Result<(), Refusal>) -> Status
     requires { IfErr ended (CanTell (names_of names.now)) }
     ensures { Finishes (names_of names.now) ended (output E.Sink err.old err.new) result }
@@ -135,7 +134,7 @@ pub fn refuse_memory<E: Sink>(err: &mut E) -> Status
     Status::NoMemory
 }
 
-/// Refuses a command line that was not read: for want of memory, or since a word is no text.
+/// Refuses a command line that could not be read: the system refused memory, or a word is not a text.
 pub fn refuse_unread<E: Sink>(err: &mut E, error: &io::Error) -> Status
     ensures status { (result ≡ Status.NoMemory) ⊎ (result ≡ Status.Usage) }
     ensures memory { (result ≡ Status.NoMemory) ↔ (error_kind error.now ≡ ErrorKind.OutOfMemory) }

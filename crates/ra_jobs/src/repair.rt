@@ -26,8 +26,9 @@ use ra_report::write_repair;
 use ra_topology::Topology;
 use std::alloc::Global;
 
-/// Looks for a list that meets all constraints from the list `initial` of a model, which may break some, by the tries of
-/// one lot: prints its last list and each try, or puts one line that says why not. It returns, and waits for nobody.
+/// Looks for a list that meets all constraints from the list `initial` of a model, which may break some, by the tries
+/// of one lot. It prints its last list and each try. If it can't, it puts one line that says why. It returns, and waits
+/// for nobody.
 pub fn repair_run<'n, F: Files, O: Sink, E: Sink>(
     alloc: Global,
     model: &'n Name,

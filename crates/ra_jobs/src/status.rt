@@ -4,29 +4,29 @@ ghost use Rattle.ra_jobs.specs.Statuses.{number_of};
 /// How a job ended.
 #[derive(Clone, Copy, Debug, PartialEq, Eq)]
 pub enum Status {
-    /// The output was taken whole.
+    /// The output was written whole.
     Done,
-    /// The words are no job.
+    /// The words are not a job.
     Usage,
     /// Reading a file failed.
     ReadFault,
-    /// The model file is no model.
+    /// The model file is not a model.
     BadModel,
-    /// A file is no assignment for the model.
+    /// A file is not an assignment for the model.
     BadAssignment,
     /// A list breaks a constraint.
     Infeasible,
     /// Writing the output failed.
     WriteFault,
-    /// Memory was refused.
+    /// The system refused memory.
     NoMemory,
-    /// The closed list is none for the model.
+    /// The closed list is not one for the model.
     BadClosed,
-    /// A line of a report is told to be wrong.
+    /// A line of a report is wrong.
     Wrong,
     /// The last list of a repair breaks a constraint.
     Unrepaired,
-    /// The edits file has none for the model.
+    /// The edits file has no edits for the model.
     BadEdits,
 }
 

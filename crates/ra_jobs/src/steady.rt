@@ -13,8 +13,8 @@ use ra_base::Name;
 use ra_io::{CountSink, Files, Sink, SteadyFiles};
 use std::alloc::Global;
 
-/// Checks as `check_run`, over files and sinks that never fail: it answers no fault, and over valid files the check is done
-/// unless memory is refused. It is for callers who hold all files in memory and want the answer alone.
+/// Checks as `check_run` does, over files and sinks that never fail: it answers no fault, and over valid files the
+/// check is done unless memory is refused. It is for callers who have all files in memory and want only the answer.
 pub fn check_steady<'n>(
     alloc: Global,
     model: &'n Name,

@@ -50,7 +50,7 @@ stamped : (touched : Bool) (n before : ℕ) → before ≤ n → max before (con
 stamped true n before few = omega arith
 stamped false n before few = omega arith
 
--- the guards that the entry touches get the version behind it, and the others keep theirs
+-- the guards that the entry touches get the version after it, and the others keep theirs
 pub version_added : (i : Tables) (h : List Entry) (e : Entry) (g : Guard) →
     version i (made_in (h ++ e ∷ [])) (suc (length h)) g ≡ cond (touches i (made_by e) g) (suc (length h))
     (version i (made_in h) (length h) g)

@@ -208,7 +208,7 @@ next_entry_is i a0 l h w plan verdict commit judged =
     ∙ ap (λ k. judge (situation i a0 (state a0 h (length h))) (next_move i a0 l h w plan.q).steps (allowed l w k))
     commit.number)
 
--- it may stand at the end
+-- it may come at the end
 pub next_is_legal : (i : Tables) (a0 : List Machine) (l : Lots) (h : List Entry) (w : ℕ) (plan : Plan) (e : Entry) →
     IsCommit i a0 l h w plan → IsPlannedAtEnd i a0 l h plan → e.worker ≡ w → e.k ≡ plan.k → e.q ≡ plan.q →
     e.mv ≡ plan.mv → e.verdict ≡ judge (situation i a0 (state a0 h (length h))) plan.mv.steps (allowed l w plan.k) →

@@ -1,4 +1,4 @@
--- What is known of write guards that a worker holds.
+-- What holds of write guards that a worker has locked.
 use Rattle.std.proofs.Common.{List, Option, Some, None, IfSome}
 use Rattle.ra_base.specs.declared.ids.Guard.{Guard}
 use Rattle.ra_moves.specs.declared.verdicts.Plan.{Plan}

@@ -1,4 +1,4 @@
--- A journal as the list of what its entries make: it has the same states, and its moves stand there too.
+-- A journal as the list of what its entries make: it has the same states, and its moves are moves of these.
 use Rattle.std.proofs.Common.{◌≡◌, ℕ, zero, suc, List, sym, refl, ap₂, ◌∙◌, subst}
 use Rattle.ra_base.specs.declared.ids.Machine.{Machine}
 use Rattle.ra_model.specs.declared.raw.Tables.{Tables}

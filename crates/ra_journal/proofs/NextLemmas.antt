@@ -1,4 +1,4 @@
--- A legal next entry keeps a journal legal, since what an entry must meet is told by the entries before it.
+-- A legal next entry keeps a journal legal, since the entries before it determine what it must meet.
 use Rattle.std.proofs.Common.{◌≡◌, ℕ, ◌<◌, ◌≤◌, List, ◌++◌, ◌∷◌, [], length, sym, ap, ◌∙◌, subst, ⊎_elim, arith}
 use Rattle.std.proofs.lemmas.List.{length_push}
 use Rattle.std.proofs.lemmas.Bool.{cases_lt}
@@ -15,7 +15,7 @@ use Rattle.ra_journal.specs.Laws.{NextKeepsLegal}
 use Rattle.ra_journal.proofs.Places.{SameBelow, same_fewer, same_added, same_state, same_entries_of, same_version}
 use Rattle.ra_journal.proofs.Places.{entry_before, entry_added}
 
--- what may stand at place j after the entries of one journal may stand there after those of another
+-- an entry that may be at place j after the entries of one journal may be there after those of another
 pub carried : (i : Tables) (a0 : List Machine) (l : Lots) (h g : List Entry) (j : ℕ) (e : Entry) → SameBelow j h g →
     IsLegalAt i a0 l h j e → IsLegalAt i a0 l g j e
 carried i a0 l h g j e same legal = record {

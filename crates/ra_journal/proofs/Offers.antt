@@ -1,4 +1,4 @@
--- What is planned at an assignment is offered there, and stays offered if its guards keep their residents.
+-- What is planned at an assignment can be weighed there, and can still be weighed if its guards keep their residents.
 use Rattle.std.proofs.Common.{◌≡◌, ℕ, ◌<◌, ◌≤◌, true, List, length, sym, refl, ◌∙◌, arith, eq-eqb}
 use Rattle.std.proofs.lemmas.Bool.{or_left, eqb-true}
 use Rattle.ra_base.specs.declared.causes.Drawing.{Drawing}
@@ -61,7 +61,7 @@ pub left_is_end : (steps : List Step) (j : ℕ) → j < length steps → ends_at
 unfolding ends_at
 left_is_end steps j within = or_left _ _ (is_named_at (length steps) j (from_in steps) (from_in steps j) within refl)
 
--- its processes stay where they stand
+-- its processes stay where they are
 stays_there : (i : Tables) (a b : List Machine) (steps : List Step) (j : ℕ) → HeldAlike i steps a b → j < length steps →
     machine_at a (process_in steps j) ≡ from_in steps j → machine_at b (process_in steps j) ≡ from_in steps j
 stays_there i a b steps j alike within there =

@@ -56,7 +56,7 @@ same_kept i a0 zero h g same = refl
 same_kept i a0 (suc n) h g same = ap₂ cost_then (same_kept i a0 n h g (same_fewer n (suc n) h g (omega arith) same))
     (ap (λ (e : Entry). e.verdict) (same.each n (omega arith)))
 
--- the same number of entries of each worker
+-- they have as many entries of each worker
 pub same_entries_of : (n w : ℕ) (h g : List Entry) → SameBelow n h g → entries_of h n w ≡ entries_of g n w
 unfolding entries_of
 same_entries_of n w h g same = count_same n (λ j. eqb (entry_at h j).worker w) (λ j. eqb (entry_at g j).worker w)

@@ -26,7 +26,7 @@ use Rattle.ra_journal.proofs.Places.{SameBelow, same_fewer, same_added, same_sta
 pub record IsAlone (i : Tables) (a0 : List Machine) (l : Lots) (h : List Entry) (n : ℕ) : Type 0 where
   pub each : (j : ℕ) → j < n → entry_at h j ≡ solo_entry i a0 l h j
 
--- such an entry is told by the state at its place
+-- the state at its place determines such an entry
 same_solo : (i : Tables) (a0 : List Machine) (l : Lots) (h g : List Entry) (k : ℕ) → SameBelow k h g →
     solo_entry i a0 l h k ≡ solo_entry i a0 l g k
 unfolding solo_entry
@@ -159,7 +159,7 @@ same_entry d e worker k q mv verdict =
     ∙ ap (λ m. entry e.worker e.k e.q m d.verdict) mv
     ∙ ap (entry e.worker e.k e.q e.mv) verdict
 
--- a legal entry of worker 0 behind entries of worker 0 alone
+-- a legal entry of worker 0 after entries of worker 0 alone
 legal_solo : (i : Tables) (a0 : List Machine) (l : Lots) (h : List Entry) (j : ℕ) (e : Entry) → IsOneWorkers h j →
     e.worker ≡ 0 → IsLegalAt i a0 l h j e → e ≡ solo_entry i a0 l h j
 unfolding solo_entry

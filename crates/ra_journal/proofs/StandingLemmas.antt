@@ -1,5 +1,5 @@
--- In a legal journal each move that is made stands where it is made, and each entry was offered, where it was planned
--- and at its own place.
+-- In a legal journal each move is a move of the state where it is made, and each entry can be weighed, where it was
+-- planned and at its own place.
 use Rattle.std.proofs.Common.{◌≡◌, ℕ, zero, suc, ◌<◌, ◌≤◌, List, length, Option, Some, None, sym, refl, ◌∙◌, subst}
 use Rattle.std.proofs.Common.{⊎_elim, arith}
 use Rattle.std.proofs.lemmas.Bool.{cases_lt}
@@ -69,14 +69,14 @@ guards_keep i a0 h q n steps few moves untouched =
     subst (λ a. HeldAlike i steps a (state a0 h n)) (sym (state_is_made a0 h q))
     (subst (HeldAlike i steps (made_state a0 (made_in h) q)) (sym (state_is_made a0 h n)) alike)
 
--- so what was offered at q is offered at n
+-- so what can be weighed at q can be weighed at n
 pub offered_later : (i : Tables) (a0 : List Machine) (h : List Entry) (q n : ℕ) (steps : List Step) → q ≤ n →
     MakesMoves i a0 h n → Untouched i (made_in h) q n steps → IsAssignment i (state a0 h n) →
     IsOffered i (state a0 h q) steps → IsOffered i (state a0 h n) steps
 offered_later i a0 h q n steps few moves untouched fits offered =
     offered_alike i (state a0 h q) (state a0 h n) steps (guards_keep i a0 h q n steps few moves untouched) fits offered
 
--- all states up to place n are assignments, and what is made before it stands there
+-- all states up to place n are assignments, and what is made before it are moves of them
 record AreStanding (i : Tables) (a0 : List Machine) (h : List Entry) (n : ℕ) : Type 0 where
   fits : (j : ℕ) → j ≤ n → IsAssignment i (state a0 h j)
   moves : MakesMoves i a0 h n

@@ -1,4 +1,4 @@
--- The entries of a journal from a place on, as they are handed out.
+-- The entries of a journal from a place on, as a batch gets them.
 use Rattle.std.specs.Prelude.{ℕ, List, take, drop}
 use Rattle.ra_journal.specs.declared.entries.Entry.{Entry}
 

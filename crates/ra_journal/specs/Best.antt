@@ -10,6 +10,6 @@ use Rattle.ra_journal.specs.States.{cost_at}
 unfoldable pub best_place : Tables → List Machine → List Entry → ℕ → ℕ
 best_place i a0 h n = least_place (suc n) (λ j. Some (cost_at i a0 h j))
 
--- of the whole journal
+-- the place of the best state of the whole journal
 unfoldable pub best_of : Tables → List Machine → List Entry → ℕ
 best_of i a0 h = best_place i a0 h (length h)

@@ -22,17 +22,17 @@ use Rattle.ra_journal.specs.declared.replies.Reply.TheVariants.{Recorded, Stale}
 use Rattle.ra_journal.specs.Entries.{entry_at, made_in, entries_of, worker_count, budget, words, allowed}
 use Rattle.ra_journal.specs.States.{state}
 
--- worker w's next proposal: how many entries it has
+-- the number of worker w's next proposal, which is how many entries it has
 unfoldable pub next_number : List Entry → ℕ → ℕ
 next_number h w = entries_of h (length h) w
 
--- its move, planned at the state of place q
+-- the move of worker w's next proposal, planned at the state of place q
 unfoldable pub next_move : Tables → List Machine → Lots → List Entry → ℕ → ℕ → MoveSteps
 next_move i a0 l h w q =
     let k = next_number h w in
     plan_of (situation i a0 (state a0 h q)) (words l w k) l.drawing (allowed l w k)
 
--- its entry, judged at the end of the journal
+-- the entry of worker w's next proposal, judged at the end of the journal
 unfoldable pub next_entry : Tables → List Machine → Lots → List Entry → ℕ → ℕ → Entry
 next_entry i a0 l h w q =
     let k = next_number h w in
@@ -65,8 +65,8 @@ unfoldable pub committed : Tables → List Machine → Lots → List Entry → �
 committed i a0 l h w q =
     committed_by (newer_since i h q (next_move i a0 l h w q).steps) h (next_entry i a0 l h w q)
 
--- worker w may hand in this plan: it exists and has some of its budget left, the plan is of its next proposal, was made
--- at a place of the journal behind all its entries, and is the plan with its weighing at the state there
+-- worker w may hand in this plan: the worker exists and has some of its budget left; the plan is of its next proposal,
+-- was made at a place after all its entries, and is the plan with its weighing at the state there
 pub record IsCommit (i : Tables) (a0 : List Machine) (l : Lots) (h : List Entry) (w : ℕ)
     (plan : Plan) : Type 0 where
   pub worker : w < worker_count l

@@ -10,7 +10,7 @@ use Rattle.ra_moves.specs.declared.verdicts.Verdict.{Verdict}
 use Rattle.ra_moves.specs.declared.verdicts.Verdict.TheVariants.{Done, Refused}
 use Rattle.ra_journal.specs.declared.entries.Entry.{Entry}
 
--- the entry at place j; past the end there is a refused one without steps, which nothing looks at
+-- the entry at place j; past the end a refused one without steps, which nothing reads
 unfoldable pub entry_at : List Entry → ℕ → Entry
 entry_at h j =
     slice_index_or h j
@@ -22,12 +22,12 @@ entry_at h j =
       verdict = Refused (Repeat (record { 0 = 0 }));
     })
 
--- the steps that a verdict makes of a move: all if it is done, and none if it is refused
+-- the steps that a move makes under a verdict: all if it is done, and none if it is refused
 unfoldable pub steps_made : Verdict → List Step → Option (List Step)
 steps_made (Done cost) steps = Some steps
 steps_made (Refused cause) steps = None
 
--- what an entry makes
+-- the steps that an entry makes
 unfoldable pub made_by : Entry → Option (List Step)
 made_by e = steps_made e.verdict e.mv.steps
 
@@ -50,7 +50,7 @@ budget l w = budget_of l.lots.items w
 unfoldable pub proposal_count : Lots → ℕ
 proposal_count l = total (worker_count l) (budget l)
 
--- the words of proposal k of worker w, and the rise of cost that it is allowed
+-- the words of proposal k of worker w, and by how much it may raise the cost
 unfoldable pub words : Lots → ℕ → ℕ → List ℕ
 words l w k = words_of l.lots.items w k
 

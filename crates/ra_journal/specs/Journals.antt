@@ -1,4 +1,5 @@
--- What a journal shows: its instance, its initial assignment, its lots and its entries, and what it answers a worker.
+-- What a contract sees of a journal: its instance, its initial assignment, its lots and its entries, and how it answers
+-- a worker.
 use Rattle.std.specs.Prelude.{◌≡◌, ℕ, List, [], Option, Some}
 use Rattle.ra_base.specs.Listed.{Listed}
 use Rattle.ra_base.specs.declared.ids.Guard.{Guard}
@@ -52,12 +53,12 @@ MayHandIn j w plan = IsCommit (tables_in j) (start_in j) (lots_in j) (entries_in
 abbrev pub newer_in : Journal → Plan → Option Newer
 newer_in j plan = newer_since (tables_in j) (entries_in j) plan.q plan.mv.steps
 
--- these are the write guards of a plan's move, and none of them was touched since
+-- these are the write guards of a plan's move, and none of them was touched since it was planned
 pub record HasHeld (j : Journal) (plan : Plan) (guards : List Guard) : Type 0 where
   pub listed : AreWrites (tables_in j) plan.mv.steps guards
   pub known : AreHeld (tables_in j) (entries_in j) plan.q plan.mv.steps
 
--- what the journal becomes and answers, if worker w hands in its plan
+-- what the journal becomes and what it answers if worker w hands in its plan
 abbrev pub answer_to : Journal → ℕ → Plan → Committed
 answer_to j w plan = committed (tables_in j) (start_in j) (lots_in j) (entries_in j) w plan.q
 
@@ -70,8 +71,8 @@ pub record IsOpened (inst : Instance) (topo : TopologyLists) (a0 : Listed Machin
   pub lots : lots_in j ≡ l
   pub entries : entries_in j ≡ []
 
--- a journal has answered worker w, which handed in a plan: it is over what it was over, and if a guard of the plan's
--- move is newer nothing of it changed
+-- the journal has answered worker w, which handed in a plan: the instance, the start and the lots are as before, and if
+-- a guard of the plan's move is newer nothing changed
 pub record Answers (old new : Journal) (w : ℕ) (plan : Plan) (said : Reply) : Type 0 where
   pub journal : entries_in new ≡ (answer_to old w plan).journal
   pub reply : said ≡ (answer_to old w plan).reply

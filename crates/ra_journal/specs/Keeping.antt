@@ -1,4 +1,4 @@
--- What a journal keeps beside its entries, and that it is what the definitions give.
+-- What a journal keeps in addition to its entries, and that it is what the definitions give.
 use Rattle.std.specs.Prelude.{◌≡◌, ℕ, ◌<◌, List, length, None, slice_index}
 use Rattle.ra_base.specs.declared.ids.Machine.{Machine}
 use Rattle.ra_draws.specs.declared.budgets.Lots.{Lots}
@@ -22,12 +22,12 @@ pub record IsStart (i : Tables) (a0 : List Machine) : Type 0 where
   pub fits : IsAssignment i a0
   pub unbroken : first_broken i a0 a0 ≡ None
 
--- the first places of a list have how many entries each worker has made
+-- a list says, in its first places, how many entries each worker has made
 pub record AreMadeBy (l : Lots) (h : List Entry) (made : List ℕ) : Type 0 where
   pub long : length made ≡ 16
   pub each : (w : ℕ) → w < worker_count l → slice_index made w ≡ entries_of h (length h) w
 
--- a book: its entries are a legal journal with room for all proposals, and all that it keeps is that journal's
+-- a book: its entries are a legal journal with room for all proposals, and all that it keeps is right for that journal
 pub record IsKept (i : Tables) (a0 : List Machine) (l : Lots) (book : Book) : Type 0 where
   pub legal : Legal i a0 l book.entries.items
   pub room : book.entries.room ≡ proposal_count l

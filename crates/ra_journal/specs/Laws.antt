@@ -15,7 +15,7 @@ use Rattle.ra_journal.specs.States.{state, kept_cost, cost_at}
 use Rattle.ra_journal.specs.Legal.{IsLegalAt, Legal, Whole}
 use Rattle.ra_journal.specs.Solo.{solo}
 
--- what is known of the state at place j
+-- what holds of the state at place j
 pub record IsSound (i : Tables) (a0 : List Machine) (h : List Entry) (j : ℕ) : Type 0 where
   pub assignment : IsAssignment i (state a0 h j)
   pub feasible : Feasible i a0 (state a0 h j)
@@ -27,24 +27,24 @@ LegalIsSound =
     (i : Tables) (a0 : List Machine) (l : Lots) (h : List Entry) → WellFormed i → IsAssignment i a0
     → Feasible i a0 a0 → Legal i a0 l h → (j : ℕ) → j ≤ length h → IsSound i a0 h j
 
--- what the first n entries make are moves of the states before them: each process is named once, stands on the machine
--- that its step leaves, and enters a machine of the instance
+-- what the first n entries make are moves of the states before them: each process is named once, is on the machine that
+-- its step leaves, and enters a machine of the instance
 pub record MakesMoves (i : Tables) (a0 : List Machine) (h : List Entry) (n : ℕ) : Type 0 where
   pub each : (j : ℕ) (steps : List Step) → j < n → made_by (entry_at h j) ≡ Some steps
       → IsMove i (state a0 h j) steps
 
--- each move that a legal journal makes stands where it is made
+-- each move that a legal journal makes is a move of the state where it is made
 abbrev pub LegalMakesMoves : Type 0
 LegalMakesMoves =
     (i : Tables) (a0 : List Machine) (l : Lots) (h : List Entry) → WellFormed i → IsAssignment i a0
     → Legal i a0 l h → MakesMoves i a0 h (length h)
 
--- the move of the entry at place j was offered at the state where it was planned, and at that of its own place
+-- the move of the entry at place j can be weighed at the state where it was planned, and at that of its own place
 pub record IsOfferedAt (i : Tables) (a0 : List Machine) (h : List Entry) (j : ℕ) : Type 0 where
   pub planned : IsOffered i (state a0 h (entry_at h j).q) (entry_at h j).mv.steps
   pub here : IsOffered i (state a0 h j) (entry_at h j).mv.steps
 
--- each entry of a legal journal was offered
+-- each entry of a legal journal has a move that can be weighed
 abbrev pub LegalIsOffered : Type 0
 LegalIsOffered =
     (i : Tables) (a0 : List Machine) (l : Lots) (h : List Entry) → WellFormed i → IsAssignment i a0
@@ -57,14 +57,14 @@ NextKeepsLegal =
     → IsLegalAt i a0 l h (length h) e → Legal i a0 l (h ++ e ∷ [])
 
 -- worker w may hand in a proposal that it has planned at place q: it has some of its budget left, and q is a place of
--- the journal behind all its entries
+-- the journal after all its entries
 pub record MayCommit (l : Lots) (h : List Entry) (w q : ℕ) : Type 0 where
   pub worker : w < worker_count l
   pub left : next_number h w < budget l w
   pub place : q ≤ length h
   pub seen : (j : ℕ) → j < length h → (entry_at h j).worker ≡ w → j < q
 
--- what a journal is after an answer is legal
+-- a journal is legal after an answer
 abbrev pub CommittedIsLegal : Type 0
 CommittedIsLegal =
     (i : Tables) (a0 : List Machine) (l : Lots) (h : List Entry) (w q : ℕ) → WellFormed i
@@ -76,7 +76,7 @@ pub record IsSoloRun (i : Tables) (a0 : List Machine) (l : Lots) (h : List Entry
   pub legal : Legal i a0 l h
   pub whole : Whole l h
 
--- with one lot, the run of one worker is legal and whole, and no other journal is
+-- with one lot, the run of one worker is legal and whole, and it is the only such journal
 pub record OneLotIsSolo (i : Tables) (a0 : List Machine) (l : Lots) : Type 0 where
   pub stands : IsSoloRun i a0 l (solo i a0 l)
   pub no_other : (h : List Entry) → IsSoloRun i a0 l h → h ≡ solo i a0 l

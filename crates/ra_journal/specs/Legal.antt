@@ -18,23 +18,24 @@ pub record IsNumbered (l : Lots) (h : List Entry) (j : ℕ) (e : Entry) : Type 0
   pub number : e.k ≡ entries_of h j e.worker
   pub budget : e.k < budget l e.worker
 
--- the proposal was planned at place q, not after its own, and all earlier entries of its worker stand before q
+-- the proposal was planned at place q, which is not after its own place, and all earlier entries of its worker are
+-- before q
 pub record IsPlaced (h : List Entry) (j : ℕ) (e : Entry) : Type 0 where
   pub place : e.q ≤ j
   pub seen : (n : ℕ) → n < j → (entry_at h n).worker ≡ e.worker → n < e.q
 
--- entry e may stand at place j of journal h, after the entries before that place
+-- entry e may be at place j of journal h, after the entries before that place
 pub record IsLegalAt (i : Tables) (a0 : List Machine) (l : Lots) (h : List Entry) (j : ℕ)
     (e : Entry) : Type 0 where
   -- k is the number of earlier entries of its worker
   pub numbered : IsNumbered l h j e
-  -- it was planned at place q, behind all earlier entries of its worker
+  -- it was planned at place q, after all earlier entries of its worker
   pub placed : IsPlaced h j e
   -- its move is the plan at the state of place q, for its words and its allowance
   pub planned :
       e.mv ≡ plan_of (situation i a0 (state a0 h e.q)) (words l e.worker e.k) l.drawing
       (allowed l e.worker e.k)
-  -- no guard of its move was touched from place q on
+  -- no entry from place q on has touched a guard of its move
   pub untouched : Untouched i (made_in h) e.q j e.mv.steps
   -- its verdict is the judge's at the state of its own place
   pub judged : e.verdict ≡ judge (situation i a0 (state a0 h j)) e.mv.steps (allowed l e.worker e.k)
@@ -44,7 +45,7 @@ pub record IsLegal (i : Tables) (a0 : List Machine) (l : Lots) (h : List Entry) 
   where
     pub each : (j : ℕ) → j < n → IsLegalAt i a0 l h j (entry_at h j)
 
--- a legal journal: all its entries are
+-- a journal is legal if all its entries are
 abbrev pub Legal : Tables → List Machine → Lots → List Entry → Type 0
 Legal i a0 l h = IsLegal i a0 l h (length h)
 

@@ -1,4 +1,4 @@
--- How a journal keeps its entries: packed, so that each takes less room than an entry that is handed out.
+-- How a journal keeps its entries: packed, so that each takes fewer bytes than an `Entry`.
 use Rattle.std.specs.Prelude.{◌<◌, ◌^◌, List, [], ◌∷◌, map}
 use Rattle.ra_base.specs.Listed.{Listed}
 use Rattle.ra_base.specs.declared.causes.Cause.TheVariants as cause
@@ -21,7 +21,7 @@ pub record IsSmall (e : Entry) : Type 0 where
   pub place : e.q < 2 ^ 32
   pub steps : AreSmallSteps e.mv.steps
 
--- the verdict that an outcome tells
+-- the verdict that an outcome represents
 unfoldable pub verdict_in : Outcome → Verdict
 verdict_in (outcome.Done cost) = verdict.Done cost
 verdict_in (outcome.Repeat process) = verdict.Refused (cause.Repeat process)
@@ -37,7 +37,7 @@ verdict_in (outcome.Dependency service needs neighbourhood) =
 verdict_in (outcome.Rise allowed before after) = verdict.Refused (cause.Rise allowed before after)
 verdict_in (outcome.Closed process machine) = verdict.Refused (cause.Closed process machine)
 
--- the steps of a move of a kind, the first ones of these three
+-- the steps of a move of a kind: as many of these three as the kind has
 unfoldable pub steps_in : MoveKind → Step → Step → Step → List Step
 steps_in Shift one two three = one ∷ []
 steps_in Swap one two three = one ∷ two ∷ []

@@ -37,7 +37,8 @@ pub record MayRecord (i : Tables) (a0 : List Machine) (l : Lots) (h : List Entry
   pub commit : IsCommit i a0 l h w plan
   pub untouched : newer_since i h plan.q plan.mv.steps ≡ None
 
--- worker w's next proposal, planned at place q, stands at the end of a book that keeps its journal, and is answered
+-- worker w's next proposal, planned at place q, is the last entry of a book that keeps its journal, and the worker is
+-- answered
 pub record HasRecorded (i : Tables) (a0 : List Machine) (l : Lots) (before after : Book) (w q : ℕ)
     (said : Reply) : Type 0 where
   pub kept : IsKept i a0 l after
@@ -48,7 +49,7 @@ pub record HasRecorded (i : Tables) (a0 : List Machine) (l : Lots) (before after
       said ≡
       Recorded (length before.entries.items) (next_entry i a0 l before.entries.items w q).verdict
 
--- an entry stands at the end, its worker has made one more, and all else is as it was
+-- an entry was added at the end, its worker has made one more, and nothing else changed
 pub record IsAdded (before after : Book) (e : Entry) : Type 0 where
   pub entries : after.entries.items ≡ before.entries.items ++ e ∷ []
   pub room : after.entries.room ≡ before.entries.room
@@ -65,15 +66,15 @@ pub record AreChangesOf (moved : MovedCounts) (weighed : Weighed) : Type 0 where
   pub second : IfSome weighed.second (λ c. IsChange moved c)
   pub third : IfSome weighed.third (λ c. IsChange moved c)
 
--- if these steps break nothing in an assignment that has the moved counts, those after the steps are the assignment's
--- after them
+-- if these steps break nothing in an assignment that has the moved counts, the weighing's counts after the steps are
+-- those of the assignment after them
 pub record AreChangedBy (i : Tables) (steps : List Step) (weighed : Weighed)
     (before after : MovedCounts) : Type 0 where
   pub each : (a0 a : List Machine) → IsMove i a steps → broken_by (situation i a0 a) steps ≡ None
       → weighed ≡ weighed_of (situation i a0 a) steps → AreMovedOf (situation i a0 a) before
       → AreMovedOf (situation i a0 (applied a steps)) after
 
--- the guards that are touched have a version, and the others keep theirs
+-- each touched guard has this version, and the others keep theirs
 pub record AreTouched (i : Tables) (made : Option (List Step)) (number : ℕ)
     (before after : VersionTable) : Type 0 where
   pub sized : IsTableOf i after
@@ -95,7 +96,7 @@ pub record IsTakenIn (i : Tables) (steps : List Step) (weighed : Weighed) (verdi
   pub best_at : after.best_at ≡ before.best_at
   pub best_cost : after.best_cost ≡ before.best_cost
 
--- the state after all entries is the best one if it costs less than the best so far
+-- the state after all entries becomes the best one if it costs less than the best so far
 pub record IsBestKept (before after : Book) : Type 0 where
   pub entries : after.entries ≡ before.entries
   pub made : after.made ≡ before.made

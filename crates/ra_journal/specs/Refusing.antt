@@ -1,4 +1,4 @@
--- Plans that are refused wherever they are recorded while their guards are untouched.
+-- Plans that are refused wherever they are recorded, as long as their guards are untouched.
 use Rattle.std.specs.Prelude.{◌≡◌, ◌⊎◌, ℕ, ◌+◌, ◌*◌, ◌≤◌, pos, ◌<ℤ◌, Some, None, IfSome}
 use Rattle.ra_base.specs.declared.causes.Cause.{Cause}
 use Rattle.ra_model.specs.declared.raw.Tables.{Tables}
@@ -12,15 +12,15 @@ pub record FallsBy (weighed : Weighed) (n : ℕ) : Type 0 where
   pub second : IfSome weighed.second (λ c. c.before ≤ c.after + n)
   pub third : IfSome weighed.third (λ c. c.before ≤ c.after + n)
 
--- a move breaks nothing, but adds more than is allowed to the other parts of the cost, and more yet than the service
--- cost can fall by it
+-- a move breaks nothing, but the other parts of the cost rise by more than the allowance and the most by which the
+-- service cost can fall
 pub record IsDear (i : Tables) (rise : ℕ) (weighed : Weighed) : Type 0 where
   pub unbroken : weighed.broken ≡ None
   pub fall : ℕ
   pub falls : FallsBy weighed fall
   pub above : pos (rise + service_weight_of i * fall) <ℤ weighed.local
 
--- a plan that may raise the cost by so much is refused: its move breaks a constraint, or is too dear
+-- a plan that may raise the cost by this much is refused: its move breaks a constraint, or is too dear
 abbrev pub IsRefused : Tables → ℕ → Plan → Type 0
 IsRefused i rise plan =
     ((cause : Cause) × (plan.weighed.broken ≡ Some cause)) ⊎ IsDear i rise plan.weighed

@@ -23,12 +23,12 @@ solo_entry i a0 l h k =
       verdict = judge (situation i a0 a) mv.steps (allowed l 0 k);
     }
 
--- its first n proposals
+-- the entries of its first n proposals
 unfoldable pub solo_entries : Tables → List Machine → Lots → ℕ → List Entry
 solo_entries i a0 l zero = []
 solo_entries i a0 l (suc n) =
     solo_entries i a0 l n ++ solo_entry i a0 l (solo_entries i a0 l n) n ∷ []
 
--- all proposals of its budget
+-- the entries of all proposals of its budget
 unfoldable pub solo : Tables → List Machine → Lots → List Entry
 solo i a0 l = solo_entries i a0 l (budget l 0)

@@ -20,7 +20,7 @@ unfoldable pub state : List Machine → List Entry → ℕ → List Machine
 state a0 h zero = a0
 state a0 h (suc j) = after_made (state a0 h j) (made_by (entry_at h j))
 
--- the cost that a verdict keeps, after a cost
+-- the cost after a verdict, given the cost before it
 unfoldable pub cost_then : ℕ → Verdict → ℕ
 cost_then cost (Done after) = after
 cost_then cost (Refused cause) = cost
@@ -30,6 +30,6 @@ unfoldable pub kept_cost : Tables → List Machine → List Entry → ℕ → �
 kept_cost i a0 h zero = objective i a0 a0
 kept_cost i a0 h (suc j) = cost_then (kept_cost i a0 h j) (entry_at h j).verdict
 
--- the challenge's objective of the state at place j, computed afresh
+-- the challenge's objective of the state at place j, computed from scratch
 unfoldable pub cost_at : Tables → List Machine → List Entry → ℕ → ℕ
 cost_at i a0 h j = objective i a0 (state a0 h j)

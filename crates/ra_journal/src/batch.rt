@@ -11,7 +11,7 @@ use std::marker::Model;
 /// How many entries a batch has room for.
 const ROOM: usize = 1024;
 
-/// Some entries of a journal, one after another, copied out of it. Contracts see the list of them.
+/// A copy of some consecutive entries of a journal. Contracts see the list of them.
 #[derive(Drop)]
 pub struct Batch {
     entries: Entries,
@@ -53,14 +53,14 @@ impl Batch {
         self.entries.get(i as usize)
     }
 
-    /// Takes all entries out.
+    /// Removes all entries.
     pub fn clear(&mut self)
         ensures { self.new ≡ [] }
     {
         self.entries.clear();
     }
 
-    /// Replaces all entries by those of a list from a place on, as many as there is room for, and tells their number.
+    /// Replaces all entries by those of a list from a place on, as many as there is room for, and gives their number.
     pub(crate) fn fill(&mut self, entries: &Entries, at: usize) -> u64
         requires { at ≤ length entries.now.items }
         ensures entries { self.new ≡ batch_from entries.now.items at }

@@ -2,17 +2,17 @@ use crate::listing::Entries;
 use ra_cells::Greatest;
 use ra_guards::Versions;
 
-/// The entries of a journal, and what it keeps of them.
+/// The entries of a journal, and what the journal keeps for them.
 pub(crate) struct Book {
     /// The entries.
     pub(crate) entries: Entries,
-    /// The version of each guard after them.
+    /// The version of each guard after all entries.
     pub(crate) versions: Versions,
-    /// The moved counts of the state after them.
+    /// The moved counts of the state after all entries.
     pub(crate) greatest: Greatest,
     /// The cost of that state.
     pub(crate) kept: u128,
-    /// How many of them each worker has made.
+    /// How many entries each worker has made.
     pub(crate) made: [u64; 16],
     /// The first place whose state costs least.
     pub(crate) best_at: u64,
@@ -20,7 +20,7 @@ pub(crate) struct Book {
     pub(crate) best_cost: u128,
 }
 
-/// Lets all lists go in one call, so that the end of an owner is short to prove.
+/// Frees all lists in one call, so that the end of an owner is short to prove.
 impl Drop for Book {
     fn drop(self) {
         let Book {

@@ -5,12 +5,12 @@ ghost use Rattle.ra_journal.specs.SmallSteps.{AreSmallSteps};
 use crate::small_step::SmallStep;
 use ra_moves::{Move, Verdict};
 
-/// An entry of a journal: a proposal of a worker, with the move that was planned for it and the verdict on that.
+/// An entry of a journal: a proposal of a worker, with the move that was planned for it and the verdict on this move.
 #[derive(Clone, Copy, Debug, PartialEq, Eq)]
 pub struct Entry {
     /// The worker.
     pub worker: u32,
-    /// The number of the proposal among its worker's, counted from 0.
+    /// The number of the proposal among its worker's proposals, counted from 0.
     pub k: u64,
     /// How many entries of the journal the worker had taken in when it planned the move.
     pub q: u64,
@@ -21,8 +21,8 @@ pub struct Entry {
 }
 
 impl Entry {
-    /// Whether a list of entries can keep it: its worker is below 256, its number and its place are below 2^32, and the
-    /// processes and machines of its steps are below 2^16.
+    /// Whether the packed form has room for the entry: its worker is below 256, its number and its place are below
+    /// 2^32, and the processes and machines of its steps are below 2^16.
     pub fn is_small(&self) -> bool
         ensures yes { result ≡ true → IsSmall self.now }
         ensures no { IsSmall self.now → result ≡ true }

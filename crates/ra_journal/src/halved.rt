@@ -2,7 +2,7 @@ ghost use Rattle.std.specs.Prelude.{◌≡◌};
 
 use std::marker::Model;
 
-/// A number below 2^64 in two halves, so that it is aligned as they are: to four bytes. Contracts see the number.
+/// A number below 2^64 in two halves, so that it needs an alignment of four bytes only. Contracts see the number.
 #[derive(Clone, Copy)]
 pub(crate) struct Halved {
     low: u32,
@@ -46,7 +46,7 @@ impl Halved {
     }
 }
 
-/// A number below 2^128 in four quarters, so that it is aligned as they are: to four bytes. Contracts see the number.
+/// A number below 2^128 in four quarters, so that it needs an alignment of four bytes only. Contracts see the number.
 #[derive(Clone, Copy)]
 pub(crate) struct Quartered {
     low: Halved,

@@ -18,8 +18,8 @@ use ra_moves::Plan;
 use ra_topology::Topology;
 use std::alloc::Global;
 
-/// The journal of a run: the proposals of all workers in the order in which they were recorded. It is legal at all
-/// times, by its type. Its memory is taken when it is made, for one entry for each proposal of all budgets.
+/// The journal of a run: the proposals of all workers in the order in which they were recorded. By its type it is legal
+/// at all times. It takes its memory when it is made, for one entry for each proposal of all budgets.
 #[derive(Drop)]
 pub struct Journal<'a> {
     inst: &'a Instance,
@@ -43,7 +43,7 @@ impl<'a> Journal<'a> {
     ghost use Rattle.ra_topology.specs.Starts.{IsFeasibleStart};
     ghost use Rattle.ra_journal.specs.States.{kept_cost, cost_at};
 
-    /// The journal without entries, over an initial assignment that is feasible, whose cost has these parts.
+    /// The journal without entries, over a feasible initial assignment whose cost has these parts.
     pub fn make(
         alloc: Global,
         inst: &'a Instance,
@@ -85,8 +85,8 @@ impl<'a> Journal<'a> {
         self.commit_with(worker, plan, None)
     }
 
-    /// The same for a worker that holds the write guards of the move, none of which was touched since it was planned:
-    /// the other guards alone are compared.
+    /// Records a worker's next proposal as `commit` does, for a worker that has locked the write guards of the move,
+    /// none of which was touched since the move was planned. It compares the other guards alone.
     pub fn commit_held(&mut self, worker: u32, plan: &Plan) -> Reply
         requires commit { MayHandIn self.old worker plan.now }
         requires held { AreHeld (tables_in self.old) (entries_in self.old) plan.now.q
@@ -97,8 +97,9 @@ impl<'a> Journal<'a> {
         self.commit_with(worker, plan, Some(&guards))
     }
 
-    /// The same for a worker that may hold guards. If it gives the write guards of the move, none of which was touched
-    /// since the move was planned, the other guards alone are compared, and the write guards aren't gathered again.
+    /// Records a worker's next proposal as `commit` does, for a worker that may have guards locked. If it gives the
+    /// write guards of the move, none of which was touched since the move was planned, the journal compares the other
+    /// guards alone, and doesn't gather the write guards again.
     pub fn commit_with(&mut self, worker: u32, plan: &Plan, held: Option<&WriteGuards>) -> Reply
         requires commit { MayHandIn self.old worker plan.now }
         requires held { IfSome (option_copied held) (HasHeld self.old plan.now) }
@@ -122,7 +123,8 @@ impl<'a> Journal<'a> {
         }
     }
 
-    /// The first guard of a worker's move that was touched since it was planned. Write guards that are given were not.
+    /// The first guard of a worker's move that was touched since the move was planned. If the write guards are given,
+    /// none of them was touched.
     fn first_newer(&self, worker: u32, plan: &Plan, held: Option<&WriteGuards>) -> Option<Newer>
         requires commit { MayHandIn self.now worker plan.now }
         requires held { IfSome (option_copied held) (HasHeld self.now plan.now) }
@@ -135,8 +137,8 @@ impl<'a> Journal<'a> {
         }
     }
 
-    /// Whether it is known at once that all entries from a place on are refused, so that the state there is the state
-    /// after all of them.
+    /// Whether it is known at once that all entries from a place on are refused, so that the state there equals the
+    /// state after all entries.
     pub fn is_quiet_from(&self, at: u64) -> bool
         ensures { result ≡ true → AreRefused (entries_in self.now) at
             (length (entries_in self.now)) }
@@ -144,7 +146,7 @@ impl<'a> Journal<'a> {
         self.book.versions.is_at_most(at)
     }
 
-    /// Fills a batch with the entries from a place on, as many as it has room for, and tells their number.
+    /// Fills a batch with the entries from a place on, as many as it has room for, and gives their number.
     pub fn copy_from(&self, at: u64, batch: &mut Batch) -> u64
         requires { at ≤ length (entries_in self.now) }
         ensures entries { batch.new ≡ batch_from (entries_in self.now) at }
@@ -191,7 +193,7 @@ impl<'a> Journal<'a> {
         self.book.kept
     }
 
-    /// How many entries stand before the first state of least cost.
+    /// How many entries come before the first state of least cost.
     pub fn best_at(&self) -> u64
         ensures { result ≡ best_of (tables_in self.now) (start_in self.now) (entries_in self.now) }
     {

@@ -1,5 +1,5 @@
-//! The journal of a run: one entry for each proposal, the state and the cost after each, which journals are legal and
-//! whole, and what follows from that.
+//! The journal of a run: one entry for each proposal, the state and the cost after each entry, which journals are legal
+//! and whole, and what follows from that.
 #![tactic(auto)]
 
 mod allowances;

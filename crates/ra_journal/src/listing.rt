@@ -10,7 +10,7 @@ use ra_base::{Fixed, NoMemory};
 use std::alloc::Global;
 use std::marker::Model;
 
-/// A list of entries with a room that is reserved once, in which each takes 72 bytes. Contracts see the list and the room.
+/// A list of entries whose room is reserved once. Each entry takes 72 bytes. Contracts see the list and the room.
 #[derive(Drop)]
 pub struct Entries {
     packed: Fixed<Packed>,
@@ -76,7 +76,7 @@ impl Entries {
         self.packed.room()
     }
 
-    /// Takes all entries out. The room stays.
+    /// Removes all entries. The room stays.
     #[tactic(auto, using(crate::proofs::PackingLemmas::unpacked_none))]
     pub(crate) fn clear(&mut self)
         ensures items { self.new.items ≡ [] }
@@ -85,7 +85,8 @@ impl Entries {
         self.packed.clear();
     }
 
-    /// Replaces all entries by those of another list from a place on, as many as a batch has, and tells their number.
+    /// Replaces all entries by those of another list from a place on, as many as a batch has room for, and gives their
+    /// number.
     #[tactic(auto, using(crate::proofs::PackingLemmas::unpacked_length, crate::proofs::PackingLemmas::unpacked_part))]
     pub(crate) fn refill(&mut self, from: &Entries, at: usize) -> usize
         requires room { self.old.room ≡ 1024 }
@@ -98,7 +99,7 @@ impl Entries {
     }
 }
 
-/// Replaces all items of a list by those of another from a place on, at most 1,024, and tells their number.
+/// Replaces all items of a list by those of another from a place on, at most 1,024, and gives their number.
 fn copy_part(from: &Fixed<Packed>, at: usize, to: &mut Fixed<Packed>) -> usize
     requires room { to.old.room ≡ 1024 }
     requires place { at ≤ length from.now.items }

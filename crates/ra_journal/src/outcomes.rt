@@ -6,13 +6,13 @@ use crate::halved::{Halved, Quartered};
 use ra_base::{Cause, Machine, Process, Resource, Service};
 use ra_moves::Verdict;
 
-/// What became of a proposal: a verdict whose causes stand beside Done and whose long numbers stand in pieces. So it
-/// takes 44 bytes and is aligned to four, and a verdict takes 64 and is aligned to 16.
+/// The outcome of a proposal: a verdict in which each cause is a variant beside Done and each long number is split. So
+/// it takes 44 bytes and is aligned to four, while a verdict takes 64 and is aligned to 16.
 #[derive(Clone, Copy)]
 pub(crate) enum Outcome {
-    /// It is done, and the cost is then this.
+    /// The move is done, and the cost after it is this.
     Done(Quartered),
-    /// It is refused; the causes with their numbers are those of `Cause`, in the same order.
+    /// The move is refused; the causes with their numbers are those of `Cause`, in that order.
     Repeat(Process),
     Same(Process),
     Capacity(Machine, Resource, Halved, u32),
@@ -79,7 +79,7 @@ fn refusal_for(cause: &Cause) -> Outcome
     }
 }
 
-/// The verdict that an outcome tells.
+/// The verdict that an outcome represents.
 #[tactic(auto, unfolding(crate::specs::Packing::verdict_in))]
 pub(crate) fn verdict_in(outcome: &Outcome) -> Verdict
     ensures { result ≡ verdict_in outcome.now }

@@ -8,8 +8,9 @@ use crate::small_step::SmallStep;
 use ra_moves::{Move, MoveKind};
 use std::mem::size_of;
 
-/// An entry in 72 bytes: the worker in one, its numbers in four each, and the move as its kind and three steps in six
-/// each, of which a shorter move uses the first ones. Nothing is aligned to more than four bytes, and there is no gap.
+/// An entry in 72 bytes: the worker in one, each of its numbers in four, and the move as its kind and three steps of
+/// six bytes each, of which a shorter move uses the first ones. Nothing is aligned to more than four bytes, and there
+/// is no gap.
 #[derive(Clone, Copy)]
 pub(crate) struct Packed {
     outcome: Outcome,

@@ -23,8 +23,8 @@ use ra_moves::{Move, Plan, Verdict};
 use ra_topology::Topology;
 use ra_weigh_settle::{change_counts, settle_now};
 
-/// Records a worker's next proposal, of whose move no guard was touched since it was planned. Guards that are given are
-/// its write guards.
+/// Records a worker's next proposal, if no guard of its move was touched since it was planned. Guards that are given
+/// are its write guards.
 pub(crate) fn record(
     inst: &Instance,
     topo: &Topology,
@@ -81,7 +81,7 @@ fn judge_now(
     settle_now(inst, &book.greatest, book.kept, &plan.weighed, rise)
 }
 
-/// Adds an entry at the end, which its worker has made.
+/// Adds an entry of its worker at the end.
 fn add(book: &mut Book, entry: &Entry)
     requires room { length book.old.entries.items < book.old.entries.room }
     requires small { IsSmall entry.now }
@@ -122,7 +122,7 @@ fn take_in(
     }
 }
 
-/// Gives the write guards of a move a version. They are gathered only if they aren't given.
+/// Gives the write guards of a move a version. It gathers them only if they aren't given.
 fn touch(
     inst: &Instance,
     topo: &Topology,

@@ -9,8 +9,9 @@ use ra_draws::Lots;
 use ra_model::Instance;
 use ra_moves::{Plan, Weighed};
 
-/// Whether it is known at once that a worker's plan is refused wherever it is recorded while its guards are untouched:
-/// its move breaks a constraint, or costs more than is allowed however far the greatest moved count falls.
+/// Whether it is known at once that a worker's plan is refused wherever it is recorded, as long as its guards are
+/// untouched: its move breaks a constraint, or costs more than the allowance permits however far the greatest moved
+/// count falls.
 pub fn is_refused(inst: &Instance, lots: &Lots, worker: u32, plan: &Plan) -> bool
     requires worker { worker < worker_count lots.now }
     requires left { plan.now.k < budget lots.now worker }
@@ -23,7 +24,8 @@ pub fn is_refused(inst: &Instance, lots: &Lots, worker: u32, plan: &Plan) -> boo
     is_dear(inst, &plan.weighed, allowed(lots, worker, plan.k))
 }
 
-/// Whether a move that breaks nothing costs more than is allowed, however far the greatest moved count falls.
+/// Whether a move that breaks nothing costs more than the allowance permits, however far the greatest moved count
+/// falls.
 fn is_dear(inst: &Instance, weighed: &Weighed, rise: u64) -> bool
     requires unbroken { weighed.now.broken ≡ None }
     ensures { result ≡ true → IsDear inst.now.tables rise weighed.now }
@@ -51,7 +53,7 @@ fn fall_of(weighed: &Weighed) -> u32
     first.max(second).max(third)
 }
 
-/// By how much a count falls, if it is there.
+/// By how much a count falls; 0 if there is no count.
 fn fall(count: Option<MovedCount>) -> u32
     ensures { IfSome count (λ c. c.before ≤ c.after + result) }
 {

@@ -32,7 +32,7 @@ impl Model for SmallStep {
 }
 
 impl SmallStep {
-    /// Whether a step can be told in six bytes.
+    /// Whether a step fits into six bytes.
     pub(crate) fn fits(step: &Step) -> bool
         ensures yes { result ≡ true → IsSmallStep step.now }
         ensures no { IsSmallStep step.now → result ≡ true }

@@ -7,7 +7,7 @@ ghost use Rattle.ra_journal.specs.States.{cost_then, IsDistinctIfDone};
 use ra_base::Assignment;
 use ra_moves::{Move, Verdict, apply};
 
-/// Takes an entry into a state: its move is applied if its verdict is done.
+/// Takes an entry into a state: applies its move if its verdict is done.
 #[tactic(auto, unfolding(ra_guards::specs::Made::after_made, crate::specs::Entries::steps_made))]
 pub fn advance(state: &mut Assignment, mv: &Move, verdict: &Verdict)
     requires stands { StandsAt from_in mv.now.steps state.old.items }
@@ -22,7 +22,7 @@ pub fn advance(state: &mut Assignment, mv: &Move, verdict: &Verdict)
     }
 }
 
-/// The cost that is kept after a verdict, if `cost` was kept before it.
+/// The cost after a verdict, if it was `cost` before.
 #[tactic(auto, unfolding(crate::specs::States::cost_then))]
 pub fn cost_then(cost: u128, verdict: &Verdict) -> u128
     ensures { result ≡ cost_then cost verdict.now }

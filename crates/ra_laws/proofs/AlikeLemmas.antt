@@ -28,7 +28,7 @@ use Rattle.ra_jobs.proofs.AlikeLemmas.{opened, whole, along, repaired_same}
 use Rattle.ra_run.proofs.AlikeLemmas.{parts_same, pinned_same, planned_same, judged_same, best_same, legal_same}
 use Rattle.ra_run.proofs.AlikeLemmas.{report_same, wrong_line_same, is_report_same}
 
--- no room is looked at
+-- rooms don't matter
 
 bound_bare : (raw : RawInstance) (closed : Option (Listed Bool)) → bound_of (bare (whole raw closed)) ≡
     bound_of (whole raw closed)

@@ -1,4 +1,4 @@
--- The lines of what comes behind the first lines of a text are the others.
+-- The lines of what comes after the first lines of a text are the others.
 use Rattle.std.proofs.Common.{◌≡◌, ℕ, zero, suc, Bool, true, false, cond, eqb, List, [], ◌∷◌, ◌++◌, drop, Option, Some}
 use Rattle.std.proofs.Common.{None, refl, sym, ◌∙◌, ap, eqb-true}
 use Rattle.std.proofs.lemmas.Option.{none-some}

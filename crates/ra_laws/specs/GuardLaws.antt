@@ -9,7 +9,7 @@ use Rattle.ra_guards.specs.Versions.{made_at, Untouched, ApartSince}
 use Rattle.ra_guards.specs.VersionTable.{VersionTable}
 use Rattle.ra_guards.specs.Kept.{AreZero, AreVersions, IsTouched}
 
--- no guard of a move has a version above q exactly if the move is apart from all that was made from place q on
+-- no guard of a move has a version above q exactly if the move is apart from all moves that were made from place q on
 abbrev pub UntouchedIsApart : Type 0
 UntouchedIsApart =
     (i : Tables) (made : List (Option (List Step))) (q n : ℕ) (steps : List Step)
@@ -26,7 +26,7 @@ pub record VersionsAreKept : Type 0 where
       (before after : VersionTable) (guards : List Guard)
       → AreVersions i made n before → made_at made n ≡ Some steps → AreWrites i steps guards
       → IsTouched before after guards (n + 1) → AreVersions i made (n + 1) after
-  -- one that is refused changes nothing
+  -- an entry that is refused changes nothing
   pub refused : (i : Tables) (made : List (Option (List Step))) (n : ℕ) (v : VersionTable)
       → AreVersions i made n v → made_at made n ≡ None → AreVersions i made (n + 1) v
   -- later entries change nothing

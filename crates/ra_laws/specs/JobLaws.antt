@@ -1,4 +1,4 @@
--- What jobs compute rests on the numbers of an instance, and never on the rooms of its lists. Each law is proved by a
+-- What jobs compute depends on the numbers of an instance, and never on the rooms of its lists. Each law is proved by a
 -- function of `jobs`.
 use Rattle.std.specs.Prelude.{◌≡◌, ℕ, List, Bool, Option, Some, None, IsSome}
 use Rattle.ra_base.specs.Listed.{Listed}
@@ -34,19 +34,18 @@ unfoldable pub flags_of : Option (Listed Bool) → Option (List Bool)
 flags_of None = None
 flags_of (Some flags) = Some flags.items
 
--- two instances have the same numbers in their lists and the same flags of closed machines, whatever rooms the lists
--- have
+-- two instances have equal numbers in their lists and equal flags of closed machines, whatever rooms the lists have
 pub record AreAlike (i j : Tables) : Type 0 where
   pub lists : lists_of i.raw ≡ lists_of j.raw
   pub flags : flags_of i.closed ≡ flags_of j.closed
 
--- two values are the same lots, whatever room their lists have
+-- two values are equal lots, whatever room their lists have
 pub record AreAlikeLots (l k : Lots) : Type 0 where
   pub slack : l.slack ≡ k.slack
   pub drawing : l.drawing ≡ k.drawing
   pub lots : l.lots.items ≡ k.lots.items
 
--- what jobs compute from two instances is the same
+-- jobs compute equal results from two instances
 pub record RunAlike (i j : Tables) : Type 0 where
   pub parts : (a0 a : List Machine) → parts_of i a0 a ≡ parts_of j a0 a
   pub broken : (a0 a : List Machine) → first_broken i a0 a ≡ first_broken j a0 a
@@ -81,14 +80,14 @@ pub record MeanAlike (names : Names) (i j : Tables) (a0 b0 a b : List Machine) :
   pub initial : IsSome names.initial → a0 ≡ b0
   pub changed : IsSome names.changed → a ≡ b
 
--- told files mean one instance, but for the rooms of its lists, and one assignment each
+-- told files mean one instance, apart from the rooms of its lists, and one assignment each
 abbrev pub ToldFilesMeanOne : Type 0
 ToldFilesMeanOne =
     (held : Held) (names : Names) (i j : Tables) (a0 b0 a b : List Machine) → AreTold held names
     → Accepts held names i a0 a → Accepts held names j b0 b → MeanAlike names i j a0 b0 a b
 
--- the text of a trial is one, whatever rooms the lists of its instance and of its lots have: it rests on the number
--- alone
+-- a trial has one text, whatever rooms the lists of its instance and of its lots have: the text depends only on the
+-- number
 abbrev pub TrialsHaveOneText : Type 0
 TrialsHaveOneText =
     (number : ℕ) (i j : Tables) (l k : Lots) → IsTrial (trial_word number) i
@@ -96,7 +95,7 @@ TrialsHaveOneText =
     → summary_text i start_list (solo i start_list l)
     ≡ summary_text j start_list (solo j start_list k)
 
--- so what two trials of a number print is the same
+-- so two trials of a number print the same
 abbrev pub TrialsPrintOneText : Type 0
 TrialsPrintOneText =
     (number : ℕ) (one other : List ℕ) → TrialPrinted number (λ text. one ≡ text)

@@ -1,4 +1,4 @@
--- What is chosen as the first of least cost, said as a relation and not as a search.
+-- What is chosen as the first of least cost, stated as a relation and not as a search.
 use Rattle.std.specs.Prelude.{◌≡◌, ℕ, suc, ◌<◌, List, length, Option, Some, None}
 use Rattle.ra_base.specs.Searches.{IsLeast}
 use Rattle.ra_base.specs.declared.causes.Drawing.{Drawing}
@@ -25,7 +25,7 @@ PlanIsLeast =
     → (p : ℕ) × (plan_of (situation i a0 a) x d allowed ≡ option_at a x (machine_count i) d p)
     × IsChosen (option_count x (machine_count i) d) (option_cost (situation i a0 a) x d allowed) p
 
--- the best state of a journal is the first of least cost among all its states, that of place 0 included
+-- the best state of a journal is the first of least cost among all its states, including that of place 0
 abbrev pub BestIsLeast : Type 0
 BestIsLeast =
     (i : Tables) (a0 : List Machine) (h : List Entry)

@@ -16,13 +16,13 @@ BrokenNamesAll =
     (i : Tables) (a0 a : List Machine) → WellFormed i → IsAssignment i a
     → (first_broken i a0 a ≡ None) ↔ Feasible i a0 a
 
--- if process p is put on another machine, a sum over the processes changes by the share of p
+-- if process p moves to another machine, a sum over the processes changes by the share of p
 abbrev pub OneShareChanges : Type 0
 OneShareChanges =
     (n p : ℕ) (f : ℕ → ℕ → ℕ) (a : List Machine) (to : Machine) → p < n → p < length a
     → tally n f (slice_set a p to) + f p (machine_at a p) ≡ tally n f a + f p to.0
 
--- a count over the processes of a service may go over a list of them alone, which g gives place by place
+-- a count over the processes of a service may go only over a list of them, which g gives place by place
 abbrev pub CountsGoOverMembers : Type 0
 CountsGoOverMembers =
     (i : Tables) (a : List Machine) (s : ℕ) (test : ℕ → ℕ → Bool) (n : ℕ) (g : ℕ → ℕ)

@@ -10,6 +10,6 @@ abbrev pub ModelTextsAreModels : Type 0
 ModelTextsAreModels =
     (i opened : Tables) → WellFormed i → Small i → IsModel (model_text i) opened ↔ IsOpened i opened
 
--- and nothing is wrong with it
+-- nothing is wrong with the text
 abbrev pub ModelTextsAreAccepted : Type 0
 ModelTextsAreAccepted = (i : Tables) → WellFormed i → Small i → model_refusal (model_text i) ≡ None

@@ -12,7 +12,7 @@ use Rattle.ra_report_text.specs.Texts.{number_text}
 use Rattle.ra_report.specs.JournalTexts.{entry_line, entries_text, entry_lines, report_lines, report_text, report_head}
 use Rattle.ra_report.specs.JournalTexts.{lines_left, IsJournalOf}
 
--- a number of a program is written as std writes it
+-- a program's number is written as std writes it
 abbrev pub NumbersAreDecimal : Type 0
 NumbersAreDecimal = (n : ℕ) → n < 2 ^ 128 → number_text n ≡ decimal n
 
@@ -39,7 +39,7 @@ ReportTellsItsJournal =
     (i : Tables) (a0 : List Machine) (l : Lots) (h : List Entry)
     → IsJournalOf (report_text i a0 l h) h
 
--- two entries whose lines stand at one place at the front of the same bytes are equal, and so is what follows
+-- two entries are equal if their lines are at one place at the front of the same bytes, and so is what follows
 abbrev pub SameLineSameEntry : Type 0
 SameLineSameEntry =
     (j : ℕ) (e f : Entry) (x y : List ℕ) → entry_line j e ++ x ≡ entry_line j f ++ y
@@ -67,7 +67,7 @@ EntriesAreLines =
     (h : List Entry) (n : ℕ) (rest : List ℕ)
     → lines_of (entries_text h n ++ rest) ≡ entry_lines h n ++ lines_of rest
 
--- the lines of what comes behind the first n lines are the others
+-- the lines of what comes after the first n lines are the others
 abbrev pub LinesBehind : Type 0
 LinesBehind =
     (n : ℕ) (bytes rest : List ℕ) → lines_left n (Some bytes) ≡ Some rest

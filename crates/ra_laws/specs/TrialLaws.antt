@@ -16,7 +16,7 @@ use Rattle.ra_trial.specs.Instances.{IsTrial, start_list}
 abbrev pub ModelTextsAreTrials : Type 0
 ModelTextsAreTrials = (g : ℕ → ℕ) (i : Tables) → IsModel (text_over g) i ↔ IsTrial g i
 
--- and nothing is wrong with it
+-- nothing is wrong with the text of the model
 abbrev pub ModelTextsAreAccepted : Type 0
 ModelTextsAreAccepted = (g : ℕ → ℕ) → model_refusal (text_over g) ≡ None
 
@@ -30,7 +30,7 @@ StartTextsAreStarts =
 abbrev pub TrialsHaveNumbers : Type 0
 TrialsHaveNumbers = (g : ℕ → ℕ) (i : Tables) → IsTrial g i → HasNumbers g i
 
--- it is within the limits
+-- the trial's instance is within the limits
 abbrev pub TrialsAreWellFormed : Type 0
 TrialsAreWellFormed = (g : ℕ → ℕ) (i : Tables) → IsTrial g i → WellFormed i
 
@@ -38,6 +38,6 @@ TrialsAreWellFormed = (g : ℕ → ℕ) (i : Tables) → IsTrial g i → WellFor
 abbrev pub StartsAreAssignments : Type 0
 StartsAreAssignments = (g : ℕ → ℕ) (i : Tables) → IsTrial g i → IsAssignment i start_list
 
--- and meets all constraints
+-- the start meets all constraints
 abbrev pub StartsAreFeasible : Type 0
 StartsAreFeasible = (g : ℕ → ℕ) (i : Tables) → IsTrial g i → Feasible i start_list start_list

@@ -7,7 +7,7 @@ use Rattle.ra_journal.specs.declared.entries.Entry.{Entry}
 use Rattle.ra_journal.specs.Legal.{Legal}
 use Rattle.ra_verify.specs.WrongLines.{IsWrongLine, IsReport}
 
--- the entries so far, the worker and the place of a plan tell the one entry that may follow
+-- the entries so far, the worker and the place of a plan determine the one entry that may follow
 abbrev pub OneNextEntry : Type 0
 OneNextEntry =
     (i : Tables) (a0 : List Machine) (l : Lots) (h : List Entry) (e f : Entry)

@@ -13,7 +13,7 @@ pub fn legal_makes_moves()
     ensures { LegalMakesMoves }
 {}
 
-/// The move of each entry of a legal journal was offered, where it was planned and at its own place.
+/// The move of each entry of a legal journal can be weighed, where it was planned and at its own place.
 pub fn legal_is_offered()
     ensures { LegalIsOffered }
 {}
@@ -23,7 +23,7 @@ pub fn next_keeps_legal()
     ensures { NextKeepsLegal }
 {}
 
-/// A journal that has answered a worker is legal, if it was so before.
+/// A journal that has answered a worker is legal, if it was legal before.
 pub fn committed_is_legal()
     ensures { CommittedIsLegal }
 {}

@@ -1,5 +1,5 @@
 //! Laws of the definitions, by their subjects: each function does nothing, and its contract is a proved law. No program
-//! rests on them.
+//! depends on them.
 #![tactic(auto)]
 
 /// The lower bounds.
@@ -16,7 +16,7 @@ pub mod lines;
 pub mod model;
 /// The text of an instance.
 pub mod model_text;
-/// What a move can break, and what its weighing rests on.
+/// What a move can break, and what its weighing depends on.
 pub mod moves;
 /// The pinned processes of a start.
 pub mod pins;

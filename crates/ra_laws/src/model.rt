@@ -14,17 +14,17 @@ pub fn broken_names_constraints()
     ensures { BrokenNamesConstraints }
 {}
 
-/// If one process is put on another machine, a sum over the processes changes by its share alone.
+/// If one process moves to another machine, a sum over the processes changes only by its share.
 pub fn one_share_changes()
     ensures { OneShareChanges }
 {}
 
-/// A count over the processes of a service may go over a list of them alone.
+/// A count over the processes of a service may go only over a list of them.
 pub fn counts_go_over_members()
     ensures { CountsGoOverMembers }
 {}
 
-/// No sum of an instance is too large for the numbers of a program.
+/// No sum of an instance is too large for a program's numbers.
 pub fn all_sums_fit()
     ensures { AllSumsFit }
 {}
@@ -44,7 +44,7 @@ pub fn balance_is_whole()
     ensures { BalanceIsWhole }
 {}
 
-/// No cost of a machine is too large for the numbers of a program.
+/// No cost of a machine is too large for a program's numbers.
 pub fn all_machine_costs_fit()
     ensures { AllMachineCostsFit }
 {}

@@ -7,9 +7,8 @@ pub fn failures_are_local()
     ensures { FailuresAreLocal }
 {}
 
-/// A move weighs the same in two assignments that break nothing, if its machines hold the same
-/// processes in both, and the processes of each service that it moves, or that is joined with one,
-/// have the same machines.
+/// A move weighs the same in two assignments that break nothing, if its machines hold the same processes in both, and
+/// the processes of each service that it moves, or that is joined with such a service, have the same machines.
 pub fn weighing_is_determined()
     ensures { WeighingIsDetermined }
 {}

@@ -2,12 +2,12 @@
 ghost use Rattle.ra_pins.specs.Laws.{RoundsOnlyAdd, PinnedStay};
 ghost use Rattle.ra_laws.specs.PinLaws.{RoundsEnd};
 
-/// A round never takes a flag away.
+/// A round never clears a flag.
 pub fn rounds_only_add()
     ensures { RoundsOnlyAdd }
 {}
 
-/// Further rounds than there are processes pin nothing more.
+/// More rounds than there are processes pin nothing more.
 pub fn rounds_end()
     ensures { RoundsEnd }
 {}

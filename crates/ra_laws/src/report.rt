@@ -1,7 +1,7 @@
 //! Laws of reports: each function does nothing, and its contract is a law that was proved.
 ghost use Rattle.ra_laws.specs.ReportLaws.{NumbersAreDecimal, SameLinesSameJournal, OneJournalOfBytes, WrittenTellsItsJournal, ReportTellsItsJournal, SameLineSameEntry, EntryLineIsOneLine, ReportIsHeadAndEntries, EntriesAreLines, LinesBehind};
 
-/// A number of a program is written as std writes it.
+/// A program's number is written as std writes it.
 pub fn numbers_are_decimal()
     ensures { NumbersAreDecimal }
 {}

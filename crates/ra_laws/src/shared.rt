@@ -2,7 +2,7 @@
 ghost use Rattle.ra_shared.specs.Laws.{TouchesAgree, NoneAbove, RecordedStands, StaleStands};
 ghost use Rattle.ra_laws.specs.SharedLaws.{VersionsAgree};
 
-/// The number of a guard stands for the guard: what an entry makes touches the one if it touches the other.
+/// The number of a guard represents the guard: what an entry makes touches the number exactly if it touches the guard.
 pub fn touches_agree()
     ensures { TouchesAgree }
 {}

@@ -2,7 +2,7 @@
 ghost use Rattle.ra_verify.specs.Laws.{OneWrongLine, ReportHasNoneWrong};
 ghost use Rattle.ra_laws.specs.VerifyLaws.{OneNextEntry, NoneWrongIsReport};
 
-/// The entries so far, the worker and the place of a plan tell the one entry that may follow.
+/// The entries so far, the worker and the place of a plan determine the one entry that may follow.
 pub fn one_next_entry()
     ensures { OneNextEntry }
 {}

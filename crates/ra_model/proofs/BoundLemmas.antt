@@ -27,7 +27,7 @@ pub total_under : (n m b : ℕ) (f : ℕ → ℕ) → n < m → 0 < b → ((k : 
 total_under n m b f few some each =
     lt_of_le_of_lt (total_bound n b f (λ k h. le_of_lt (each k h))) (mul-lt-mul_of_pos_right few some)
 
--- the same for a share of each process
+-- a share of each process, each share below b, sums up to less than m * b
 pub tally_under : (n m b : ℕ) (f : ℕ → ℕ → ℕ) (a : List Machine) → n < m → 0 < b → ((p at : ℕ) → f p at < b) →
     tally n f a < m * b
 unfolding tally

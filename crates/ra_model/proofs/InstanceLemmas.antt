@@ -95,7 +95,7 @@ small_processes i rows requirements h table = record {
   machine_weight = h.machine_weight;
 }
 
--- lists with the same weights, of which it is proved anew that they are small
+-- lists with the same weights; it is proved again that they are small
 abbrev pub with_bounds : (x : RawInstance) → x.process_weight < 2 ^ 32 → x.service_weight < 2 ^ 32 →
     x.machine_weight < 2 ^ 32 → RawInstance
 with_bounds x a b c = record x { small_process_weight = a; small_service_weight = b; small_machine_weight = c }

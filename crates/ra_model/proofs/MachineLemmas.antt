@@ -24,7 +24,7 @@ pub balance_by_machine : BalanceIsByMachine
 unfolding balance_cost balance_part shortfall available machine_balance row_balance balance_share row_left
 balance_by_machine i a = total_times_swap (balance_count i) (machine_count i) (balance_weight_of i) (shortfall i a)
 
--- the same use, the same costs
+-- equal use costs as much
 
 pub row_load_same : (i : Tables) (m : ℕ) (u v : ℕ → ℕ) → ((r : ℕ) → r < resource_count i → u r ≡ v r) →
     row_load i m u ≡ row_load i m v

@@ -19,7 +19,7 @@ labelled label x m = cond (eqb (label m) x) (Some (record { 0 = m })) None
 unfoldable pub first_labelled : (ℕ → ℕ) → ℕ → ℕ → Option Machine
 first_labelled label n x = first n (labelled label x)
 
--- what is looked up at a label is the first of n machines with it
+-- a lookup of a label gives the first of n machines with it
 pub record IsKnown (label : ℕ → ℕ) (n : ℕ) (known : ℕ → Option Machine) : Type 0 where
   pub each : (x : ℕ) → known x ≡ first_labelled label n x
 

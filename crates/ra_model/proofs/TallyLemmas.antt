@@ -68,7 +68,7 @@ pub tally_more : (n : ℕ) (f : ℕ → ℕ → ℕ) (a : List Machine) → tall
 unfolding tally
 tally_more n f a = total_more n _
 
--- the same share of each process
+-- equal shares have equal sums
 pub tally_same : (n : ℕ) (f g : ℕ → ℕ → ℕ) (a b : List Machine) →
     ((p : ℕ) → p < n → f p (machine_at a p) ≡ g p (machine_at b p)) → tally n f a ≡ tally n g b
 unfolding tally
@@ -102,7 +102,7 @@ tally_set n p f a to within there =
     (λ k h apart. ap (f k) (machine_at_set_other a p to k apart))
     ∙ ap (λ m. total n (λ k. f k (machine_at a k)) + f p m) (machine_at_set_same a p to there)
 
--- the same for each quantity that is a sum over the processes
+-- what changes in each quantity that is a sum over the processes
 
 pub use_set : (i : Tables) (a : List Machine) (p : ℕ) (to : Machine) (m r : ℕ) → IsAssignment i a →
     p < process_count i → use_of i (set a p to) m r + use_share i m r p (machine_at a p) ≡ use_of i a m r

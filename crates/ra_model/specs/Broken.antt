@@ -13,7 +13,7 @@ use Rattle.ra_model.specs.Assignments.{machine_at}
 use Rattle.ra_model.specs.Usage.{use_of, transient_of}
 use Rattle.ra_model.specs.Services.{is_of, on_machine, in_neighbourhood, locations_of}
 
--- a cause if the test that failed is true
+-- a cause if its test is true
 unfoldable pub cause_if : Bool → Cause → Option Cause
 cause_if failed cause = if failed then Some cause else None
 
@@ -52,7 +52,7 @@ service_conflict i a s = first (machine_count i) (conflict_test i a s)
 unfoldable pub broken_conflict : Tables → List Machine → Option Cause
 broken_conflict i a = first (service_count i) (service_conflict i a)
 
--- the processes of service s are in fewer locations than it wants
+-- the processes of service s are in fewer locations than its spread asks for
 unfoldable pub spread_test : Tables → List Machine → ℕ → Option Cause
 spread_test i a s =
     cause_if (nat_lt (locations_of i a s) (spread_of i s))
@@ -65,7 +65,7 @@ broken_spread i a = first (service_count i) (spread_test i a)
 unfoldable pub near_of : Tables → List Machine → ℕ → ℕ → ℕ → ℕ
 near_of i a s k p = in_neighbourhood i a (need_of i s k) (neighbourhood_of i (machine_at a p))
 
--- none is near a process of service s
+-- process p of service s has no process of the service of dependency k in its neighbourhood
 unfoldable pub far_test : Tables → List Machine → ℕ → ℕ → ℕ → Option Cause
 far_test i a s k p =
     cause_if (near_of i a s k p == 0)

@@ -1,5 +1,5 @@
--- The causes that name a broken constraint. The others are of moves: a process named twice, a step that stays, a rise
--- of the cost.
+-- The causes that name a broken constraint. The other causes concern moves alone: a process named twice, a step that
+-- stays, a rise of the cost.
 use Rattle.ra_base.specs.declared.causes.Cause.{Cause}
 use Rattle.ra_base.specs.declared.causes.Cause.TheVariants.{Repeat, Same, Capacity, Transient, Conflict, Spread}
 use Rattle.ra_base.specs.declared.causes.Cause.TheVariants.{Dependency, Rise, Closed}

@@ -7,7 +7,7 @@ use Rattle.ra_model.specs.Numbers.{spread_of, dependency_end, dependency_start, 
 use Rattle.ra_model.specs.Numbers.{process_cost_of, first_of, second_of, target_of, balance_weight_of}
 use Rattle.ra_model.specs.Numbers.{process_weight_of, service_weight_of, machine_weight_of}
 
--- the most that an instance has of each
+-- the most resources, machines, services, processes, balance objectives and dependencies of an instance
 abbrev pub most_resources : ℕ
 most_resources = 20
 
@@ -70,7 +70,7 @@ pub record Small (i : Tables) : Type 0 where
   pub service_weight : service_weight_of i < 2 ^ 32
   pub machine_weight : machine_weight_of i < 2 ^ 32
 
--- a flag for each machine, unless no flags are there
+-- a flag for each machine, unless the flags are left out
 abbrev pub IsFlagged : Tables → Type 0
 IsFlagged i = IfSome i.closed (λ flags. length flags.items ≡ machine_count i)
 

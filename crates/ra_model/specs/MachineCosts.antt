@@ -1,6 +1,6 @@
 -- The costs of one machine: its summands in the load cost and in the balance cost, with their weights, as functions of
--- its row of use: u r is what is used of resource r. So the same words serve for the use of an assignment, for a use
--- that is kept, and for the use that a move would make.
+-- its row of use, in which u r is the use of resource r. So one definition serves for the use of an assignment, for a
+-- use that is kept, and for the use that a move would bring.
 use Rattle.std.specs.Prelude.{◌≡◌, ℕ, ◌-◌, ◌*◌, ◌^◌, ◌<◌, List}
 use Rattle.ra_base.specs.Sums.{total}
 use Rattle.ra_base.specs.declared.ids.Machine.{Machine}
@@ -45,7 +45,7 @@ abbrev pub LoadIsByMachine : Type 0
 LoadIsByMachine =
     (i : Tables) (a : List Machine) → load_cost i a ≡ total (machine_count i) (machine_load i a)
 
--- and so is the balance cost
+-- the balance cost is the sum over the machines
 abbrev pub BalanceIsByMachine : Type 0
 BalanceIsByMachine =
     (i : Tables) (a : List Machine)

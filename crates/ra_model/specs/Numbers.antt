@@ -153,7 +153,7 @@ service_weight_of i = i.raw.service_weight
 unfoldable pub machine_weight_of : Tables → ℕ
 machine_weight_of i = i.raw.machine_weight
 
--- a flag of a list that may be left out
+-- flag m of a list of flags; false if the list is left out
 unfoldable pub flag_in : Option (Listed Bool) → ℕ → Bool
 flag_in None m = false
 flag_in (Some flags) m = slice_index_or flags.items m false
@@ -166,11 +166,11 @@ closed_at i m = flag_in i.closed m
 abbrev pub all_open : RawInstance → Tables
 all_open raw = record { raw = raw; closed = None }
 
--- the same instance with these machines closed
+-- the instance with exactly these machines closed
 abbrev pub with_closed : Tables → Listed Bool → Tables
 with_closed i flags = record { raw = i.raw; closed = Some flags }
 
--- the same instance with other processes, which require these numbers
+-- the instance with other processes, which require these numbers
 abbrev pub with_processes : Tables → Listed ProcessRow → Listed ℕ → Tables
 with_processes i rows requirements =
     record i { raw = record i.raw { processes = rows; requirements = requirements } }

@@ -1,4 +1,4 @@
--- How the processes of a service are placed: counts over its processes, each by a test of process and machine.
+-- How the processes of a service are placed: how many of them pass a test of process and machine.
 use Rattle.std.specs.Prelude.{ℕ, ◌^◌, List, Bool, true, false, if◌then◌else◌, ◌==◌, ◌&&◌, nat_lt}
 use Rattle.ra_base.specs.Sums.{one_if, count}
 use Rattle.ra_base.specs.declared.ids.Machine.{Machine}
@@ -10,7 +10,7 @@ use Rattle.ra_model.specs.Assignments.{machine_at, tally}
 unfoldable pub is_of : Tables → ℕ → ℕ → Bool
 is_of i s p = service_of i p == s
 
--- 1 for a process of service s that passes a test, which is on machine `at`
+-- 1 if process p is one of service s and passes a test on machine `at`, else 0
 unfoldable pub of_service : Tables → ℕ → (ℕ → ℕ → Bool) → ℕ → ℕ → ℕ
 of_service i s test p at = one_if (is_of i s p && test p at)
 

@@ -1,5 +1,4 @@
--- What nearly every fact is about: the numbers of an instance, the assignment that it started with, and the assignment
--- as it is now.
+-- What most statements are about: the numbers of an instance, its initial assignment, and the assignment as it is now.
 use Rattle.std.specs.Prelude.{◌≡◌, ℕ, List, Option, None}
 use Rattle.ra_base.specs.declared.causes.Cause.{Cause}
 use Rattle.ra_base.specs.declared.costs.Parts.{Parts}

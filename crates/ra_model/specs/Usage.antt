@@ -13,7 +13,7 @@ use_share i m r p at = if at == m then requirement_of i p r else 0
 unfoldable pub use_of : Tables → List Machine → ℕ → ℕ → ℕ
 use_of i a m r = tally (process_count i) (use_share i m r) a
 
--- what process p, which was on its machine of a0 and is on machine `at`, uses of resource r of machine m in between
+-- what process p, which was on its machine of a0 and is on machine `at`, uses of resource r of machine m in transition
 unfoldable pub transient_share : Tables → List Machine → ℕ → ℕ → ℕ → ℕ → ℕ
 transient_share i a0 m r p at =
     if (machine_at a0 p == m) || (at == m) then requirement_of i p r else 0

@@ -1,4 +1,5 @@
--- The balance cost in whole numbers, as the challenge writes it, and when it is the balance cost.
+-- The balance cost in whole numbers, as the challenge writes it, and the law that it is the balance cost of a feasible
+-- assignment.
 use Rattle.std.specs.Prelude.{◌≡◌, ℕ, ◌*◌, ℤ, pos, ◌-ℤ◌, ◌*ℤ◌, List}
 use Rattle.ra_base.specs.Sums.{total}
 use Rattle.ra_base.specs.Whole.{above_zero}
@@ -11,7 +12,7 @@ use Rattle.ra_model.specs.Usage.{use_of}
 use Rattle.ra_model.specs.Feasible.{Feasible}
 use Rattle.ra_model.specs.Costs.{balance_cost}
 
--- A(m, r) = C(m, r) - U(m, r), which is below zero if the use is above the capacity
+-- A(m, r) = C(m, r) - U(m, r), which is negative if the use is above the capacity
 unfoldable pub whole_available : Tables → List Machine → ℕ → ℕ → ℤ
 whole_available i a m r = pos (capacity_of i m r) -ℤ pos (use_of i a m r)
 
@@ -25,7 +26,7 @@ unfoldable pub whole_balance_cost : Tables → List Machine → ℕ
 whole_balance_cost i a =
     total (balance_count i) (λ b. balance_weight_of i b * total (machine_count i) (whole_shortfall i a b))
 
--- for a feasible assignment this is the balance cost
+-- for a feasible assignment it is the balance cost
 abbrev pub BalanceIsWhole : Type 0
 BalanceIsWhole =
     (i : Tables) (a0 a : List Machine) → WellFormed i → Feasible i a0 a

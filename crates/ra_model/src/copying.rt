@@ -16,7 +16,7 @@ pub fn copies<T: Copy>(alloc: Global, size: usize, item: T) -> Result<Fixed<T>, 
     Ok(list)
 }
 
-/// A list once more, with the same room.
+/// A copy of a list, with as much room.
 #[tactic(auto, using(crate::proofs::CopyLemmas::same_list))]
 pub fn copied<T: Copy>(alloc: Global, list: &Fixed<T>) -> Result<Fixed<T>, NoMemory>
     ensures { IfOk result (λ copy. copy ≡ list.now) }
@@ -27,7 +27,7 @@ pub fn copied<T: Copy>(alloc: Global, list: &Fixed<T>) -> Result<Fixed<T>, NoMem
 }
 
 impl RawInstance {
-    /// The same lists and weights once more.
+    /// A copy of the lists and weights.
     fn copied(&self, alloc: Global) -> Result<RawInstance, NoMemory>
         ensures { IfOk result (λ copy. copy ≡ self.now) }
     {
@@ -50,7 +50,7 @@ impl RawInstance {
 }
 
 impl Tables {
-    /// The same lists once more, and the same flags.
+    /// A copy of the lists and of the flags.
     pub(crate) fn copied(&self, alloc: Global) -> Result<Tables, NoMemory>
         ensures { IfOk result (λ copy. copy ≡ self.now) }
     {

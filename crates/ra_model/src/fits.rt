@@ -95,7 +95,7 @@ fn tables_fit(raw: &RawInstance) -> bool
         && raw.requirements.len() == raw.processes.len() * resources
 }
 
-/// Whether the services own the dependencies, one service after another.
+/// Whether the dependencies are divided among the services, one service after another.
 fn dependencies_fit(raw: &RawInstance) -> bool
     ensures ordered { result ≡ true → (s : ℕ) → s < service_count (all_open raw.now) →
         dependency_start (all_open raw.now) s ≤ dependency_end (all_open raw.now) s }

@@ -31,7 +31,7 @@ impl Model for Places {
     } };
 }
 
-/// Which of its two labels a machine is asked for.
+/// Which of its two labels is read of a machine.
 #[derive(Clone, Copy)]
 pub(crate) enum Label {
     Location,
@@ -98,7 +98,7 @@ fn firsts(alloc: Global, inst: &Instance, label: Label) -> Result<Fixed<Machine>
     Ok(places)
 }
 
-/// The machine that is known for a label; if there is none, `m` is from now on.
+/// The machine that is known for a label. If none is known, `m` becomes it.
 fn first_of(known: &mut BTreeMap<u32, Machine>, label: u32, m: Machine) -> Result<Machine, NoMemory>
     ensures place { IfOk result (λ p. p ≡ unwrap_or (get nat_cmp known.old label) m) }
     ensures known { IfOk result (λ p. (q : ℕ) →

@@ -11,11 +11,11 @@ use ra_base::{Fixed, Machine, NoMemory, Process, Resource, Service, Steps};
 use std::alloc::Global;
 use std::sync::ledger::Ledger;
 
-/// An instance: its tables have the lengths that its counts ask for, its counts are within the limits, and all that
-/// is named in it exists.
+/// An instance: its counts are within the limits, its tables have the lengths that the counts ask for, and every
+/// service, machine and resource that it names exists.
 #[derive(Drop)]
 pub struct Instance {
-    /// The numbers themselves. What their lists hold is read by the methods alone.
+    /// The numbers themselves. Only the methods read the lists.
     tables: Tables,
     pub ghost well_formed: { WellFormed tables },
     pub ghost small: { Small tables },
@@ -38,7 +38,7 @@ impl Instance {
         }
     }
 
-    /// The same instance with exactly the flagged machines closed.
+    /// This instance with exactly the flagged machines closed.
     pub fn closing(self, flags: Fixed<bool>) -> Instance
         requires { length flags.items ≡ machine_count self.tables }
         ensures { result.tables ≡ with_closed self.tables flags }
@@ -49,7 +49,7 @@ impl Instance {
         }
     }
 
-    /// The same instance with other processes, which require these numbers. The same machines are closed.
+    /// This instance with other processes, which require these numbers. Its closed machines stay closed.
     pub fn with_processes(self, rows: Fixed<ProcessRow>, requirements: Fixed<u32>) -> Instance
         requires { WellFormed (with_processes self.tables rows requirements) }
         ensures { result.tables ≡ with_processes self.tables rows requirements }
@@ -168,7 +168,7 @@ impl Instance {
         number_at(&self.tables.raw.move_costs, self.machines(), a.0, b.0)
     }
 
-    /// What the ways from a machine cost, before the weight: a number for each machine, in the order of their numbers.
+    /// What the ways from a machine to each machine cost, before the weight, in the order of the machines' numbers.
     #[tactic(auto, using(crate::proofs::InstanceLemmas::ways_count, crate::proofs::InstanceLemmas::ways_each))]
     pub fn ways_from(&self, from: Machine) -> &[u32]
         requires { from.0 < machine_count self.now.tables }
@@ -221,7 +221,7 @@ impl Instance {
         self.process(p).move_cost
     }
 
-    /// What a process requires of a resource. Each call counts one step: this is the only way to a requirement.
+    /// What a process requires of a resource. Each call counts one step, and no other call reads a requirement.
     #[tactic(auto, unfolding(crate::specs::Numbers::requirement_of))]
     pub fn requirement<L: Ledger>(&self, p: Process, r: Resource, steps: &mut Steps<L>) -> u32
         requires process { p.0 < process_count self.now.tables }
@@ -326,7 +326,7 @@ impl Instance {
         }
     }
 
-    /// The same instance once more.
+    /// A copy of the instance.
     pub fn copied(&self, alloc: Global) -> Result<Instance, NoMemory>
         ensures { IfOk result (λ copy. copy.tables ≡ self.now.tables) }
     {

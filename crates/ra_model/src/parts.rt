@@ -4,7 +4,7 @@ ghost use Rattle.ra_model.specs.Parts.{part_start, AreEnds};
 
 use ra_base::Fixed;
 
-/// Part `k` of a flat list that is cut at ends, which ascend: from where it starts to its end.
+/// Part `k` of a flat list that is cut at ends, which ascend: from the part's start to its end.
 #[tactic(auto, using(crate::proofs::PartLemmas::part_bounds))]
 pub fn part_of<'a, T: Copy>(all: &'a Fixed<T>, ends: &Fixed<u32>, k: u32) -> &'a [T]
     requires there { k < length ends.now.items }

@@ -2,7 +2,7 @@ ghost use Rattle.std.specs.Prelude.{◌≡◌, ◌^◌, ◌<◌};
 
 use ra_base::{Fixed, Resource, Service};
 
-/// One resource: whether it is used in transition as well, and the weight of its load cost.
+/// One resource: whether it is transient, and the weight of its load cost.
 #[derive(Clone, Copy)]
 pub struct ResourceRow {
     /// Whether a process that moves uses the resource on its old machine and on its new one.
@@ -28,7 +28,7 @@ pub struct MachineRow {
 pub struct ServiceRow {
     /// The least number of different locations that hold a process of the service.
     pub spread_min: u32,
-    /// The place behind the service's last dependency in the list of all dependencies. Those of service `s` go from the
+    /// The place after the service's last dependency in the list of all dependencies. Those of service `s` go from the
     /// end of service `s - 1` to its own end.
     pub dependency_end: u32,
     ghost small_spread: { spread_min < 2 ^ 32 },
@@ -65,7 +65,7 @@ pub struct RawInstance {
     pub capacities: Fixed<u32>,
     /// By machine, then resource.
     pub safeties: Fixed<u32>,
-    /// By the machine that is left, then the machine that is taken.
+    /// By the machine that is left, then the machine that is entered.
     pub move_costs: Fixed<u32>,
     pub services: Fixed<ServiceRow>,
     /// The services on which each service depends, service after service.
@@ -82,8 +82,8 @@ pub struct RawInstance {
     ghost small_machine_weight: { machine_weight < 2 ^ 32 },
 }
 
-/// Lets all lists go. It is written out so that the end of an owner is one call, and not the ends of ten lists at each
-/// of its exits, which take long to prove.
+/// Frees all lists. It is written out so that the end of an owner is one call, and not the ends of ten lists at each of
+/// its exits, which take long to prove.
 impl Drop for RawInstance {
     fn drop(self) {
         let RawInstance {
@@ -111,7 +111,7 @@ pub struct Tables {
     pub closed: Option<Fixed<bool>>,
 }
 
-/// Lets the lists and the flags go, in one call, as `RawInstance` does.
+/// Frees the lists and the flags in one call, as `RawInstance` does.
 impl Drop for Tables {
     fn drop(self) {
         let Tables { raw: _, closed: _ } = self;
@@ -121,7 +121,7 @@ impl Drop for Tables {
 impl Tables {
     ghost use Rattle.ra_model.specs.Numbers.{with_closed, with_processes};
 
-    /// The same lists with exactly the flagged machines closed.
+    /// These lists with exactly the flagged machines closed.
     pub(crate) fn closing(self, flags: Fixed<bool>) -> Tables
         ensures { result ≡ with_closed self flags }
     {
@@ -132,7 +132,7 @@ impl Tables {
         }
     }
 
-    /// The same lists with other processes, which require these numbers. The same machines are closed.
+    /// These lists with other processes, which require these numbers. As before, the flagged machines are closed.
     pub(crate) fn with_processes(self, rows: Fixed<ProcessRow>, requirements: Fixed<u32>) -> Tables
         ensures { result ≡ with_processes self rows requirements }
     {

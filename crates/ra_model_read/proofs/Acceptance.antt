@@ -1,4 +1,4 @@
--- Formats that accept a text, whatever comes behind it.
+-- Formats that accept a text, whatever comes after it.
 use Rattle.std.proofs.Common.{◌≡◌, ℕ, zero, suc, ◌<◌, ◌≤◌, refl, ap, ◌∙◌, sym, List, [], ◌∷◌, ◌++◌, length, map, take}
 use Rattle.std.proofs.Common.{drop, Bool, true, false, None, arith, append_assoc}
 use Rattle.std.proofs.lemmas.List.{take-append-drop, take-map}
@@ -14,7 +14,7 @@ use Rattle.ra_model_read.specs.FieldOrder.{joined}
 use Rattle.ra_model_read.proofs.Outcomes.{bind_read}
 use Rattle.ra_model_read.proofs.Limited.{limited_fits}
 
--- these tokens, and what is left behind them
+-- these tokens, and what is left after them
 abbrev pub before : List Token → Left → Left
 before ts after = record { tokens = ts ++ after.tokens; fault = after.fault }
 

@@ -68,7 +68,7 @@ pub is_model : (told : Option (List ℕ)) (raw : RawInstance) (i : Tables) → i
 is_model None raw i e meant = tt
 is_model (Some bytes) raw i e meant = subst (IsModel bytes) (sym e) (record { lists = meant; open_to_all = refl })
 
--- want of memory is no matter of content
+-- a refusal for memory is not because of the bytes
 pub no_content : is_by_content NoMemory ≡ true → ⊥
 unfolding is_by_content
 no_content e = cc

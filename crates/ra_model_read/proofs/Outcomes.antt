@@ -14,7 +14,7 @@ pub bind_refused : {X Y : Type 0} → (f : Format X) (next : X → Format Y) (l 
 unfolding ◌>>=◌ go_on
 bind_refused f next l fault e = rw e refl
 
--- the same if what is left may be untold
+-- if what is left may be untold, one format reads and then the next
 
 pub told_bind : {X Y : Type 0} → (f : Format X) (next : X → Format Y) (x : X) (y : Y) (o p q : Option Left) →
     option_map f o ≡ option_map (Read x) p → option_map (next x) p ≡ option_map (Read y) q →

@@ -39,7 +39,7 @@ unfolding field
 within_back what item least most l m v e = let through = bind_back (next_token what item) _ l m v e in
     limited_back what least most through.value through.left m v through.second
 
--- a count within its limits, and what is known when so many were read
+-- a count within its limits, and what holds after as many were read
 pub record Counted {X : Type 0} (least most : ℕ) (Known : ℕ → ℕ → X → Type 0) (all : X) : Type 0 where
   pub count : ℕ
   pub within : Within least most count

@@ -41,7 +41,7 @@ pub balance_pushed : (rows new : List BalanceRow) (row : BalanceRow) → new ≡
     map of_balance new ≡ map of_balance rows ++ of_balance row ∷ []
 balance_pushed rows new row e = ap (map of_balance) e ∙ map-append of_balance rows (row ∷ [])
 
--- a count of rows is a count of what stands in them
+-- a count of rows is a count of what is in them
 pub counted : {X Y : Type 0} (f : X → Y) (rows : List X) (n : ℕ) → n ≡ length rows → n ≡ length (map f rows)
 counted f rows n e = e ∙ sym (length-map rows f)
 

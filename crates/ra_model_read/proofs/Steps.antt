@@ -66,7 +66,7 @@ refuses_next {X} {Y} {f} next {a} {b} {c} {x} {fault} one two = record {
   told = λ by_content. told_refused_next f next x fault (left_of a) (left_of b) one.value (two.told by_content);
 }
 
--- want of memory tells nothing of the file
+-- a refusal for memory tells nothing of the file
 pub refuses_memory : {X : Type 0} (f : Format X) {a b : Here} → Goes a b → Refuses f a b NoMemory
 unfolding is_by_content
 refuses_memory f goes = record { goes = goes; rose = λ e. cc; told = λ e. cc }

@@ -54,7 +54,7 @@ numbers_of i =
     ++ (counted (balance_count i) (balance_numbers i)
     ++ (process_weight_of i ∷ service_weight_of i ∷ machine_weight_of i ∷ [])))))
 
--- the bytes are the text of an instance: no fault, and its numbers, no more and no fewer
+-- the bytes are the text of an instance: they have no fault, and their numbers are exactly those of the instance
 pub record IsTextOf (bytes : List ℕ) (i : Tables) : Type 0 where
   pub sound : first_fault bytes ≡ None
   pub numbers : map value_of (tokens bytes) ≡ numbers_of i

@@ -10,12 +10,12 @@ use Rattle.ra_model_read.specs.declared.faults.ModelFault.{ModelFault}
 use Rattle.ra_model_read.specs.declared.faults.ModelFault.TheVariants.{ReadFault, BadByte, TooLarge, TooLong, Missing}
 use Rattle.ra_model_read.specs.declared.faults.ModelFault.TheVariants.{Range, Flag, Extra, NoMemory}
 
--- what is left of a file: its tokens, and the fault that comes behind them, if there is one
+-- what is left of a file: its tokens, and the fault after them, if there is one
 pub record Left : Type 0 where
   pub tokens : List Token
   pub fault : Option TokenFault
 
--- what a format makes of it: a value with what is left then, or the one refusal
+-- what a format makes of it: a value with what is left after it, or the one refusal
 pub data Outcome (X : Type 0) : Type 0 where
   Read : X → Left → Outcome X
   Refused : ModelFault → Outcome X
@@ -23,11 +23,11 @@ pub data Outcome (X : Type 0) : Type 0 where
 abbrev pub Format : Type 0 → Type 0
 Format X = Left → Outcome X
 
--- nothing is taken
+-- takes no token, and gives a value
 unfoldable pub pure : {X : Type 0} → X → Format X
 pure x left = Read x left
 
--- nothing is taken, and this is wrong
+-- takes no token, and refuses
 unfoldable pub refuse : {X : Type 0} → ModelFault → Format X
 refuse fault left = Refused fault
 
@@ -40,7 +40,7 @@ infixl 10 ◌>>=◌
 unfoldable pub ◌>>=◌ : {X Y : Type 0} → Format X → (X → Format Y) → Format Y
 (f >>= next) left = go_on (f left) next
 
--- the fault of a token, as one of a model
+-- the fault of a token, as a fault of a model
 unfoldable pub token_fault : TokenFault → ModelFault
 token_fault told.ReadFault = ReadFault
 token_fault (told.BadByte at byte) = BadByte at byte
@@ -48,7 +48,7 @@ token_fault (told.TooLarge at) = TooLarge at
 token_fault told.TooLong = TooLong
 token_fault told.NoMemory = NoMemory
 
--- where the tokens end: the fault that comes there, or else this one
+-- the refusal at the end of the tokens: the fault that comes there, and else this one
 unfoldable pub fault_or : Option TokenFault → ModelFault → ModelFault
 fault_or None otherwise = otherwise
 fault_or (Some fault) otherwise = token_fault fault
@@ -89,7 +89,7 @@ unfoldable pub along : {X : Type 0} → ℕ → (ℕ → X → Format X) → X �
 along zero step so_far = pure so_far
 along (suc n) step so_far = along n step so_far >>= step n
 
--- one more field of any value, behind those so far
+-- one more field of any value, after those so far
 unfoldable pub number_more : Field → ℕ → ℕ → List ℕ → Format (List ℕ)
 number_more what first k so_far = any what (first + k) >>= λ x. pure (so_far ++ x ∷ [])
 

@@ -17,7 +17,7 @@ pub record MachineNumbers : Type 0 where
   pub neighbourhood : ℕ
   pub location : ℕ
 
--- a service's dependencies stand in one list for all services, and end before this place
+-- a service's dependencies are in one list for all services, and end before this place
 pub record ServiceNumbers : Type 0 where
   pub spread_min : ℕ
   pub dependency_end : ℕ
@@ -65,7 +65,7 @@ pub record Lists : Type 0 where
   pub balances : List BalanceNumbers
   pub weights : Weights
 
--- what stands in the rows of an instance
+-- the numbers in the rows of an instance
 
 abbrev pub of_resource : ResourceRow → ResourceNumbers
 of_resource row = record { transient = row.transient; load_weight = row.load_weight }

@@ -58,7 +58,7 @@ dependency S first k so_far = do
   needed ← field Dependency (first + k) 0 (S - 1)
   pure (so_far ++ record { 0 = needed } ∷ [])
 
--- so many dependencies more, each on one of S services
+-- this number of dependencies more, each on one of S services
 abbrev pub dependencies_more : ℕ → ℕ → List Service → Format (List Service)
 dependencies_more S count so_far = along count (dependency S (length so_far)) so_far
 
@@ -165,6 +165,6 @@ pub record IsModel (bytes : List ℕ) (i : Tables) : Type 0 where
   pub lists : model_of bytes ≡ Ok (lists_of i.raw)
   pub open_to_all : i.closed ≡ None
 
--- what is wrong first with bytes that mean no instance
+-- the first thing that is wrong with bytes that mean no instance
 unfoldable pub model_refusal : List ℕ → Option ModelFault
 model_refusal bytes = result_err (model_of bytes)

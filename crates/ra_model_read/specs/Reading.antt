@@ -11,11 +11,11 @@ use Rattle.ra_model_read.specs.declared.faults.ModelFault.TheVariants.{ReadFault
 use Rattle.ra_model_read.specs.declared.faults.ModelFault.TheVariants.{Range, Flag, Extra, NoMemory}
 use Rattle.ra_model_read.specs.Formats.{Left, Read, Refused, Format}
 
--- the files that a call is lent and a reader, at one moment
+-- the files that a call borrows and a reader, at one moment
 abbrev pub seen : {F : Type 0} → files.Ghosts F → F → Standing → Here
 seen told now tokens = here (told.held now) (told.faults now) tokens
 
--- what is left of bytes for a reader at a place
+-- what is left of bytes after a place
 unfoldable pub left_from : ℕ → List ℕ → Left
 left_from place bytes =
     record { tokens = drop (tokens_before bytes place) (tokens bytes); fault = first_fault bytes }
@@ -24,12 +24,12 @@ left_from place bytes =
 unfoldable pub left_of : Here → Option Left
 left_of a = option_map (left_from a.tokens.place) (a.held a.tokens.name)
 
--- the format gives this value, and what is left then is left for the reader
+-- the format gives this value, and the reader has left what the format leaves
 pub record Gives {X : Type 0} (f : Format X) (a b : Here) (x : X) : Type 0 where
   pub goes : Goes a b
   pub value : option_map f (left_of a) ≡ option_map (Read x) (left_of b)
 
--- a refusal for what the bytes are, and not for what happened in reading them
+-- a refusal because of the bytes, and not because of a failure to read them
 unfoldable pub is_by_content : ModelFault → Bool
 is_by_content ReadFault = false
 is_by_content (BadByte at byte) = true
@@ -41,7 +41,7 @@ is_by_content (Flag at value) = true
 is_by_content (Extra at) = true
 is_by_content NoMemory = false
 
--- the format refuses what is left as this, or a count rose, or memory was refused
+-- the format refuses what is left with this fault, or a failed fetch was counted, or the system refused memory
 pub record Refuses {X : Type 0} (f : Format X) (a b : Here) (fault : ModelFault) : Type 0 where
   pub goes : Goes a b
   pub rose : fault ≡ ReadFault → Rose (a.faults a.tokens.name) (b.faults a.tokens.name)

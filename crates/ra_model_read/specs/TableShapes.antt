@@ -14,7 +14,7 @@ use Rattle.ra_model_read.specs.declared.tables.WeightNumbers.{WeightNumbers}
 use Rattle.ra_model_read.specs.Lists.{MachineLists, ServiceLists, ProcessLists, Weights, Rest, of_machine, of_service}
 use Rattle.ra_model_read.specs.Lists.{of_process, of_balance}
 
--- the lists of tables
+-- the lists of the tables
 
 abbrev pub machine_lists : MachineTables → MachineLists
 machine_lists t =
@@ -42,7 +42,7 @@ rest_lists t =
       weights = weight_numbers t.weights;
     }
 
--- rows of zeros, which are read behind the last row
+-- rows of zeros, which are used past the last row
 
 abbrev pub zero_service : ServiceRow
 zero_service =

@@ -1,4 +1,4 @@
--- What a model file means if its bytes are told, and the law of its text, which says it without formats.
+-- What a model file means if its bytes are told, and the law of its text, which states it without formats.
 use Rattle.std.specs.Prelude.{◌≡◌, ◌↔◌, ℕ, List, Option, None, IfSome}
 use Rattle.ra_model.specs.declared.raw.Tables.{Tables}
 use Rattle.ra_model.specs.Limits.{WellFormed}
@@ -9,12 +9,11 @@ use Rattle.ra_model_read.specs.ModelText.{IsModel}
 abbrev pub IsToldModel : Option (List ℕ) → Tables → Type 0
 IsToldModel told i = IfSome told (λ bytes. IsModel bytes i)
 
--- the bytes, if they are told, are the text of it
+-- the bytes, if they are told, are the text of the instance of these tables
 abbrev pub IsToldText : Option (List ℕ) → Tables → Type 0
 IsToldText told i = IfSome told (λ bytes. IsTextOf bytes i)
 
--- the bytes mean an instance exactly if it is within the limits, no machine of it is closed, and the bytes are the text
--- of it
+-- the bytes mean an instance exactly if it is within the limits, closes no machine, and the bytes are its text
 abbrev pub ModelIsItsNumbers : List ℕ → Type 0
 ModelIsItsNumbers bytes =
     (i : Tables) → IsModel bytes i ↔ (WellFormed i × (i.closed ≡ None) × IsTextOf bytes i)

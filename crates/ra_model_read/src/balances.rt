@@ -13,7 +13,7 @@ use ra_model::BalanceRow;
 use ra_token::Tokens;
 use std::alloc::Global;
 
-/// The balance objectives, on so many resources: their count, and then each.
+/// The balance objectives over this number of resources: their count, and then each.
 pub(crate) fn read_balances<F: Files>(
     alloc: Global,
     files: &mut F,

@@ -1,7 +1,7 @@
 use ra_base::NoMemory;
 use thiserror::Error;
 
-/// What a number of a model file stands for. The fields of a file follow one another in a fixed order.
+/// What a number of a model file means. The fields of a file follow one another in a fixed order.
 #[derive(Clone, Copy, Debug, PartialEq, Eq)]
 pub enum Field {
     /// How many resources there are.
@@ -56,7 +56,7 @@ pub enum Field {
     MachineWeight,
 }
 
-/// Why a model file was refused: the first thing that is wrong with it, or a cause outside it.
+/// Why a model file is refused: the first thing that is wrong with it, or a cause outside it.
 #[derive(Clone, Copy, Debug, PartialEq, Eq, Error)]
 pub enum ModelFault {
     /// A fetch failed, and the count of faults of the file rose.
@@ -76,10 +76,10 @@ pub enum ModelFault {
         /// The place of its first digit.
         at: u64,
     },
-    /// The file has more bytes than are read.
+    /// The file has more bytes than the reader takes.
     #[error("too long")]
     TooLong,
-    /// The file ends where a field is due.
+    /// The file ends before this field.
     #[error("{what:?} is missing")]
     Missing {
         /// The field.
@@ -115,7 +115,7 @@ pub enum ModelFault {
         /// The place of the number.
         at: u64,
     },
-    /// Memory was refused.
+    /// The system refused memory.
     #[error("out of memory")]
     NoMemory,
 }

@@ -8,7 +8,7 @@ use ra_base::Fixed;
 use ra_io::Files;
 use ra_token::{Token, TokenFault, Tokens};
 
-/// The fault of a token, as one of a model.
+/// The fault of a token, as a fault of a model.
 #[tactic(auto, unfolding(crate::specs::Formats::token_fault))]
 pub(crate) fn model_fault(fault: TokenFault) -> ModelFault
     ensures { result ≡ token_fault fault }
@@ -114,7 +114,7 @@ pub(crate) fn read_flag<F: Files>(
     }
 }
 
-/// Adds `count` fields of any value to a table. Their item numbers are `first` and those that follow.
+/// Adds `count` fields of any value to a table. Their item numbers are `first` and the numbers after it.
 pub(crate) fn read_numbers<F: Files>(
     files: &mut F,
     tokens: &mut Tokens,

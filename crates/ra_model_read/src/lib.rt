@@ -1,6 +1,6 @@
 //! The reader of model files: the one instance that the bytes mean, or the first refusal.
 //!
-//! The order of the fields, their numbering and their limits stand once, in `specs/ModelText.antt`.
+//! `specs/ModelText.antt` defines, once, the order of the fields, their numbering and their limits.
 #![tactic(auto)]
 
 mod balances;

@@ -13,7 +13,7 @@ use ra_model::MachineRow;
 use ra_token::Tokens;
 use std::alloc::Global;
 
-/// The machines, for so many resources: their count, and then each.
+/// The machines, over this number of resources: their count, and then each.
 pub(crate) fn read_machines<F: Files>(
     alloc: Global,
     files: &mut F,
@@ -38,7 +38,7 @@ pub(crate) fn read_machines<F: Files>(
     Ok(tables)
 }
 
-/// Tables for so many machines, with none in them yet.
+/// Empty tables with room for this number of machines.
 fn machine_tables(
     alloc: Global,
     resource_count: u32,

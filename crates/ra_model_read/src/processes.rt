@@ -13,7 +13,7 @@ use ra_model::ProcessRow;
 use ra_token::Tokens;
 use std::alloc::Global;
 
-/// The processes, of so many services and for so many resources: their count, and then each.
+/// The processes, over these numbers of services and of resources: their count, and then each.
 pub(crate) fn read_processes<F: Files>(
     alloc: Global,
     files: &mut F,
@@ -47,7 +47,7 @@ pub(crate) fn read_processes<F: Files>(
     Ok(tables)
 }
 
-/// Tables for so many processes, with none in them yet.
+/// Empty tables with room for this number of processes.
 fn process_tables(
     alloc: Global,
     service_count: u32,

@@ -32,7 +32,8 @@ pub fn read_model<F: Files>(
     files: &mut F,
     name: &str,
 ) -> Result<Instance, ModelFault>
-    // If the bytes are told, they mean this instance and are its text, or this is wrong with them first.
+    // If the bytes are told, they mean this instance and are its text, or this is the first thing that is wrong with
+    // them.
     ensures model { IfOk result (λ inst. IsToldModel (F.held files.old name.now) inst.tables) }
     ensures text { IfOk result (λ inst. IsToldText (F.held files.old name.now) inst.tables) }
     ensures refused { IfErr result (λ fault. IsTrue (is_by_content fault) →
@@ -91,7 +92,7 @@ fn read_raw<F: Files>(
     })
 }
 
-/// What follows so many services, for so many resources, up to the end of the file.
+/// What follows the services, over these numbers of services and of resources, up to the end of the file.
 fn read_rest<F: Files>(
     alloc: Global,
     files: &mut F,
@@ -121,7 +122,7 @@ fn read_rest<F: Files>(
     })
 }
 
-/// The three weights of moves.
+/// The weights of the three costs of moves.
 fn read_weights<F: Files>(files: &mut F, tokens: &mut Tokens) -> Result<WeightNumbers, ModelFault>
     requires { Stands (seen F.Files files.old tokens.old) }
     ensures gives { IfOk result (λ read.

@@ -13,7 +13,7 @@ use ra_model::ServiceRow;
 use ra_token::Tokens;
 use std::alloc::Global;
 
-/// The most dependencies of all services together.
+/// The most dependencies that all services have together.
 const MOST_DEPENDENCIES: u32 = 100_000;
 
 /// The services: their count, and then each.
@@ -38,7 +38,7 @@ pub(crate) fn read_services<F: Files>(
     Ok(tables)
 }
 
-/// Tables for so many services, with none in them yet.
+/// Empty tables with room for this number of services.
 fn service_tables(alloc: Global, service_count: u32) -> Result<ServiceTables, ModelFault>
     ensures none { IfOk result (HasServices service_count 0) }
     ensures memory { IfErr result (λ fault. fault ≡ ModelFault.NoMemory) }
@@ -84,7 +84,7 @@ fn read_service<F: Files>(
     Ok(())
 }
 
-/// So many dependencies more, each on one of the services.
+/// Adds this number of dependencies, each on one of the services.
 fn read_dependencies<F: Files>(
     files: &mut F,
     tokens: &mut Tokens,

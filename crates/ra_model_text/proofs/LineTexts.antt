@@ -1,4 +1,4 @@
--- Lines behind lines, and how long the text of a line of small numbers is.
+-- Lines after lines, and how long the text of a line of small numbers is.
 use Rattle.std.proofs.Common.{◌≡◌, ℕ, ◌+◌, ◌*◌, ◌^◌, ◌<◌, ◌≤◌, List, [], ◌∷◌, ◌++◌, length, refl, sym, ap, ◌∙◌, arith}
 use Rattle.std.proofs.Common.{append_assoc, length-append}
 use Rattle.std.proofs.lemmas.Fmt.{length-decimal-le}

@@ -31,7 +31,7 @@ number_ahead bytes n ns rest numbers small h =
     ahead_number bytes (more_text ns ++ rest) numbers n (small 0 0 (omega arith)) (no_digit_ahead ns rest)
     (subst (λ all. Ahead bytes all numbers) (append_assoc (decimal n) (more_text ns) rest) h)
 
--- over those behind it, and the end of the line
+-- past the numbers after the first, and the end of the line
 more_ahead : (bytes ns rest numbers : List ℕ) → Small ns → Ahead bytes (more_text ns ++ rest) numbers →
     Ahead bytes rest (numbers ++ ns)
 unfolding more_text

@@ -22,7 +22,7 @@ use Rattle.ra_model_text.proofs.Counts.{numbers_few}
 use Rattle.ra_model_text.proofs.SmallNumbers.{model_told}
 use Rattle.ra_model_text.proofs.Telling.{tells_whole}
 
--- flags of closed machines are no matter of the limits and of the numbers
+-- flags of closed machines don't matter for the limits and the numbers
 
 fits_open : (i : Tables) → WellFormed i → WellFormed (all_open i.raw)
 unfolding process_count service_of process_row

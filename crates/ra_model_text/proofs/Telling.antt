@@ -13,7 +13,7 @@ use Rattle.ra_model_text.proofs.LineTexts.{IsSmall, line_short}
 use Rattle.ra_model_text.proofs.LineTokens.{Small, line_ahead}
 use Rattle.ra_model_text.specs.ModelTexts.{group_text}
 
--- the tokens of the text are the numbers, whatever is before it and behind it, and it is not long
+-- the tokens of the text are the numbers, whatever is before it and after it, and it is not long
 pub record Tells (text numbers : List ℕ) : Type 0 where
   pub ahead : (bytes rest before : List ℕ) → Ahead bytes (text ++ rest) before → Ahead bytes rest (before ++ numbers)
   pub short : length text ≤ 12 * length numbers

@@ -2,7 +2,7 @@
 use Rattle.std.specs.Prelude.{ℕ, List, [], ◌∷◌, ◌++◌}
 use Rattle.std.specs.Fmt.{decimal}
 
--- the numbers behind the first of a line: a space and the number for each, and LF
+-- the numbers after the first of a line: a space and the number for each, and LF
 unfoldable pub more_text : List ℕ → List ℕ
 more_text [] = 10 ∷ []
 more_text (n ∷ ns) = 32 ∷ decimal n ++ more_text ns

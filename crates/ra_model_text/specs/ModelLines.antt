@@ -1,4 +1,4 @@
--- What of a line and of a group is written so far.
+-- What is written so far of a line and of a group.
 use Rattle.std.specs.Prelude.{ℕ, zero, suc, List, [], ◌∷◌, ◌++◌}
 use Rattle.std.specs.Fmt.{decimal}
 use Rattle.std.specs.List.{flat_map}

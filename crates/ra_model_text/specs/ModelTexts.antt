@@ -21,7 +21,7 @@ resource_text i r = line_text (resource_numbers i r)
 unfoldable pub machine_text : Tables → ℕ → List ℕ
 machine_text i m = line_text (machine_numbers i m)
 
--- a service: its spread, how many dependencies it has, and those
+-- a service: its spread, the number of its dependencies, and the dependencies
 unfoldable pub service_text : Tables → ℕ → List ℕ
 service_text i s = line_text (service_numbers i s)
 

@@ -13,7 +13,7 @@ use ra_model::Instance;
 use ra_report_text::{Gathered, Line};
 use std::sync::ledger::Ledger;
 
-/// How many numbers are written into a line at a time: with a space and up to twenty digits each, so many fit.
+/// How many numbers are written into a line at a time: this many fit, with a space and up to twenty digits each.
 const NUMBERS_AT_ONCE: usize = 19;
 
 /// Adds the digits of the first number of a line.
@@ -131,7 +131,7 @@ fn add_numbers<O: Sink>(text: &mut Gathered<'_, O>, numbers: &[u32])
     }
 }
 
-/// Writes a line anew: numbers, with a space before each.
+/// Empties a line and writes numbers into it, with a space before each.
 #[inline(always)]
 fn write_numbers(line: &mut Line, numbers: &[u32])
     requires { length numbers.now ≤ NUMBERS_AT_ONCE }

@@ -27,7 +27,7 @@ use Rattle.ra_moves.proofs.Local.{closed_local}
 use Rattle.ra_moves.proofs.AlikeLemmas.{named_same, same_on_after, same_of_after, use_alike, transient_alike}
 use Rattle.ra_moves.proofs.AlikeLemmas.{on_machine_alike, in_neighbourhood_alike, locations_alike}
 
--- the same steps move two assignments that break nothing and are alike for them
+-- one list of steps moves two assignments that break nothing and are alike for them
 pub record BothMove (i : Tables) (a0 a b : List Machine) (steps : List Step) : Type 0 where
   pub one : IsMove i a steps
   pub other : IsMove i b steps

@@ -37,7 +37,7 @@ total_agrees n test old_one new_one old_other new_other one_kept other_kept old_
 
 -- the costs of one machine
 
--- on a machine that is no end they stay
+-- on a machine that is not an end they stay
 pub load_stays : (i : Tables) (a : List Machine) (steps : List Step) (m : ℕ) → IsMove i a steps →
     ends_at steps m ≡ false → machine_load i (applied a steps) m ≡ machine_load i a m
 unfolding machine_load

@@ -54,7 +54,7 @@ pub spread_told : (i : Tables) (a b : List Machine) (s : ℕ) → locations_of i
 unfolding spread_test
 spread_told i a b s same = ap (λ u. cause_if (ltb u (spread_of i s)) (Spread (record { 0 = s }) u (spread_of i s))) same
 
--- the same machine, and as many near it
+-- the test gives as much for one machine with as many processes near it
 pub far_told : (i : Tables) (a b : List Machine) (s k p : ℕ) → machine_at a p ≡ machine_at b p →
     ((label : ℕ) → in_neighbourhood i a (need_of i s k) label ≡ in_neighbourhood i b (need_of i s k) label) →
     far_test i a s k p ≡ far_test i b s k p

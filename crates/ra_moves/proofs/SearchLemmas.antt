@@ -14,7 +14,7 @@ first_agrees n test f g one other same = first_same n f g (λ k within. ⊎_elim
     (λ (no : test k ≡ false). one.others k within no ∙ sym (other.others k within no))
     (cases_Bool (test k)))
 
--- the same test in other words
+-- a test may be put in other words
 pub only_tested : (n : ℕ) (test other : ℕ → Bool) (f : ℕ → Option Cause) → ((k : ℕ) → test k ≡ other k) →
     OnlyWhere n test f → OnlyWhere n other f
 only_tested n test other f same only = record { others = λ k within no. only.others k within (same k ∙ no) }

@@ -97,7 +97,7 @@ pub on_machine_same : (i : Tables) (a : List Machine) (steps : List Step) (s m :
 unfolding on_machine
 on_machine_same i a steps s m move none = members_same i a steps s (λ p at. eqb at m) move none
 
--- on a machine that is no end, of any service
+-- on a machine that is not an end, of any service
 pub on_machine_stays : (i : Tables) (a : List Machine) (steps : List Step) (s m : ℕ) → IsMove i a steps →
     ends_at steps m ≡ false → on_machine i (applied a steps) s m ≡ on_machine i a s m
 unfolding on_machine members_at

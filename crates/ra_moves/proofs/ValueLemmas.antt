@@ -74,7 +74,7 @@ pub end_to : (steps : List Step) (j : ℕ) → end_in steps (length steps + j) �
 unfolding end_in
 end_to steps j = cond-false (ltb (length steps + j) (length steps)) _ _ (grind arith) ∙ ap (to_in steps) (omega arith)
 
--- a machine that is no end is neither left nor entered
+-- a machine that is not an end is neither left nor entered
 pub not_left : (steps : List Step) (m j : ℕ) → is_named (end_count steps) (end_in steps) m ≡ false → j < length steps →
     from_in steps j ≢ m
 unfolding end_count
@@ -94,7 +94,7 @@ pub use_elsewhere : (i : Tables) (m r p at : ℕ) → at ≢ m → use_share i m
 unfolding use_share
 use_elsewhere i m r p at apart = cond-false (eqb at m) _ _ (ne_eqb at m apart)
 
--- the use of a machine that is no end stays
+-- the use of a machine that is not an end stays
 pub use_stays : (i : Tables) (a : List Machine) (steps : List Step) (m r : ℕ) → IsAssignment i a →
     StandsAt from_in steps a → Distinct steps → is_named (end_count steps) (end_in steps) m ≡ false →
     use_of i (applied a steps) m r ≡ use_of i a m r

@@ -1,5 +1,5 @@
--- Two assignments that are alike for a move: its machines hold the same processes in both, and the processes of each
--- service that it moves, or that is joined with one, have the same machines.
+-- Two assignments are alike for a move if its machines hold the same processes in both, and if the processes of each
+-- service that it moves, or that is joined with such a service, have the same machines.
 use Rattle.std.specs.Prelude.{◌≡◌, ℕ, List, true, ◌==◌}
 use Rattle.ra_base.specs.declared.ids.Machine.{Machine}
 use Rattle.ra_model.specs.declared.raw.Tables.{Tables}

@@ -35,12 +35,12 @@ unfoldable pub broken_by : Situation → List Step → Option Cause
 broken_by st steps =
     or_else (repeat_of steps) (or_else (same_of steps) (broken_at (after_move st steps)))
 
--- the cost rises from before to after, which is by more than is allowed
+-- the cost rises from `before` to `after`, which is more than the allowance permits
 unfoldable pub rise_test : ℕ → ℕ → ℕ → Option Cause
 rise_test before after allowed =
     cause_if (nat_lt (before + allowed) after) (Rise allowed before after)
 
--- refused for a cause that is there, else done with a cost
+-- refused for a cause if there is one, else done with a cost
 unfoldable pub verdict_of : Option Cause → ℕ → Verdict
 verdict_of None cost = Done cost
 verdict_of (Some cause) cost = Refused cause

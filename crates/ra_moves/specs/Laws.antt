@@ -21,7 +21,7 @@ use Rattle.ra_moves.specs.Alike.{HeldAlike}
 pub record OnlyWhere (n : ℕ) (test : ℕ → Bool) (found : ℕ → Option Cause) : Type 0 where
   pub others : (k : ℕ) → k < n → test k ≡ false → found k ≡ None
 
--- what can be broken in assignment b, which a move by these steps has made of one that breaks nothing
+-- what can be broken in assignment b, if a move by these steps made it from one that breaks nothing
 pub record AreLocal (i : Tables) (a0 b : List Machine) (steps : List Step) : Type 0 where
   -- capacity and transient use, on a machine that a step leaves or enters
   pub capacity : OnlyWhere (machine_count i) (ends_at steps) (row_capacity i b)
@@ -47,7 +47,7 @@ FailuresAreLocal =
     (i : Tables) (a0 a : List Machine) (steps : List Step) → WellFormed i → IsMove i a steps
     → first_broken i a0 a ≡ None → AreLocal i a0 (applied a steps) steps
 
--- in two assignments that break nothing and are alike for a move, its weighing is the same
+-- a move has the same weighing in two assignments that break nothing and are alike for the move
 abbrev pub WeighingIsDetermined : Type 0
 WeighingIsDetermined =
     (i : Tables) (a0 a b : List Machine) (steps : List Step) → WellFormed i → IsOffered i a steps

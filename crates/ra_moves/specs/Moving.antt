@@ -22,6 +22,6 @@ pub record IsMove (i : Tables) (a : List Machine) (steps : List Step) : Type 0 w
 abbrev pub MayMove : Situation → List Step → Type 0
 MayMove st steps = IsMove st.tables st.here steps
 
--- what can be weighed: unless it names a process twice, it is a move of the assignment
+-- a move that can be weighed: unless it names a process twice, it is a move of the assignment
 abbrev pub IsOffered : Tables → List Machine → List Step → Type 0
 IsOffered i a steps = repeat_of steps ≡ None → IsMove i a steps

@@ -32,7 +32,7 @@ count_of Chain d m = 1
 unfoldable pub option_count : List ℕ → ℕ → Drawing → ℕ
 option_count x m d = count_of (kind_of x) d m
 
--- the process that word j names: its rest by the number of processes
+-- the process that word j names: the word modulo the number of processes
 unfoldable pub drawn : List Machine → List ℕ → ℕ → ℕ
 drawn a x j = slice_index x j % length a
 

@@ -6,7 +6,7 @@ use Rattle.ra_model.specs.Situations.{Situation}
 use Rattle.ra_moves.specs.declared.steps.Step.{Step}
 use Rattle.ra_moves.specs.Steps.{step_at, process_in, to_in}
 
--- all at once: b is a with each named process on its `to`, and processes that aren't named stay
+-- all steps at once: b is a with each named process on its `to`, and the other processes stay
 pub record Applied (steps : List Step) (a b : List Machine) : Type 0 where
   pub same_length : length b ≡ length a
   pub moved : (j : ℕ) → j < length steps → machine_at b (process_in steps j) ≡ to_in steps j
@@ -27,7 +27,7 @@ applied a steps = after_steps a steps (length steps)
 abbrev pub after_move : Situation → List Step → Situation
 after_move st steps = record st { here = applied st.here steps }
 
--- the way back of a step, and of all
+-- the reverse of a step, and of all steps
 unfoldable pub turned_step : Step → Step
 turned_step s = record { process = s.process; from = s.to; to = s.from }
 

@@ -1,4 +1,4 @@
--- The weighing of a move: what it breaks, or else what it changes but for the greatest moved count, which depends on
+-- The weighing of a move: what it breaks, or else what it changes except for the greatest moved count, which depends on
 -- all services (this project's).
 use Rattle.std.specs.Prelude.{ℕ, zero, suc, ◌+◌, ℤ, pos, ◌-ℤ◌, Bool, not, List, [], ◌∷◌, ◌++◌, length, Option, Some}
 use Rattle.std.specs.Prelude.{None, if◌then◌else◌}
@@ -14,13 +14,13 @@ use Rattle.ra_moves.specs.Replacing.{after_move}
 use Rattle.ra_moves.specs.Judging.{broken_by}
 use Rattle.ra_moves.specs.Touched.{service_in}
 
--- load, balance, process and machine cost together
+-- the sum of load, balance, process and machine cost
 unfoldable pub local_cost : Situation → ℕ
 local_cost st =
     load_cost st.tables st.here + balance_cost st.tables st.here + process_cost_at st
     + machine_cost_at st
 
--- how much of it a move adds or takes away
+-- by how much a move changes this sum
 unfoldable pub local_change : Situation → List Step → ℤ
 local_change st steps = pos (local_cost (after_move st steps)) -ℤ pos (local_cost st)
 
@@ -44,7 +44,7 @@ services_moved i steps (suc n) =
     if is_new_service i steps n then services_moved i steps n ++ service_in i steps n ∷ []
     else services_moved i steps n
 
--- the moved counts of service k of some, if there are as many
+-- the moved counts of service k of a list, if the list has so many
 unfoldable pub count_at : Situation → List Step → List ℕ → ℕ → Option MovedCount
 count_at st steps [] k = None
 count_at st steps (s ∷ rest) zero = Some (moved_count st steps s)
@@ -54,15 +54,15 @@ count_at st steps (s ∷ rest) (suc k) = count_at st steps rest k
 unfoldable pub changed_count : Situation → List Step → ℕ → Option MovedCount
 changed_count st steps k = count_at st steps (services_moved st.tables steps (length steps)) k
 
--- if a cause is there, nothing else is told
+-- if there is a cause, nothing else is told
 unfoldable pub weighed_by : Option Cause → ℤ → (ℕ → Option MovedCount) → Weighed
 weighed_by None local counts =
     record { broken = None; local = local; first = counts 0; second = counts 1; third = counts 2 }
 weighed_by (Some cause) local counts =
     record { broken = Some cause; local = pos 0; first = None; second = None; third = None }
 
--- the weighing of a move: the cause other than Rise for which it is refused; else the
--- change of load, balance, process and machine cost together, and the moved counts of the different services
+-- the weighing of a move: the cause other than Rise for which it is refused; else the change of the sum of load,
+-- balance, process and machine cost, and the moved counts of the different services
 unfoldable pub weighed_of : Situation → List Step → Weighed
 weighed_of st steps =
     weighed_by (broken_by st steps) (local_change st steps) (changed_count st steps)

@@ -9,7 +9,7 @@ use crate::moves::Move;
 use crate::steps::{MoveKind, Step};
 use ra_base::{Assignment, Drawing, Machine, Process};
 
-/// How many moves the eight words of a proposal name, over this number of machines.
+/// How many options the eight words of a proposal name, over this number of machines.
 #[tactic(auto, unfolding(crate::specs::Options::option_count, crate::specs::Options::count_of))]
 pub fn options(words: &[u64; 8], machines: u32, drawing: Drawing) -> u32
     requires { 1 ≤ machines }
@@ -21,7 +21,7 @@ pub fn options(words: &[u64; 8], machines: u32, drawing: Drawing) -> u32
 }
 
 /// One of the moves that the eight words of a proposal name: option `option` of assignment `a`, counted from 0. Each of
-/// its processes is on the machine that its step leaves, and they differ unless the move is refused as Repeat.
+/// its processes is on the machine that its step leaves, and the processes differ unless the move is refused as Repeat.
 pub fn resolve(
     a: &Assignment,
     words: &[u64; 8],
@@ -94,7 +94,7 @@ fn machine_of(words: &[u64; 8], machines: u32, drawing: Drawing, option: u32) ->
     }
 }
 
-/// The machine so many places after another one, of machines in a ring.
+/// The machine that is this number of places after another one, if the machines form a ring.
 fn after(first: Machine, places: u32, machines: u32) -> Machine
     requires first { first.0 < machines }
     requires places { places < machines }

@@ -7,7 +7,7 @@ ghost use Rattle.ra_moves.specs.Steps.{process_in};
 use crate::moves::Move;
 use ra_base::{Cause, Process};
 
-/// The cause for which a move is refused whatever it is applied to: Repeat, else Same.
+/// The cause for which a move is refused at any assignment: Repeat, else Same.
 #[tactic(auto, using(ra_base::proofs::Searches::choices))]
 pub fn first_flaw(mv: &Move) -> Option<Cause>
     ensures { result ≡ or_else (repeat_of mv.now.steps) (same_of mv.now.steps) }
@@ -31,7 +31,7 @@ pub fn repeat_of(mv: &Move) -> Option<Cause>
     None
 }
 
-/// One step, if it names a process of an earlier step.
+/// The cause of one step, if it names a process of an earlier step.
 #[inline(always)]
 #[tactic(auto, unfolding(crate::specs::Judging::repeat_test, crate::specs::Steps::process_in, ra_model::specs::Broken::cause_if))]
 fn repeat_test(mv: &Move, j: u32) -> Option<Cause>
@@ -74,7 +74,7 @@ pub fn same_of(mv: &Move) -> Option<Cause>
     None
 }
 
-/// One step, if it leaves its process where it is.
+/// The cause of one step, if it leaves its process where it is.
 #[inline(always)]
 #[tactic(auto, unfolding(crate::specs::Judging::same_test, crate::specs::Steps::process_in, crate::specs::Steps::from_in, crate::specs::Steps::to_in, ra_model::specs::Broken::cause_if))]
 fn same_test(mv: &Move, j: u32) -> Option<Cause>

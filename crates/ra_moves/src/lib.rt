@@ -1,6 +1,6 @@
 //! Moves of processes to other machines: the moves that the words of a proposal name, their effect on an assignment,
-//! and the verdict on a move that was weighed. Over the definitions it says what a move touches, what its weighing is,
-//! and which failures and changes of cost it can bring. Weighing by changes and the guards rest on that.
+//! and the verdict on a move that was weighed. The specs also say what a move touches, what its weighing is, and which
+//! failures and changes of cost it can bring. Weighing by changes and the guards use these laws.
 #![tactic(auto)]
 
 mod drawn;

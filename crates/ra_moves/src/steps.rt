@@ -3,11 +3,12 @@ use ra_base::{Machine, Process};
 /// The kinds of moves.
 #[derive(Clone, Copy, Debug, PartialEq, Eq)]
 pub enum MoveKind {
-    /// A process goes to a machine. One step.
+    /// One step: a process goes to a machine.
     Shift,
-    /// Two processes exchange their machines. Two steps.
+    /// Two steps: two processes exchange their machines.
     Swap,
-    /// A process takes the machine of a second, which takes that of a third, which goes to a machine. Three steps.
+    /// Three steps: a process goes to the machine of a second one, which goes to the machine of a third one, which goes
+    /// to a machine.
     Chain,
 }
 

@@ -6,21 +6,21 @@ ghost use Rattle.ra_moves.specs.Settling.{settled_cost};
 use crate::moves::Move;
 use ra_base::{Cause, MovedCount};
 
-/// What is said of a move.
+/// The verdict on a move.
 #[derive(Clone, Copy, Debug, PartialEq, Eq)]
 pub enum Verdict {
-    /// It is done, and the cost is then this.
+    /// The move is done, and the cost after it is this.
     Done { cost: u128 },
-    /// It is refused for this cause.
+    /// The move is refused for this cause.
     Refused { cause: Cause },
 }
 
-/// What a move breaks or changes, which doesn't depend on the other services.
+/// The weighing of a move: what it breaks, or what it changes that doesn't depend on the services that don't move.
 #[derive(Clone, Copy, Debug, PartialEq, Eq)]
 pub struct Weighed {
-    /// The cause other than Rise for which the move is refused. If there is one, `local` is 0 and no count is there.
+    /// The cause other than Rise for which the move is refused. If there is one, `local` is 0 and no count is given.
     pub broken: Option<Cause>,
-    /// The change of load, balance, process and machine cost together.
+    /// The change of the sum of load, balance, process and machine cost.
     pub local: i128,
     /// The moved counts of the different services of the move, in the order of its steps.
     pub first: Option<MovedCount>,
@@ -37,11 +37,11 @@ pub struct Plan {
     pub k: u64,
     /// The move.
     pub mv: Move,
-    /// Its weighing at that state.
+    /// The move's weighing at that state.
     pub weighed: Weighed,
 }
 
-/// The verdict on a weighed move: its broken cause, or else Rise or Done by the cost after it, which is `kept`, the
+/// The verdict on a weighed move: its broken cause, or else Rise or Done by the cost after it. This cost is `kept`, the
 /// cost so far, and `local`, and the weight times the change of the greatest moved count from `now` to `after`.
 pub fn settle(
     kept: u128,
@@ -63,8 +63,8 @@ pub fn settle(
     }
 }
 
-/// The verdict on a move that breaks nothing: Rise, if the cost after it is above `kept`, the cost so far, by more
-/// than is allowed, and else Done.
+/// The verdict on a move that breaks nothing: Rise, if the cost after it exceeds `kept`, the cost so far, by more than
+/// the allowance permits, and else Done.
 #[tactic(auto, using(crate::proofs::Settled::risen, crate::proofs::Settled::done))]
 pub fn by_rise(kept: u128, cost: u128, allowed: u64) -> Verdict
     requires { kept < 2 ^ 127 + 2 ^ 115 }

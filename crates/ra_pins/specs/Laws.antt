@@ -7,7 +7,7 @@ use Rattle.ra_model.specs.Assignments.{IsAssignment, machine_at}
 use Rattle.ra_model.specs.Feasible.{Feasible}
 use Rattle.ra_pins.specs.Pinned.{round, is_pinned}
 
--- a round never takes a flag away
+-- a round never clears a flag
 abbrev pub RoundsOnlyAdd : Type 0
 RoundsOnlyAdd =
     (i : Tables) (a0 : List Machine) (x : ℕ → Bool) (p : ℕ) → x p ≡ true → round i a0 x p ≡ true

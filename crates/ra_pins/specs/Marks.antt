@@ -22,13 +22,13 @@ pub record AreMarked (i : Tables) (a0 : List Machine) (flags : List Bool) (marks
     pub each : (m s : ℕ) → m < machine_count i → slice_index_or marks m 0 ≡ suc s
         → taken i a0 (flag_at flags) s m ≡ true
 
--- and each machine on which a flagged process of service s starts has the mark
+-- each machine on which a flagged process of service s starts has the mark
 pub record AreStamped (i : Tables) (a0 : List Machine) (flags : List Bool) (s : ℕ) (marks : List ℕ)
     : Type 0 where
   pub each : (m : ℕ) → m < machine_count i
       → (slice_index_or marks m 0 == suc s) ≡ taken i a0 (flag_at flags) s m
 
--- process k of some is flagged and starts on machine m
+-- process k of a list is flagged and starts on machine m
 unfoldable pub is_seat : List Machine → List Bool → List Process → ℕ → ℕ → Bool
 is_seat a0 flags processes m k =
     flag_at flags (member_at processes k) && (machine_at a0 (member_at processes k) == m)

@@ -1,6 +1,6 @@
--- The pinned processes: those that can be on no other machine than that on which they start, whatever the assignment,
--- so long as it is feasible with respect to the start a0. They are found in rounds. A list of flags x says which
--- processes are known to stay; a round adds those that are blocked from every other machine by them.
+-- The pinned processes: those that can be on no machine but their initial one, in any assignment that is feasible with
+-- respect to the start a0. They are found in rounds. A list of flags x says which processes are known to stay; a round
+-- adds those that these block from every other machine.
 use Rattle.std.specs.Prelude.{ℕ, zero, suc, ◌+◌, List, Bool, false, if◌then◌else◌, ◌==◌, ◌&&◌, ◌||◌, not, nat_lt}
 use Rattle.ra_base.specs.Sums.{count}
 use Rattle.ra_base.specs.declared.ids.Machine.{Machine}
@@ -23,11 +23,11 @@ flagged_share i x m r z at = if x z && (at == m) then requirement_of i z r else 
 unfoldable pub flagged_use : Tables → List Machine → (ℕ → Bool) → ℕ → ℕ → ℕ
 flagged_use i a0 x m r = tally (process_count i) (flagged_share i x m r) a0
 
--- beside the flagged processes that start on machine m, resource r is too little for process p
+-- on machine m too little of resource r is left for process p by the flagged processes that start there
 unfoldable pub lacks : Tables → List Machine → (ℕ → Bool) → ℕ → ℕ → ℕ → Bool
 lacks i a0 x p m r = nat_lt (capacity_of i m r) (flagged_use i a0 x m r + requirement_of i p r)
 
--- resource r is transient, and beside all processes that start on machine m it is too little for process p
+-- resource r is transient, and all processes that start on machine m leave too little of it for process p
 unfoldable pub lacks_between : Tables → List Machine → ℕ → ℕ → ℕ → Bool
 lacks_between i a0 p m r =
     transient_at i r && nat_lt (capacity_of i m r) (use_of i a0 m r + requirement_of i p r)
@@ -49,7 +49,7 @@ blocked i a0 x p m =
     || (some_of (resource_count i) (lacks_between i a0 p m)
     || taken i a0 x (service_of i p) m))
 
--- another machine than that of process p, from which p isn't blocked
+-- a machine other than that of process p, from which p isn't blocked
 unfoldable pub is_open : Tables → List Machine → (ℕ → Bool) → ℕ → ℕ → Bool
 is_open i a0 x p m = not (m == machine_at a0 p) && not (blocked i a0 x p m)
 
@@ -66,7 +66,7 @@ unfoldable pub rounds : Tables → List Machine → ℕ → ℕ → Bool
 rounds i a0 zero = λ p. false
 rounds i a0 (suc n) = round i a0 (rounds i a0 n)
 
--- the pinned processes: what as many rounds give as there are processes
+-- the pinned processes: those that are flagged after as many rounds as there are processes
 unfoldable pub is_pinned : Tables → List Machine → ℕ → Bool
 is_pinned i a0 = rounds i a0 (process_count i)
 

@@ -18,7 +18,7 @@ pub record AreSound (i : Tables) (a0 : List Machine) (flags : List Bool) : Type 
   pub one_each : length flags ≡ process_count i
   pub each : (p : ℕ) → p < process_count i → flag_at flags p ≡ true → is_pinned i a0 p ≡ true
 
--- what holds at all times
+-- what holds at all times during the search
 pub record IsSearch (i : Tables) (a0 : List Machine) (s : Search) : Type 0 where
   pub flags : AreSound i a0 s.flags.items
   pub kept : AreKept i a0 (flag_at s.flags.items) s.kept.items
@@ -49,8 +49,8 @@ pub record IsBefore (i : Tables) (s : Search) (t : ℕ) : Type 0 where
 unfoldable pub flag_count : Tables → Search → ℕ
 flag_count i s = count (process_count i) (flag_at s.flags.items)
 
--- between two passes: nothing was flagged in pass t or later, and but for what was flagged in the pass before it each
--- process may rest
+-- between pass t and pass t + 1: no process was flagged after pass t, and each process may rest unless pass t flagged
+-- one on the machine that it looks at
 pub record IsBetween (i : Tables) (a0 : List Machine) (s : Search) (t : ℕ) : Type 0 where
   pub search : IsSearch i a0 s
   pub before : IsBefore i s (t + 1)

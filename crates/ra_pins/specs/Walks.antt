@@ -15,7 +15,7 @@ unfoldable pub spot : ℕ → ℕ → ℕ → ℕ
 spot machines home place =
     if nat_lt (home + place) machines then home + place else (home + place) - machines
 
--- beside what a table keeps for machine m, resource r is too little for process p
+-- what a table keeps for machine m leaves too little of resource r for process p
 unfoldable pub overfull : Tables → List ℕ → ℕ → ℕ → ℕ → Bool
 overfull i kept p m r =
     nat_lt (capacity_of i m r) (cell (resource_count i) kept m r + requirement_of i p r)
@@ -37,7 +37,7 @@ pub record AreWalked (i : Tables) (a0 : List Machine) (flags : List Bool) (place
     pub one_each : length places ≡ process_count i
     pub each : (p : ℕ) → p < process_count i → HasCome i a0 flags p (slice_index_or places p 0)
 
--- a place is the next one, from one on, whose machine isn't blocked, or the end of the circle
+-- a place is the next one, from one on, from whose machine the process isn't blocked, or the end of the circle
 pub record IsWalk (i : Tables) (a0 : List Machine) (flags : List Bool) (p from to : ℕ) : Type 0
   where
     pub onward : from ≤ to

@@ -54,7 +54,7 @@ fn has_mark(inst: &Instance, marks: &Fixed<u32>, s: Service, m: Machine) -> bool
     marks.get(m.0 as usize) == s.0 + 1
 }
 
-/// Whether some resource of a machine is too little for a process, beside what is used there at all times.
+/// Whether a machine has too little of some resource for a process, given what is used there at all times.
 #[tactic(auto, using(ra_base::proofs::Counts::counts), unfolding(crate::specs::Pinned::some_of))]
 fn is_overfull<L: Ledger>(
     inst: &Instance,
@@ -78,7 +78,7 @@ fn is_overfull<L: Ledger>(
     false
 }
 
-/// Whether a resource of a machine is too little for a process.
+/// Whether a machine has too little of a resource for a process.
 #[tactic(auto, unfolding(crate::specs::Walks::overfull))]
 fn exceeds<L: Ledger>(
     inst: &Instance,

@@ -1,5 +1,5 @@
-//! Pinned processes: those that can be on no other machine than their initial one, and so stay there in every
-//! assignment that is feasible with respect to the start.
+//! Pinned processes: a pinned process can be on no machine but its initial one, and so stays there in every assignment
+//! that is feasible with respect to the start.
 #![tactic(auto)]
 
 mod blocked;

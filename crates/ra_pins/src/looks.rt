@@ -99,8 +99,8 @@ fn look<L: Ledger>(
     true
 }
 
-/// Whether a process needn't look: it is flagged, or no process was flagged in pass `t` or later of those that start on
-/// the machine that it looked at.
+/// Whether a process needn't look: it is flagged, or no process that starts on the machine that it looked at was
+/// flagged in pass `t` or later.
 fn rests(inst: &Instance, search: &Search, p: Process, home: Machine, t: u32) -> bool
     requires process { p.0 < process_count inst.now.tables }
     requires home { home.0 < machine_count inst.now.tables }
@@ -120,8 +120,8 @@ fn rests(inst: &Instance, search: &Search, p: Process, home: Machine, t: u32) ->
     search.flags.get(p.0 as usize) || search.fuller.get(at.0 as usize) < t
 }
 
-/// Lets a process go on from its place to the next one whose machine it isn't blocked from, and says how many places
-/// after its own that is, or how many machines there are if there is none.
+/// Moves a process on from its place to the next one whose machine it isn't blocked from. Gives how many places after
+/// its own that is, or how many machines there are if there is none.
 fn walk<L: Ledger>(
     inst: &Instance,
     a0: &Assignment,
@@ -187,8 +187,8 @@ fn next_open<L: Ledger>(
     machines
 }
 
-/// Flags a process that is blocked from every other machine: what it requires is used on its machine at all times, and
-/// those that look there will look again.
+/// Flags a process that is blocked from every other machine: what it requires is then used on its machine at all times,
+/// and the processes that look there will look again.
 fn flag<L: Ledger>(
     inst: &Instance,
     search: &mut Search,

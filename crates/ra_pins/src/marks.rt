@@ -7,8 +7,8 @@ ghost use Rattle.ra_pins.specs.Marks.{AreMarked, AreTouched, AreStamped, AreSeat
 use ra_base::{Assignment, Fixed, Process, Service};
 use ra_model::{Instance, Members, machine_of};
 
-/// Marks the machines on which flagged processes of a service start, by the number of the service and one. A mark that
-/// was set stays true, since flags are never taken away.
+/// Marks the machines on which flagged processes of a service start, by the service's number plus one. A mark that was
+/// set stays true, since no flag is ever cleared.
 pub(crate) fn mark_service(
     inst: &Instance,
     a0: &Assignment,
@@ -32,7 +32,7 @@ pub(crate) fn mark_service(
     }
 }
 
-/// Sets a stamp at the machines on which those of some processes start that are flagged.
+/// Sets a stamp at the machines on which the flagged ones of some processes start.
 fn stamp(
     a0: &Assignment,
     flags: &Fixed<bool>,

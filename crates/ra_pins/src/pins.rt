@@ -18,9 +18,9 @@ use std::alloc::Global;
 use std::marker::{Brand, Model};
 use std::sync::ledger::{Blank, Ledger};
 
-/// The pinned processes of an instance and a start: those that can be on no other machine than that on which they
-/// start, in any assignment that is feasible with respect to the start. And for each machine and resource what those of
-/// them that start there require.
+/// The pinned processes of an instance and a start: those that can be on no machine but their initial one, in any
+/// assignment that is feasible with respect to the start. For each machine and resource it also has what the pinned
+/// processes that start there require.
 pub struct Pins {
     flags: Fixed<bool>,
     machines: u32,
@@ -28,7 +28,7 @@ pub struct Pins {
     loads: Fixed<u64>,
 }
 
-/// Lets all lists go in one call, so that the end of an owner is short to prove.
+/// Frees all lists in one call, so that the end of an owner is short to prove.
 impl Drop for Pins {
     fn drop(self) {
         let Pins {
@@ -101,7 +101,7 @@ impl Pins {
     }
 }
 
-/// The flags of the pinned processes. What the search needs besides ends here.
+/// The flags of the pinned processes. The other tables of the search end here.
 fn flags_of(alloc: Global, inst: &Instance, a0: &Assignment) -> Result<Fixed<bool>, NoMemory>
     requires { IsAssignment inst.now.tables a0.now.items }
     ensures { IfOk result (λ flags. AreExact inst.now.tables a0.now.items flags.items) }

@@ -14,23 +14,23 @@ use std::sync::ledger::{Blank, Ledger};
 
 /// What the search for the pinned processes knows so far.
 pub(crate) struct Search {
-    /// For each process whether it is flagged: it is known to stay.
+    /// For each process whether it is flagged, which means that it is known to stay.
     pub(crate) flags: Fixed<bool>,
-    /// By machine, then resource: what is used at all times, by all that start there if the resource is transient,
-    /// else by the flagged ones.
+    /// By machine, then resource: what is used at all times. If the resource is transient, all processes that start
+    /// there count, else the flagged ones.
     pub(crate) kept: Fixed<u64>,
     /// For each process how many places after its own machine it has come, in the circle of all machines: it is blocked
-    /// from each before that.
+    /// from each machine before that.
     pub(crate) places: Fixed<u32>,
-    /// For each machine the last pass in which a process was flagged that starts there.
+    /// For each machine the last pass that flagged a process that starts there.
     pub(crate) fuller: Fixed<u32>,
     /// For each service whether one of its processes is flagged.
     pub(crate) touched: Fixed<bool>,
-    /// For each machine a service, and one, of which a flagged process starts there.
+    /// For each machine the number, plus one, of a service of which a flagged process starts there.
     pub(crate) marks: Fixed<u32>,
 }
 
-/// Lets all lists go in one call, so that the end of an owner is short to prove.
+/// Frees all lists in one call, so that the end of an owner is short to prove.
 impl Drop for Search {
     fn drop(self) {
         let Search {

@@ -6,7 +6,7 @@ use ra_base::{Fixed, Machine, Process, Resource, Steps, add_to_cell};
 use ra_model::Instance;
 use std::sync::ledger::Ledger;
 
-/// Which resources are meant.
+/// Which resources count.
 #[derive(Clone, Copy)]
 pub(crate) enum Columns {
     All,
@@ -14,7 +14,7 @@ pub(crate) enum Columns {
     Others,
 }
 
-/// Whether a resource is meant.
+/// Whether a resource counts.
 #[tactic(auto, unfolding(crate::specs::Loads::takes))]
 fn takes(columns: Columns, transient: bool) -> bool
     ensures { result ≡ takes columns transient }
@@ -26,7 +26,7 @@ fn takes(columns: Columns, transient: bool) -> bool
     }
 }
 
-/// What a process requires of a resource, and nothing of one that isn't meant.
+/// What a process requires of a resource if the resource counts, else 0.
 #[tactic(auto, unfolding(crate::specs::Loads::amount_in))]
 fn amount_in<L: Ledger>(
     inst: &Instance,
@@ -46,7 +46,7 @@ fn amount_in<L: Ledger>(
     }
 }
 
-/// Adds what a process requires of the resources that are meant to the row of a machine.
+/// Adds what a process requires of the resources that count to the row of a machine.
 pub(crate) fn add_row<L: Ledger>(
     inst: &Instance,
     p: Process,

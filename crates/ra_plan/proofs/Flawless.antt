@@ -38,7 +38,7 @@ no_flaw_more steps n s so_far is leaves apart = record {
       (cases_lt k n);
 }
 
--- the process of a step at hand
+-- the process of a given step
 pub process_at : (steps : List Step) (j k : ℕ) (s : Step) → s ≡ step_at steps k → j ≡ k →
     process_in steps j ≡ s.process.0
 unfolding process_in

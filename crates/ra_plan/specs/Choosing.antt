@@ -14,7 +14,7 @@ use Rattle.ra_plan.specs.declared.best.Best.{Best}
 unfoldable pub cost_in : Situation → List ℕ → Drawing → ℕ → ℕ → Option ℕ
 cost_in st x d allowed k = option_cost st x d allowed k
 
--- its steps
+-- the steps of option k
 unfoldable pub steps_in : Situation → List ℕ → Drawing → ℕ → List Step
 steps_in st x d k = (option_at st.here x (machine_count st.tables) d k).steps
 
@@ -29,6 +29,6 @@ pub record IsBest (st : Situation) (x : List ℕ) (d : Drawing) (allowed n : ℕ
     pub cost : best.cost ≡ least n (cost_in st x d allowed)
     pub option : best.option ≡ least_place n (cost_in st x d allowed)
 
--- option k of the words x is that process p goes to the k-th machine from a first one on
+-- option k of the words x moves process p to the k-th machine from a first one on
 pub record IsWindowOf (st : Situation) (x : List ℕ) (p first : ℕ) : Type 0 where
   pub each : (k : ℕ) → steps_in st x Two k ≡ leaving st.here p (machine_in st first k) ∷ []

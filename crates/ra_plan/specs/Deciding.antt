@@ -1,4 +1,4 @@
--- What is found of one move: its cost if that can still win, and its weighing if it is planned.
+-- What is computed of one move: its cost if it can still win, and its weighing if it is planned.
 use Rattle.std.specs.Prelude.{◌≡◌, ℕ, ◌<◌, ◌≤◌, List, [], ◌∷◌, Option, Some, None}
 use Rattle.ra_base.specs.declared.causes.Cause.{Cause}
 use Rattle.ra_base.specs.declared.causes.Drawing.{Drawing}
@@ -17,11 +17,11 @@ use Rattle.ra_moves.specs.Replacing.{after_move}
 abbrev pub cause_at : Situation → List Step → Option Cause
 cause_at st steps = broken_by st steps
 
--- its weighing
+-- the weighing of a move of a world
 abbrev pub weighed_at : Situation → List Step → Weighed
 weighed_at st steps = weighed_of st steps
 
--- the steps are that process p leaves its machine, for the machine of the first step
+-- the steps are one shift of process p from its machine to the machine of the first step
 abbrev pub IsShiftOf : Situation → ℕ → List Step → Type 0
 IsShiftOf st p steps = steps ≡ leaving st.here p (step_at steps 0).to.0 ∷ []
 
@@ -33,7 +33,7 @@ pub record IsMoveBelow (st : Situation) (steps : List Step) (bound : ℕ) (cost 
     pub below : (n : ℕ) → cost ≡ Some n → n < bound
     pub none : cost ≡ None → cause_at st steps ≡ None → bound ≤ cost_at (after_move st steps)
 
--- the move that the words make of the assignment of a world, with its weighing there
+-- the planned move of the words on the assignment of a world, with its weighing there
 pub record IsPlanned (st : Situation) (x : List ℕ) (d : Drawing) (allowed : ℕ) (mv : MoveSteps)
     (weighed : Weighed) : Type 0 where
   pub planned : mv ≡ plan_of st x d allowed

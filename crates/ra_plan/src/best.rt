@@ -12,9 +12,9 @@ use ra_moves::Verdict;
 /// The best option so far.
 #[derive(Clone, Copy)]
 pub(crate) struct Best {
-    /// The cost after it, if one is done.
+    /// The cost after it, if an option is done.
     pub(crate) cost: Option<u128>,
-    /// Its number, and 0 if none is done.
+    /// Its number, and 0 if no option is done.
     pub(crate) option: u32,
 }
 
@@ -30,8 +30,8 @@ impl Best {
         }
     }
 
-    /// What a cost has to be below, so that its option is the best: the cost of the best so far, or the first that is
-    /// too high.
+    /// What a cost has to be below so that its option becomes the best: the cost of the best so far, or the first cost
+    /// that is too high.
     #[inline(always)]
     #[tactic(auto, unfolding(crate::specs::Choosing::bound_of))]
     pub(crate) fn bound(&self, most: u128) -> u128
@@ -78,7 +78,7 @@ impl Best {
         }
     }
 
-    /// The option that is done at a cost, if that is lower, else the best so far.
+    /// The option that is done at a cost, if this cost is lower, else the best so far.
     #[inline(always)]
     fn or_done(self, option: u32, cost: u128) -> Best
         ensures { result ≡ (if is_better (Some cost) self.cost
@@ -94,7 +94,7 @@ impl Best {
         }
     }
 
-    /// Whether a cost is below that of the best so far, or the first.
+    /// Whether a cost is below that of the best so far, or is the first one.
     #[inline(always)]
     #[tactic(auto, unfolding(ra_base::specs::Searches::is_better))]
     fn is_above(&self, cost: u128) -> bool

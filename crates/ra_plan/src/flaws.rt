@@ -5,7 +5,7 @@ ghost use Rattle.ra_moves.specs.Judging.{repeat_of, same_of};
 use ra_base::Cause;
 use ra_moves::{Move, first_flaw};
 
-/// The cause for which a move is refused whatever it is applied to. Most moves have none, and pass at once.
+/// The cause for which a move is refused at any assignment. Most moves have none, and pass at once.
 #[inline(always)]
 pub(crate) fn flaw_of(mv: &Move) -> Option<Cause>
     ensures { result ≡ or_else (repeat_of mv.now.steps) (same_of mv.now.steps) }

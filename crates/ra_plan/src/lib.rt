@@ -1,5 +1,5 @@
-//! The weighing of a move at a world, the verdict on a weighed move, and the plan for a proposal: of the moves that its
-//! words name, the first of least cost among those that the judge calls Done, with its weighing. All of it is found by
+//! The weighing of a move at a world, the verdict on a weighed move, and the plan for a proposal: among the moves that
+//! its words name and that the judge calls Done, the first of least cost, with its weighing. All of it is computed by
 //! changes on a replica.
 #![tactic(auto)]
 

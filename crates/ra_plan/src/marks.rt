@@ -3,7 +3,7 @@ ghost use Rattle.std.specs.Int.{bit_at};
 
 use ra_base::Machine;
 
-/// The marks of a window of machines from one on, and one for a machine, if it is there.
+/// The marks of a window of machines from one on, with a mark for one machine added if it is in the window.
 pub(crate) fn with_mark(marks: u64, first: u32, at: Machine, machines: u32) -> u64
     requires first { first < machines }
     requires machine { at.0 < machines }
@@ -21,7 +21,7 @@ pub(crate) fn with_mark(marks: u64, first: u32, at: Machine, machines: u32) -> u
     }
 }
 
-/// How many numbers of a ring come from one on before another.
+/// How many places after `first` the number `at` comes in a ring.
 fn place_from(first: u32, at: u32, count: u32) -> u32
     requires first { first < count }
     requires at { at < count }

@@ -48,8 +48,9 @@ pub(crate) fn best_move<L: Ledger>(
     best
 }
 
-/// The cost after a move, if it breaks nothing and costs less than a bound. Room on the machines that it enters is tested
-/// first, since that takes the least time, then the cost; only a move that can still win is looked up.
+/// The cost after a move, if it breaks nothing and costs less than a bound. Room on the machines that it enters is
+/// tested first, since that takes the least time, then the cost; the other constraints are tested only for a move that
+/// can still win.
 #[inline(always)]
 fn cost_below<L: Ledger>(
     world: &World<'_>,

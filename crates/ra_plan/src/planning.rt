@@ -19,10 +19,10 @@ use ra_weigh_shift::{Finding, Shift};
 use ra_world::{World, requirements};
 use std::sync::ledger::Ledger;
 
-/// What the eight words of a proposal make of the assignment of a world: of the options that they name, the first of
-/// least cost among those that are judged Done, and option 0 if there is none; with its weighing, and with the
-/// numbers `q`, how many entries of the journal the world has taken in, and `k`, that of the proposal among its
-/// worker's. No memory is taken, and requirements are read for the processes of the options alone.
+/// Plans a proposal: the first of least cost among the options that the eight words name and that are judged Done on
+/// the assignment of a world, and option 0 if there is none; with its weighing, and with the numbers `q`, how many
+/// entries of the journal the world has taken in, and `k`, the number of the proposal among its worker's. It takes no
+/// memory, and reads requirements only of the processes of the options.
 pub fn plan<L: Ledger>(
     world: &World<'_>,
     words: &[u64; 8],
@@ -60,7 +60,7 @@ pub fn plan<L: Ledger>(
     plan
 }
 
-/// Gives a plan the move and the weighing of words whose option 0 is at hand and is its move so far.
+/// Gives a plan the move and the weighing of its words, if option 0 is known and is the plan's move so far.
 fn fill<L: Ledger>(
     world: &World<'_>,
     first: &Move,
@@ -84,7 +84,8 @@ fn fill<L: Ledger>(
     }
 }
 
-/// Gives a plan the move and the weighing of words that ask for a shift. Option 0 is weighed at the end, if none is done.
+/// Gives a plan the move and the weighing of words that ask for a shift. Option 0 is weighed at the end, if no option
+/// is done.
 fn fill_by_shift<L: Ledger>(
     world: &World<'_>,
     first: &Move,
@@ -143,7 +144,7 @@ fn fill_by_move<L: Ledger>(
     plan.weighed = weighing(world, best.cost.is_some(), &mv, steps);
 }
 
-/// An option of words whose option 0 is at hand.
+/// An option of words whose option 0 is known.
 fn move_of(world: &World<'_>, first: &Move, words: &[u64; 8], drawing: Drawing, option: u32) -> Move
     requires first { first.now ≡
         option_at world.now.here words.now (machine_count world.now.tables) drawing 0 }
@@ -158,8 +159,8 @@ fn move_of(world: &World<'_>, first: &Move, words: &[u64; 8], drawing: Drawing, 
     resolve(world.assignment(), words, machines, drawing, option)
 }
 
-/// The weighing of the shift that is planned: of the best option, or of option 0 if none is done. What is known of the
-/// process tells it soonest, but for the cause of a broken dependency or of a closed machine.
+/// The weighing of the planned shift: of the best option, or of option 0 if none is done. The `Shift` gives it fastest,
+/// except for the cause of a broken dependency or of a closed machine.
 fn shift_weighing<L: Ledger>(
     world: &World<'_>,
     shift: &Shift<'_, '_>,
@@ -186,7 +187,7 @@ fn shift_weighing<L: Ledger>(
     }
 }
 
-/// The weighing of a move of which it is known that it breaks nothing, or of any other.
+/// Weighs a move. `free` skips the search for a broken constraint.
 fn weighing<L: Ledger>(world: &World<'_>, free: bool, mv: &Move, steps: &mut Steps<L>) -> Weighed
     requires offered { IsOffered world.now.tables world.now.here mv.now.steps }
     requires free { free ≡ true → cause_at world.now mv.now.steps ≡ None }

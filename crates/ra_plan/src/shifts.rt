@@ -63,8 +63,8 @@ fn best_in_order(
     best
 }
 
-/// The best of all options of a shift, which are a window of machines. Their sums are found side by side if their numbers
-/// allow it.
+/// The best of all options of a shift, if they are a window of machines. Their sums are computed in lanes if their
+/// numbers allow it.
 fn best_in_window(world: &World<'_>, shift: &Shift<'_, '_>, words: &[u64; 8], allowed: u64) -> Best
     requires world { shift.now.world.now ≡ world.now }
     requires shift { kind_of words.now ≡ kind.Shift }
@@ -82,8 +82,8 @@ fn best_in_window(world: &World<'_>, shift: &Shift<'_, '_>, words: &[u64; 8], al
     }
 }
 
-/// The best of a window of machines from one on. Those are marked that may cost less than `most`, the first cost that is
-/// too high, and the initial machine is weighed in its place as well.
+/// The best of a window of machines from one on. The machines that may cost less than `most`, the first cost that is
+/// too high, are marked, and the initial machine is weighed in its place as well.
 fn best_marked(
     world: &World<'_>,
     shift: &Shift<'_, '_>,
@@ -160,7 +160,7 @@ fn with_shift(
     best.or_found(option, shift.cost_below(to, best.bound(most)))
 }
 
-/// The machine of an option: a word for each with drawing One, and a window of machines with drawing Two.
+/// The machine of an option: a word for each option with drawing One, and a window of machines with drawing Two.
 #[inline(always)]
 #[tactic(auto, unfolding(ra_moves::specs::Options::target, ra_moves::specs::Options::count_of))]
 fn target(words: &[u64; 8], drawing: Drawing, machines: u32, first: u32, option: u32) -> Machine
@@ -177,7 +177,7 @@ fn target(words: &[u64; 8], drawing: Drawing, machines: u32, first: u32, option:
     }
 }
 
-/// A number below twice a count, by the count.
+/// A number below twice a count, modulo the count.
 #[inline(always)]
 fn wrapped(number: u32, count: u32) -> u32
     requires { number < count + count }

@@ -11,9 +11,9 @@ use ra_weigh_changes::changed_by;
 use ra_world::{World, requirements};
 use std::sync::ledger::Ledger;
 
-/// The weighing of a move: the cause other than a rise for which it is refused, and nothing else; or the change of
-/// load, balance, process and machine cost together, with the moved counts of its different services in the order of
-/// its steps. At most six requirements are read for each resource, and no memory is taken.
+/// The weighing of a move: the cause other than a rise for which it is refused, and nothing else; or the change of the
+/// sum of load, balance, process and machine cost, with the moved counts of its different services in the order of its
+/// steps. It reads at most six requirements for each resource, and takes no memory.
 pub fn weigh<L: Ledger>(world: &World<'_>, mv: &Move, steps: &mut Steps<L>) -> Weighed
     requires { IsOffered world.now.tables world.now.here mv.now.steps }
     ensures value { result ≡ weighed_of world.now mv.now.steps }

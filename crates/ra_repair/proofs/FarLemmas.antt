@@ -29,7 +29,7 @@ alone n u v x = cond (eqb (n v x) 0) (n u x) 0
 pub is_tied : ℕ → ℕ → ℕ → Bool
 is_tied s u v = eqb u s || eqb v s
 
--- the same if that is so
+-- how many processes of u are alone, if u or the one that it needs is s, and else zero
 pub tied : (ℕ → ℕ → ℕ) → ℕ → ℕ → ℕ → ℕ → ℕ
 tied n s u v x = cond (is_tied s u v) (alone n u v x) 0
 

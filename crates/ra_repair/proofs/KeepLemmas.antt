@@ -24,7 +24,7 @@ stands_on kept i a0 a is fits tables start by_rows by_cells = record {
   cells = rw is by_cells;
 }
 
--- the penalty is kept anew
+-- the penalty is kept after the step
 pub keeps_on : (kept : Kept) (now : ℕ) (i : Tables) (a0 : List Machine) → Stands kept i a0 →
     now ≡ penalty i a0 kept.assignment.items → Keeps (record kept { penalty = now }) i a0
 keeps_on kept now i a0 stands is = record {
@@ -38,7 +38,7 @@ keeps_on kept now i a0 stands is = record {
   penalty_is = is;
 }
 
--- the penalty after a step: what was kept, with what is touched after it in place of what was before
+-- the penalty after a step: what was kept, with what is touched after the step instead of what was before
 pub record Renews (i : Tables) (a0 b : List Machine) (now before after : ℕ) : Type 0 where
   pub fits : now + after < 2 ^ 128
   pub enough : before ≤ now + after

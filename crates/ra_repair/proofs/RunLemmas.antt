@@ -147,7 +147,7 @@ repaired_more i a0 b lot k now r t ts made now_is some is after pushed =
 suc_sum : (k d : ℕ) → k + suc d ≡ suc (k + d)
 suc_sum k d = omega arith
 
--- the words that are handed out are those of the proposal
+-- the words that a call gives are those of the proposal
 pub drawn_words : (drawn : Drawn) (lot : Lot) (k : ℕ) (x : List ℕ) → x ≡ proposal_words drawn.lot.source drawn.made →
     drawn.lot ≡ lot → drawn.made ≡ k → x ≡ proposal_words lot.source k
 drawn_words drawn lot k x is lot_is made =

@@ -1,4 +1,4 @@
--- What the steps of a move need, so that they can be made one after another, and taken back.
+-- What the steps of a move need so that they can be made one after another, and taken back.
 use Rattle.std.specs.Prelude.{◌≢◌, ℕ, ◌<◌, List, length}
 use Rattle.ra_base.specs.declared.ids.Machine.{Machine}
 use Rattle.ra_model.specs.declared.raw.Tables.{Tables}

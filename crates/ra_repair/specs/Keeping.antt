@@ -1,4 +1,4 @@
--- What is kept of an assignment, and that it is what the definitions give.
+-- What is kept for an assignment, and that it is what the definitions give.
 use Rattle.std.specs.Prelude.{◌≡◌, ◌≤◌, List, []}
 use Rattle.ra_base.specs.Listed.{Listed}
 use Rattle.ra_base.specs.declared.ids.Machine.{Machine}
@@ -12,7 +12,7 @@ use Rattle.ra_repair.specs.declared.kept.Kept.{Kept}
 use Rattle.ra_repair.specs.declared.tries.Try.{Try}
 use Rattle.ra_repair.specs.Penalty.{penalty}
 
--- rows and counters of an instance and an initial assignment stand for the kept assignment
+-- rows and counters of an instance and an initial assignment represent the kept assignment
 pub record Stands (kept : Kept) (i : Tables) (a0 : List Machine) : Type 0 where
   pub fits : IsAssignment i kept.assignment.items
   pub tables : kept.rows.tables ≡ i
@@ -20,7 +20,7 @@ pub record Stands (kept : Kept) (i : Tables) (a0 : List Machine) : Type 0 where
   pub rows : rows.StandFor kept.rows kept.assignment.items
   pub cells : cells.StandFor kept.cells i a0 kept.assignment.items
 
--- and the kept penalty is that of the kept assignment, reached from a0
+-- all that is kept is right, and the kept penalty is that of the kept assignment, reached from a0
 pub record Keeps (kept : Kept) (i : Tables) (a0 : List Machine) : Type 0 where
   pub stands : Stands kept i a0
   pub penalty_is : kept.penalty ≡ penalty i a0 kept.assignment.items

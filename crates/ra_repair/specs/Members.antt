@@ -7,10 +7,10 @@ use Rattle.ra_model.specs.Assignments.{machine_at}
 use Rattle.ra_model.specs.Members.{member_at}
 use Rattle.ra_model.specs.Broken.{near_of}
 
--- the machine of process k of some
+-- the machine of process k of a list
 unfoldable pub seat_of : List Machine → List Process → ℕ → ℕ
 seat_of a processes k = machine_at a (member_at processes k)
 
--- process j of some, which are those of service s, has none of the service of dependency k in its neighbourhood
+-- process j of a list of processes of service s has none of the service of dependency k in its neighbourhood
 unfoldable pub is_far : Tables → List Machine → List Process → ℕ → ℕ → ℕ → Bool
 is_far i a processes s k j = near_of i a s k (member_at processes j) == 0

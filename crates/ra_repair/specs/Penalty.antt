@@ -1,5 +1,5 @@
--- How far an assignment is from meeting all constraints: six sums, each of them 0 exactly if its constraint is met.
--- ℕ's minus is never below 0.
+-- How far an assignment is from meeting all constraints: six sums, each of which is 0 exactly if its constraint is met.
+-- ℕ's minus is never negative.
 use Rattle.std.specs.Prelude.{ℕ, ◌+◌, ◌-◌, List, if◌then◌else◌, ◌==◌, ◌&&◌, not}
 use Rattle.ra_base.specs.Sums.{total, one_if}
 use Rattle.ra_base.specs.declared.ids.Machine.{Machine}
@@ -11,11 +11,11 @@ use Rattle.ra_model.specs.Usage.{use_of, transient_of}
 use Rattle.ra_model.specs.Services.{is_of, on_machine, locations_of}
 use Rattle.ra_model.specs.Broken.{near_of}
 
--- max(0, U(m, r) - C(m, r)): what is used of resource r of machine m above its capacity
+-- max(0, U(m, r) - C(m, r)): the use of resource r of machine m above its capacity
 unfoldable pub use_above : Tables → List Machine → ℕ → ℕ → ℕ
 use_above i a m r = use_of i a m r - capacity_of i m r
 
--- over all resources of machine m, and over all machines
+-- the sum of this over all resources of machine m, and over all machines
 unfoldable pub row_above : Tables → List Machine → ℕ → ℕ
 row_above i a m = total (resource_count i) (use_above i a m)
 
@@ -37,7 +37,7 @@ transient_penalty i a0 a = total (machine_count i) (row_transient_above i a0 a)
 unfoldable pub crowd_on : Tables → List Machine → ℕ → ℕ → ℕ
 crowd_on i a s m = on_machine i a s m - 1
 
--- over all machines, and over all services
+-- the sum of this over all machines, and over all services
 unfoldable pub service_crowd : Tables → List Machine → ℕ → ℕ
 service_crowd i a s = total (machine_count i) (crowd_on i a s)
 
@@ -55,7 +55,7 @@ spread_penalty i a = total (service_count i) (spread_lack i a)
 unfoldable pub far_share : Tables → List Machine → ℕ → ℕ → ℕ → ℕ
 far_share i a s k p = one_if (is_of i s p && (near_of i a s k p == 0))
 
--- over all processes, over all dependencies of service s, and over all services
+-- the sum of this over all processes, over all dependencies of service s, and over all services
 unfoldable pub pair_far : Tables → List Machine → ℕ → ℕ → ℕ
 pair_far i a s k = total (process_count i) (far_share i a s k)
 
@@ -72,7 +72,7 @@ closed_share i a0 p at = one_if (closed_at i at && not (machine_at a0 p == at))
 unfoldable pub closed_penalty : Tables → List Machine → List Machine → ℕ
 closed_penalty i a0 a = tally (process_count i) (closed_share i a0) a
 
--- all six together
+-- the penalty: the sum of all six
 unfoldable pub penalty : Tables → List Machine → List Machine → ℕ
 penalty i a0 a =
     capacity_penalty i a + transient_penalty i a0 a + conflict_penalty i a + spread_penalty i a +

@@ -5,7 +5,7 @@ use Rattle.ra_repair.specs.declared.repair.Repair.{Repair}
 use Rattle.ra_repair.specs.declared.tries.Try.{Try}
 use Rattle.ra_repair.specs.Runs.{repair_run}
 
--- try number k of some; past their end there is one without a move, which nothing looks at
+-- try number k of a list; past the end one without a move, which nothing reads
 unfoldable pub try_in : List Try → ℕ → Try
 try_in tries k =
     slice_index_or tries k

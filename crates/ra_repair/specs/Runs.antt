@@ -18,7 +18,7 @@ use Rattle.ra_moves.specs.declared.steps.Step.{Step}
 use Rattle.ra_repair.specs.declared.tries.Try.{Try}
 use Rattle.ra_repair.specs.Penalty.{penalty}
 
--- a number that isn't left out for a cause
+-- a number, unless its option is left out for a cause
 unfoldable pub unless : Option Cause → ℕ → Option ℕ
 unless None n = Some n
 unless (Some cause) n = None
@@ -36,7 +36,7 @@ unfoldable pub penalty_by : Tables → List Machine → List Machine → List St
 penalty_by i a0 a steps =
     unless (or_else (repeat_of steps) (same_of steps)) (penalty i a0 (applied a steps))
 
--- the penalty after option k, if that is left
+-- the penalty after option k, unless the option is left out
 unfoldable pub option_penalty : Tables → List Machine → List Machine → List ℕ → ℕ → Option ℕ
 option_penalty i a0 a x k = penalty_by i a0 a (try_option i a x k).steps
 
@@ -44,11 +44,11 @@ option_penalty i a0 a x k = penalty_by i a0 a (try_option i a x k).steps
 unfoldable pub least_after : Tables → List Machine → List Machine → List ℕ → Option ℕ
 least_after i a0 a x = least (try_count i x) (option_penalty i a0 a x)
 
--- the first option with that penalty, and option 0 if none is left
+-- the first option with the least penalty, and option 0 if none is left
 unfoldable pub chosen : Tables → List Machine → List Machine → List ℕ → MoveSteps
 chosen i a0 a x = try_option i a x (least_place (try_count i x) (option_penalty i a0 a x))
 
--- a move is taken if the penalty after it, if it has one, is no more than before
+-- a move is taken if there is a penalty after it that is at most the penalty before
 unfoldable pub is_taken : ℕ → Option ℕ → Bool
 is_taken before None = false
 is_taken before (Some after) = nat_le after before
@@ -79,14 +79,14 @@ pub record Repaired : Type 0 where
   pub assignment : List Machine
   pub tries : List Try
 
--- one try more, or none if the penalty is 0
+-- one more try, or none if the penalty is 0
 unfoldable pub next_try : Tables → List Machine → Lot → ℕ → Repaired → Repaired
 next_try i a0 lot k r =
     let t = try_at i a0 r.assignment lot k in
     if penalty i a0 r.assignment == 0 then r
     else (record { assignment = after_try r.assignment t; tries = r.tries ++ t ∷ [] })
 
--- the run from a0 up to try k: tries 0, 1 .. are made in turn, and none any more once the penalty is 0
+-- the run from a0 up to try k: tries 0, 1 .. are made in turn, until the penalty is 0
 unfoldable pub repaired_by : Tables → List Machine → Lot → ℕ → Repaired
 repaired_by i a0 lot zero = record { assignment = a0; tries = [] }
 repaired_by i a0 lot (suc k) = next_try i a0 lot k (repaired_by i a0 lot k)

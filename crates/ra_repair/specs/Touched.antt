@@ -13,18 +13,18 @@ use Rattle.ra_repair.specs.Penalty.{row_above, row_transient_above, crowd_on, sp
 unfoldable pub is_missing : Tables → List Machine → ℕ → ℕ → ℕ → Bool
 is_missing i a s label k = in_neighbourhood i a (need_of i s k) label == 0
 
--- how many dependencies of service s have none there
+-- how many dependencies of service s have no process of the needed service there
 unfoldable pub missing_near : Tables → List Machine → ℕ → ℕ → ℕ
 missing_near i a s label = count (dependency_count i s) (is_missing i a s label)
 
--- dependency k of service u is on service s, and how many are
+-- dependency k of service u is on service s, and how many such dependencies there are
 unfoldable pub is_link : Tables → ℕ → ℕ → ℕ → Bool
 is_link i s u k = need_of i u k == s
 
 unfoldable pub links : Tables → ℕ → ℕ → ℕ
 links i s u = count (dependency_count i u) (is_link i s u)
 
--- how many processes of another service u there lack one of service s, if that has none there, once for each dependency
+-- how many processes of another service u there lack one of service s, if s has none there, once for each dependency
 unfoldable pub left_alone : Tables → List Machine → ℕ → ℕ → ℕ → ℕ
 left_alone i a s label u = if u == s then 0 else links i s u * in_neighbourhood i a u label
 
@@ -38,11 +38,12 @@ far_near i a s label =
     let here = in_neighbourhood i a s label in
     if here == 0 then all_alone i a s label else here * missing_near i a s label
 
--- the same in two neighbourhoods; nothing changes if they are one
+-- how many processes in two neighbourhoods lack one that they need; zero if the two are one, since nothing changes then
 unfoldable pub far_between : Tables → List Machine → ℕ → ℕ → ℕ → ℕ
 far_between i a s left come = if left == come then 0 else far_near i a s left + far_near i a s come
 
--- the two rows of use above the capacities, those of transient use, and the processes of service s that are too many
+-- the use above the capacities in the two rows, the transient use above them, and the processes of service s that are
+-- too many
 unfoldable pub rows_touched : Tables → List Machine → ℕ → ℕ → ℕ
 rows_touched i a from to = row_above i a from + row_above i a to
 

@@ -7,7 +7,7 @@ use crate::kept::Kept;
 use ra_base::{Assignment, Machine, Resource};
 use ra_model::Instance;
 
-/// What is used of the resources of a machine above its capacities.
+/// The use of the resources of a machine above its capacities.
 #[tactic(auto, using(ra_base::proofs::Sums::sums), unfolding(crate::specs::Penalty::row_above))]
 pub(crate) fn row_above(inst: &Instance, start: &Assignment, kept: &Kept<'_>, m: Machine) -> u64
     requires stands { Stands kept.now inst.now.tables start.now.items }
@@ -22,7 +22,7 @@ pub(crate) fn row_above(inst: &Instance, start: &Assignment, kept: &Kept<'_>, m:
     sum
 }
 
-/// What is used of a resource of a machine above its capacity.
+/// The use of a resource of a machine above its capacity.
 #[tactic(auto, unfolding(crate::specs::Penalty::use_above))]
 fn use_above(inst: &Instance, start: &Assignment, kept: &Kept<'_>, m: Machine, r: Resource) -> u64
     requires stands { Stands kept.now inst.now.tables start.now.items }
@@ -35,7 +35,7 @@ fn use_above(inst: &Instance, start: &Assignment, kept: &Kept<'_>, m: Machine, r
     used.saturating_sub(u64::from(inst.capacity(m, r)))
 }
 
-/// What is used in between of the transient resources of a machine above its capacities.
+/// The transient use of the transient resources of a machine above its capacities.
 #[tactic(auto, using(ra_base::proofs::Sums::sums), unfolding(crate::specs::Penalty::row_transient_above))]
 pub(crate) fn row_transient_above(
     inst: &Instance,
@@ -56,7 +56,7 @@ pub(crate) fn row_transient_above(
     sum
 }
 
-/// What is used in between of a resource of a machine above its capacity, if the resource is transient.
+/// The transient use of a resource of a machine above its capacity, if the resource is transient.
 #[tactic(auto, unfolding(crate::specs::Penalty::transient_above))]
 fn transient_above(
     inst: &Instance,

@@ -26,7 +26,7 @@ pub(crate) fn crowd_on(
     u64::from(kept.cells.on_machine(s, m)).saturating_sub(1)
 }
 
-/// In how many more locations a service has to be.
+/// How many more locations a service needs for its spread.
 #[tactic(auto, unfolding(crate::specs::Penalty::spread_lack))]
 pub(crate) fn spread_lack(inst: &Instance, start: &Assignment, kept: &Kept<'_>, s: Service) -> u64
     requires stands { Stands kept.now inst.now.tables start.now.items }

@@ -12,7 +12,7 @@ use ra_model::Instance;
 use ra_topology::Topology;
 
 /// How many processes in the neighbourhoods with these two labels lack one that they need, as `far_near` counts them; 0
-/// if the labels are one.
+/// if the labels are equal.
 #[tactic(auto, unfolding(crate::specs::Touched::far_between))]
 pub(crate) fn far_between(
     inst: &Instance,
@@ -79,7 +79,7 @@ pub(crate) fn near(
     u64::from(kept.cells.in_neighbourhood(s, label))
 }
 
-/// How many dependencies of a service have no process of their service there.
+/// How many dependencies of a service have no process of the needed service there.
 #[tactic(auto, using(ra_base::proofs::Counts::counts, crate::proofs::ReadLemmas::dependency_few), unfolding(crate::specs::Touched::missing_near))]
 fn missing_near(inst: &Instance, start: &Assignment, kept: &Kept<'_>, s: Service, label: u32) -> u64
     requires stands { Stands kept.now inst.now.tables start.now.items }
@@ -97,7 +97,7 @@ fn missing_near(inst: &Instance, start: &Assignment, kept: &Kept<'_>, s: Service
     missing
 }
 
-/// Whether a dependency of a service has no process of its service, `need`, there.
+/// Whether a dependency of a service on `need` has no process of `need` there.
 #[tactic(auto, using(crate::proofs::ReadLemmas::need_there), unfolding(crate::specs::Touched::is_missing))]
 fn is_missing(
     inst: &Instance,
@@ -166,7 +166,7 @@ fn all_alone(
     sum
 }
 
-/// How many of these are of service `u`.
+/// How many of these processes are of service `u`.
 #[tactic(auto, unfolding(crate::specs::Touched::left_alone))]
 fn left_alone(
     inst: &Instance,

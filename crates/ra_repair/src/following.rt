@@ -36,7 +36,8 @@ pub(crate) fn follow<L: Ledger>(
     }
 }
 
-/// Follows one step. The penalty changes by what the step's process can change of it, before and after.
+/// Follows one step. The penalty changes by the difference, before and after, of those parts that the step's process
+/// can change.
 pub(crate) fn follow_step<L: Ledger>(
     inst: &Instance,
     topo: &Topology,
@@ -62,7 +63,7 @@ pub(crate) fn follow_step<L: Ledger>(
     kept.penalty = kept.penalty + u128::from(after) - u128::from(before);
 }
 
-/// Takes the steps of a move back, one after another. The penalty stays as it is kept.
+/// Takes the steps of a move back, one after another. The kept penalty stays as it is.
 pub(crate) fn go_back<L: Ledger>(
     inst: &Instance,
     start: &Assignment,
@@ -83,7 +84,7 @@ pub(crate) fn go_back<L: Ledger>(
     }
 }
 
-/// Puts a process on another machine. The penalty stays as it is kept.
+/// Moves a process to another machine. The kept penalty stays as it is.
 fn put<L: Ledger>(
     inst: &Instance,
     start: &Assignment,

@@ -1,5 +1,5 @@
-//! From a start that breaks constraints: how far an assignment is from meeting all of them, and a run of tries that
-//! looks for a feasible one.
+//! The repair of a start that breaks constraints: how far an assignment is from meeting all of them, and a run of tries
+//! that looks for a feasible one.
 #![tactic(auto)]
 
 mod above;

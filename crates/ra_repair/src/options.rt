@@ -57,7 +57,8 @@ pub(crate) fn choose<L: Ledger>(
     }
 }
 
-/// The same. Each option is made on what is kept, and taken back before the next one.
+/// Chooses an option as `choose` does. Each option is made on the assignment that is kept, and taken back before the
+/// next one.
 fn choose_in_turn<L: Ledger>(
     inst: &Instance,
     topo: &Topology,
@@ -144,7 +145,7 @@ fn penalty_after<L: Ledger>(
     }
 }
 
-/// The penalty after a move, which is made and taken back.
+/// The penalty after a move. It makes the move and takes it back.
 fn penalty_beyond<L: Ledger>(
     inst: &Instance,
     topo: &Topology,
@@ -181,7 +182,7 @@ pub(crate) fn better(first: Choice, second: Choice) -> Choice
     }
 }
 
-/// Whether a penalty is there, and lower than another one or the other isn't there.
+/// Whether there is a penalty that is lower than another one, or there is no other one.
 #[tactic(auto, unfolding(ra_base::specs::Searches::is_better))]
 fn is_lower(penalty: Option<u128>, than: Option<u128>) -> bool
     ensures { result ≡ is_better penalty than }

@@ -106,7 +106,7 @@ impl<'a> Repair<'a> {
         self.tries.get(i as usize)
     }
 
-    /// The assignment after the tries that were made.
+    /// The assignment after the tries so far.
     pub fn assignment(&self) -> &Assignment
         ensures value { result.now ≡ self.now.kept.assignment }
         ensures fits { IsAssignment self.now.inst.now.tables result.now.items }
@@ -123,7 +123,7 @@ impl<'a> Repair<'a> {
     }
 }
 
-/// What is kept of an initial assignment.
+/// What is kept for an initial assignment.
 fn kept_of<'a>(
     alloc: Global,
     inst: &'a Instance,

@@ -17,8 +17,8 @@ use ra_moves::{Move, Step, first_flaw, options, resolve};
 use ra_topology::Topology;
 use std::sync::ledger::Ledger;
 
-/// The first option of least penalty of words that ask for shifts of a process. It goes from the machine of one option
-/// to that of the next, and home at the end.
+/// The first option of least penalty, for words that ask for shifts of a process. The process goes from the machine of
+/// one option to that of the next, and home at the end.
 pub(crate) fn choose_shift<L: Ledger>(
     inst: &Instance,
     topo: &Topology,
@@ -52,7 +52,7 @@ pub(crate) fn choose_shift<L: Ledger>(
 }
 
 /// One of the shifts of a process from its home, and the penalty after it. The process may come from another machine,
-/// and is then on that of the option.
+/// and ends on the machine of the option.
 fn try_shift<L: Ledger>(
     inst: &Instance,
     topo: &Topology,
@@ -107,7 +107,7 @@ fn unless_flawed(mv: &Move, penalty: u128) -> Option<u128>
     }
 }
 
-/// Carries a process to a machine from where it is, which may be there.
+/// Moves a process to a machine from where it is; the two may be one.
 fn carry<L: Ledger>(
     inst: &Instance,
     topo: &Topology,

@@ -37,7 +37,7 @@ pub(crate) fn penalty_now(
         + u128::from(closed_sum(inst, start, kept))
 }
 
-/// What is used of all resources of all machines above their capacities.
+/// The use of all resources of all machines above their capacities.
 #[tactic(auto, using(ra_base::proofs::Sums::sums), unfolding(crate::specs::Penalty::capacity_penalty))]
 fn capacity_sum(inst: &Instance, start: &Assignment, kept: &Kept<'_>) -> u128
     requires stands { Stands kept.now inst.now.tables start.now.items }
@@ -51,7 +51,7 @@ fn capacity_sum(inst: &Instance, start: &Assignment, kept: &Kept<'_>) -> u128
     sum
 }
 
-/// What is used in between of all transient resources of all machines above their capacities.
+/// The transient use of all transient resources of all machines above their capacities.
 #[tactic(auto, using(ra_base::proofs::Sums::sums), unfolding(crate::specs::Penalty::transient_penalty))]
 fn transient_sum(inst: &Instance, start: &Assignment, kept: &Kept<'_>) -> u128
     requires stands { Stands kept.now inst.now.tables start.now.items }
@@ -66,7 +66,7 @@ fn transient_sum(inst: &Instance, start: &Assignment, kept: &Kept<'_>) -> u128
     sum
 }
 
-/// In how many more locations all services together have to be.
+/// How many more locations all services together need for their spreads.
 #[tactic(auto, using(ra_base::proofs::Sums::sums), unfolding(crate::specs::Penalty::spread_penalty))]
 fn spread_sum(inst: &Instance, start: &Assignment, kept: &Kept<'_>) -> u64
     requires stands { Stands kept.now inst.now.tables start.now.items }
@@ -111,7 +111,8 @@ fn conflict_sum(inst: &Instance, topo: &Topology, start: &Assignment, kept: &Kep
     sum
 }
 
-/// How many processes of a service are too many on their machines. A machine counts at the first of them.
+/// How many processes of a service are too many on their machines. Each machine is counted at its first process of the
+/// service.
 fn service_crowd(
     inst: &Instance,
     topo: &Topology,
@@ -133,7 +134,7 @@ fn service_crowd(
     sum
 }
 
-/// How many processes of a service are too many on the machine of one of them, if none before is there.
+/// How many processes of a service are too many on the machine of one of them, if no earlier one is there.
 #[tactic(auto, using(ra_base::proofs::Named::names))]
 fn crowd_at(
     inst: &Instance,
@@ -217,7 +218,7 @@ fn dependency_sum(inst: &Instance, topo: &Topology, start: &Assignment, kept: &K
     sum
 }
 
-/// The same of one service.
+/// How many processes of one service are far from what the service needs, once for each of its dependencies.
 #[tactic(auto, using(ra_base::proofs::Sums::sums, crate::proofs::ReadLemmas::dependency_few), unfolding(crate::specs::Penalty::service_far))]
 fn service_far(
     inst: &Instance,
@@ -241,7 +242,7 @@ fn service_far(
     sum
 }
 
-/// The same of one dependency of a service, which is on service `need`.
+/// How many processes of a service are far from every process of service `need`, on which it depends.
 #[tactic(auto, using(ra_base::proofs::Counts::counts))]
 fn pair_far(
     inst: &Instance,
@@ -269,7 +270,7 @@ fn pair_far(
     far
 }
 
-/// Whether a process of a service has no process of one that the service needs in its neighbourhood.
+/// Whether a process of a service has no process of a service that it needs in its neighbourhood.
 fn is_far(
     inst: &Instance,
     start: &Assignment,

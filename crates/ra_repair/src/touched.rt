@@ -14,7 +14,7 @@ use ra_model::Instance;
 use ra_moves::Step;
 use ra_topology::Topology;
 
-/// All that a process can change of the penalty by going from one machine to another: what the rows of the two
+/// All of the penalty that a process can change by going from one machine to another: what the rows of the two
 /// machines, the counters of its service there and its own machine add to it now.
 #[tactic(auto, unfolding(crate::specs::Touched::touched))]
 pub(crate) fn touched(
@@ -44,7 +44,7 @@ pub(crate) fn touched(
         + closed_now(inst, start, kept, step.process)
 }
 
-/// What is used of the resources of two machines above their capacities.
+/// The use of the resources of two machines above their capacities.
 #[tactic(auto, unfolding(crate::specs::Touched::rows_touched))]
 fn rows_touched(
     inst: &Instance,
@@ -63,7 +63,7 @@ fn rows_touched(
     row_above(inst, start, kept, from) + row_above(inst, start, kept, to)
 }
 
-/// What is used in between of the transient resources of two machines above their capacities.
+/// The transient use of the transient resources of two machines above their capacities.
 #[tactic(auto, unfolding(crate::specs::Touched::transient_touched))]
 fn transient_touched(
     inst: &Instance,

@@ -7,10 +7,10 @@ pub struct Try {
     pub k: u64,
     /// The move.
     pub mv: Move,
-    /// Whether the move was taken: it is if the penalty doesn't rise by it.
+    /// Whether the move was taken, which it is unless the penalty rises by it.
     pub taken: bool,
     /// The penalty before the move.
     pub before: u128,
-    /// The penalty after the move, also if it wasn't taken; if no option was left, that before it.
+    /// The penalty after the move, even if it wasn't taken; if no option was left, the penalty before it.
     pub after: u128,
 }

@@ -108,7 +108,7 @@ fn take_if<L: Ledger>(
     }
 }
 
-/// Whether a move is taken: the penalty after it is there, and no more than before.
+/// Whether a move is taken: there is a penalty after it, and it is at most the penalty before.
 #[tactic(auto, unfolding(crate::specs::Runs::is_taken))]
 fn is_taken(before: u128, after: Option<u128>) -> bool
     ensures { result ≡ is_taken before after }

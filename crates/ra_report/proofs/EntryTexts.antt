@@ -82,7 +82,7 @@ four_then word a b c d f g k l x y ends stops e =
     let q = spaced_then k l x y ends stops p.3 in
     (p.0, p.1, p.2, q.0, q.1)
 
--- the same, and the same behind it
+-- two things are equal, and so is what follows them
 pub record Both {X : Type 0} (a b : X) (x y : List ℕ) : Type 0 where
   pub same : a ≡ b
   pub rest : x ≡ y

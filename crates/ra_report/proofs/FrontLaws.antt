@@ -80,7 +80,7 @@ told_least n (b ∷ bytes) =
     either true more = more
     either false more = omega arith
 
--- what follows behind a number and a space
+-- what follows after a number and a space
 pub behind_found : (bytes rest : List ℕ) (from k n : ℕ) → drop from bytes ≡ number_text n ++ 32 ∷ rest →
     drop k (drop from bytes) ≡ past (drop from bytes) → drop (from + k) bytes ≡ 32 ∷ rest
 behind_found bytes rest from k n e over =
@@ -114,12 +114,12 @@ is_behind bytes rest found at here b =
 pub not_behind : (bytes rest : List ℕ) (found : Option ℕ) → found ≡ None → IsBehind bytes rest found → ⊥
 not_behind bytes rest found none b = none-some b.at (sym none ∙ b.is)
 
--- a number that stands from a place on
+-- a number from a place on
 pub number_here : (bytes rest : List ℕ) (at n : ℕ) → drop at bytes ≡ number_text n ++ 32 ∷ rest →
     told 0 (drop at bytes) ≡ n
 number_here bytes rest at n e = ap (told 0) e ∙ number_told n (32 ∷ rest) (blank rest)
 
--- what stands behind the four numbers of an entry's line
+-- what is after the four numbers of an entry's line
 pub after_front : Entry → List ℕ
 after_front e = kind_text e.mv.kind ++ 32 ∷ (steps_text e.mv.steps ++ (verdict_text e.verdict ++ 10 ∷ []))
 
@@ -158,7 +158,7 @@ cut_numbers j e line rest small long same =
 abbrev pub front_is : ℕ → ℕ → Front
 front_is w q = record { worker = w; q = q }
 
--- if three numbers were passed, the second and the fourth stand behind
+-- if three numbers were passed, the second and the fourth come after them
 pub numbers_there : (line : List ℕ) (j w k q : ℕ) (rest : List ℕ) (r s t : Option ℕ) (a b c : ℕ)
     → ((n : ℕ) (x : List ℕ) → drop 0 line ≡ number_text n ++ 32 ∷ x → IsBehind line x r) → r ≡ Some a
     → ((n : ℕ) (x : List ℕ) → drop a line ≡ number_text n ++ 32 ∷ x → IsBehind line x s) → s ≡ Some b

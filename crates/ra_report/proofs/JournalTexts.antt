@@ -40,7 +40,7 @@ lines_then h k (suc n) x y e =
     let here = entry_then n (entry_at h n) (entry_at k n) x y before.rest in
     record { same = below_next h k n before.same here.same; rest = here.rest }
 
--- the lines behind the first n, in a journal of more
+-- the lines after the first n, in a journal of more
 record Longer (h : List Entry) (n m : ℕ) : Type 0 where
   pub more : List ℕ
   pub some : 0 < length more

@@ -19,7 +19,7 @@ use Rattle.ra_report_text.proofs.PieceLemmas.{words_take}
 fewer : (k n : ℕ) → n < 10 ^ suc k → n / 10 < 10 ^ k
 fewer k n few = let h : n < 10 * 10 ^ k = rw pow-succ' at few in omega arith
 
--- so many digits at most in front of a text
+-- a text has at most this number of digits in front
 digits_length : (f k n : ℕ) (x : List ℕ) → n < 10 ^ suc k → length (digits_onto f 10 false n x) ≤ suc k + length x
 digits_length zero k n x few = omega arith
 digits_length (suc f) zero n x few =

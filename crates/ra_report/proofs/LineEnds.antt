@@ -224,14 +224,14 @@ head_has_lines parts total best a d x =
     (next_line _ _ _ (assignment_is_line a)
     (next_line _ _ _ (drawing_is_line d) refl)))))))))
 
--- with nothing behind it
+-- with nothing after it
 pub head_alone : (parts : Parts) (total best : ℕ) (a : List Machine) (d : Drawing) →
     lines_of (head_text parts total best a d) ≡ head_lines parts total best a d
 unfolding head_lines lines_of
 head_alone parts total best a d =
     ap lines_of (sym (append-nil (head_text parts total best a d))) ∙ head_has_lines parts total best a d []
 
--- lines of two texts can't differ first behind all lines of one of them
+-- lines of two texts can't differ first after all lines of one of them
 pub unlike_within : (a b : List ℕ) (n : ℕ) → FirstUnlike a b n → n ≤ length (lines_of b)
 unfolding line_at
 unlike_within a b n u = ⊎_elim

@@ -26,7 +26,7 @@ pub line_more : (h : List Entry) (m n : ℕ) (s : List ℕ) → AreLines h m n s
 unfolding entries_text
 line_more h m n s first = rw add-one (lines_more h m n (suc n) s (entry_line n (entry_at h n)) first refl)
 
--- texts that stand between places one after another
+-- texts of the entries between places, one after another
 pub parts_are_lines : (h : List Entry) (place : ℕ → ℕ) (parts : List (List ℕ))
     → ((n : ℕ) → n < length parts → AreLines h (place n) (place (suc n)) (get_or parts n [])) →
     AreLines h (place 0) (place (length parts)) (joined parts)

@@ -58,7 +58,7 @@ too_large at = joined (codes "number too large at " ∷ number_text at ∷ [])
 abbrev pub extra : ℕ → List ℕ
 extra at = joined (codes "extra at " ∷ number_text at ∷ [])
 
--- what is wrong with a model file; a failed fetch and want of memory have lines of their own
+-- what is wrong with a model file; a failed fetch and refused memory have lines of their own
 unfoldable pub model_detail : ModelFault → List ℕ
 model_detail model.ReadFault = []
 model_detail (model.BadByte at byte) = bad_byte at byte
@@ -128,7 +128,7 @@ line_of words detail = joined (words ∷ detail ∷ line_end ∷ [])
 abbrev pub about : List ℕ → List ℕ → List ℕ → List ℕ
 about words name detail = joined (words ∷ name ∷ codes ": " ∷ detail ∷ line_end ∷ [])
 
--- what is told of a fault: its words, its name and what stands behind that, its note, and the end of the line
+-- what is told of a fault: its words, its name and the text after it, its note, and the end of the line
 abbrev pub line_said : FaultLine → List ℕ
 line_said line =
     joined (line.words.now ∷ line.name.now ∷ line.behind.now ∷ note_text line.note ∷ line_end ∷ [])
@@ -177,7 +177,8 @@ fault_text (Unrepaired name cause) = unrepaired_line name.now cause
 fault_text Write = write_fault_line
 fault_text Memory = memory_line
 
--- what a reader refused stands in the file, and has a detail: a failed fetch and want of memory have lines of their own
+-- the fault that a reader found is in the file, and has a detail: a failed fetch and refused memory have lines of their
+-- own
 abbrev pub IsInModel : ModelFault → Type 0
 IsInModel fault = (fault ≢ model.ReadFault) × (fault ≢ model.NoMemory)
 
@@ -190,7 +191,7 @@ IsInList fault = (fault ≢ assign.ReadFault) × (fault ≢ assign.NoMemory)
 abbrev pub IsInEdits : EditsFault → Type 0
 IsInEdits fault = (fault ≢ edits.ReadFault) × (fault ≢ edits.NoMemory)
 
--- a fault can be told: if a reader refused a file, that stands in the file
+-- a fault can be told: if a reader refused a file, the fault is in the file
 abbrev pub CanBeTold : Fault → Type 0
 CanBeTold (Model fault) = IsInModel fault
 CanBeTold (Closed name fault) = IsInClosed fault

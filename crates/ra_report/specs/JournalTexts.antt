@@ -41,14 +41,14 @@ unfoldable pub step_text : Step → List ℕ
 step_text s =
     number_text s.process.0 ++ codes ":" ++ number_text s.from.0 ++ codes ">" ++ number_text s.to.0
 
--- the words of steps, a space behind each
+-- the words of steps, with a space after each
 abbrev pub step_word : Step → List ℕ
 step_word s = step_text s ++ space
 
 unfoldable pub steps_text : List Step → List ℕ
 steps_text steps = flat_map step_word steps
 
--- the words of the entry at place j before its steps, a space behind each
+-- the words of the entry at place j before its steps, with a space after each
 unfoldable pub entry_front : ℕ → Entry → List ℕ
 entry_front j e =
     number_text j ++ space ++ number_text e.worker ++ space ++ number_text e.k ++ space
@@ -63,7 +63,7 @@ unfoldable pub entries_text : List Entry → ℕ → List ℕ
 entries_text h zero = []
 entries_text h (suc n) = entries_text h n ++ entry_line n (entry_at h n)
 
--- and these lines as a list
+-- these lines as a list
 unfoldable pub entry_lines : List Entry → ℕ → List (List ℕ)
 entry_lines h zero = []
 entry_lines h (suc n) = entry_lines h n ++ entry_line n (entry_at h n) ∷ []
@@ -76,7 +76,7 @@ drawing_number Two = 2
 abbrev pub drawing_line : Drawing → List ℕ
 drawing_line drawing = number_line (codes "draws") (drawing_number drawing)
 
--- the eight lines of what came out of a run: the parts, the total of the bound, a place
+-- the eight lines of the outcome of a run: the parts, the total of the bound, a place
 abbrev pub outcome_text : Parts → ℕ → ℕ → List ℕ
 outcome_text parts bound_total best_at =
     parts_text parts ++ number_line (codes "bound") bound_total
@@ -126,7 +126,7 @@ text_of j = report_text j.inst.now.tables j.a0.now.items j.lots.now j.book.entri
 unfoldable pub head_of : Journal → List ℕ
 head_of j = report_head j.inst.now.tables j.a0.now.items j.lots.now j.book.entries.items
 
--- the line of a report that was found right: the number of its entries
+-- the line for a report that was found right: the number of its entries
 abbrev pub accepted_line : ℕ → List ℕ
 accepted_line entries = number_line (codes "accepted") entries
 
@@ -136,17 +136,17 @@ bound_text b =
     number_line (codes "bound") b.total ++ number_line (codes "load") b.load
     ++ number_line (codes "balance") b.balance
 
--- what comes behind the first line, if there is a line
+-- what comes after the first line, if there is a line
 unfoldable pub after_line : List ℕ → Option (List ℕ)
 after_line [] = None
 after_line (byte ∷ bytes) = if byte == 10 then Some bytes else after_line bytes
 
--- what comes behind the first n lines, if there are so many
+-- what comes after the first n lines, if there are so many
 unfoldable pub lines_left : ℕ → Option (List ℕ) → Option (List ℕ)
 lines_left n None = None
 lines_left zero (Some bytes) = Some bytes
 lines_left (suc n) (Some bytes) = lines_left n (after_line bytes)
 
--- h is the journal that a report tells: the lines of its entries are the lines behind the tenth
+-- h is the journal that a report tells: the lines of its entries are the lines after the tenth
 abbrev pub IsJournalOf : List ℕ → List Entry → Type 0
 IsJournalOf bytes h = lines_left 10 (Some bytes) ≡ Some (entries_text h (length h))

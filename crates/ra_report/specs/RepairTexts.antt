@@ -1,4 +1,4 @@
--- The output of a repair: whether its last assignment is feasible or what is broken first, that assignment, and a line
+-- The output of a repair: whether its last assignment is feasible or what is broken first, this assignment, and a line
 -- for each try.
 use Rattle.std.specs.Prelude.{ℕ, zero, suc, List, [], ◌∷◌, ◌++◌, length, codes, Bool, true, false, Option, Some, None}
 use Rattle.ra_base.specs.declared.causes.Cause.{Cause}
@@ -27,7 +27,7 @@ unfoldable pub taken_text : Bool → List ℕ
 taken_text true = codes "taken"
 taken_text false = codes "left"
 
--- the words of a try before its steps, and those behind them
+-- the words of a try before its steps, and those after them
 unfoldable pub try_front : Try → List ℕ
 try_front t = joined (number_text t.k ∷ space ∷ kind_text t.mv.kind ∷ space ∷ [])
 

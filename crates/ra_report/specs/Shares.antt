@@ -1,4 +1,4 @@
--- The lines of a journal in shares, of which desks write one each.
+-- The lines of a journal in shares, one for each desk.
 use Rattle.std.specs.Prelude.{◌≡◌, ℕ, ◌+◌, ◌*◌, min, List, ◌++◌, length}
 use Rattle.ra_journal.specs.declared.entries.Entry.{Entry}
 use Rattle.ra_report.specs.declared.desks.TheConstants.{SHARE}
@@ -9,8 +9,8 @@ use Rattle.ra_report.specs.JournalTexts.{entries_text}
 abbrev pub AreLines : List Entry → ℕ → ℕ → List ℕ → Type 0
 AreLines h m n text = entries_text h n ≡ entries_text h m ++ text
 
--- where share number n of the entries from a place on begins: each share has so many entries, the last ones fewer or
--- none
+-- where share number n of the entries from a place on begins: all shares have equally many entries, except that the
+-- last ones may have fewer or none
 unfoldable pub share_start : List Entry → ℕ → ℕ → ℕ
 share_start h from n = min (from + SHARE * n) (length h)
 

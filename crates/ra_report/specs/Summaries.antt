@@ -1,4 +1,4 @@
--- The summary of a run: what came out of it, and how many of its proposals were done and refused.
+-- The summary of a run: its outcome, and how many of its proposals were done and refused.
 use Rattle.std.specs.Prelude.{ℕ, List, ◌++◌, codes, Bool, true, false, not, count_by}
 use Rattle.ra_base.specs.declared.costs.Parts.{Parts}
 use Rattle.ra_base.specs.declared.ids.Machine.{Machine}

@@ -13,7 +13,7 @@ use ra_report_lines::Expected;
 use ra_report_text::Line;
 
 /// Whether some bytes are exactly the line of the entry at a place, counted from 0. No such line has more than
-/// `LONGEST_LINE` bytes, its LF among them.
+/// `LONGEST_LINE` bytes, including its LF.
 pub fn is_entry_line(line: &[u8], at: u64, entry: &Entry) -> bool
     ensures exact { (result ≡ true) ↔ (line.now ≡ entry_line at entry.now) }
     ensures short { length (entry_line at entry.now) ≤ LONGEST_LINE }
@@ -25,7 +25,8 @@ pub fn is_entry_line(line: &[u8], at: u64, entry: &Entry) -> bool
 }
 
 /// The number of the first line, counted from 0, at which some bytes differ from the ten lines of a report before its
-/// entries, or one of them has none; none if they are the same. `best`, `parts` and `bound` are as in `write_report`.
+/// entries, or which only one of them has; none if they are equal. `best`, `parts` and `bound` are as in
+/// `write_report`.
 pub fn unlike_head(
     bytes: &[u8],
     best: &Assignment,

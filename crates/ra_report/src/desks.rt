@@ -21,7 +21,7 @@ const SHARE: usize = 4_096;
 /// How many bytes their lines have at most.
 const DESK_ROOM: usize = 1_200_128;
 
-/// A desk, at which the lines of some entries are written. Contracts see what was written.
+/// A desk is a buffer into which one thread writes the lines of some entries. Contracts see what was written.
 #[derive(Drop)]
 struct Desk {
     text: Fixed<u8>,
@@ -46,7 +46,7 @@ impl Desk {
         Ok(Desk { text })
     }
 
-    /// Writes the lines of a share of the entries from a place on, and nothing else.
+    /// Overwrites the desk with the lines of a share of the entries from a place on.
     #[tactic(auto, unfolding(crate::specs::Shares::share_start))]
     fn write_share(&mut self, entries: &Entries, from: usize, number: usize)
         requires few { number < 16 }
@@ -58,7 +58,7 @@ impl Desk {
         self.write_lines(entries, start, end)
     }
 
-    /// Writes the lines of the entries from a place on, before another one, and nothing else.
+    /// Overwrites the desk with the lines of the entries from a place on, before another one.
     fn write_lines(&mut self, entries: &Entries, start: usize, end: usize)
         requires order { start ≤ end }
         requires within { end ≤ length entries.now.items }
@@ -92,7 +92,7 @@ fn share_start(entries: &Entries, from: usize, number: usize) -> usize
     from.saturating_add(SHARE * number).min(entries.len())
 }
 
-/// 1 to 16 desks, at which the lines of a journal are written beside each other. Only `make` takes memory.
+/// 1 to 16 desks, at which threads write the lines of a journal at the same time. Only `make` takes memory.
 #[derive(Drop)]
 pub struct Desks {
     desks: Vec<Desk>,
@@ -101,7 +101,7 @@ pub struct Desks {
 }
 
 impl Desks {
-    /// So many desks.
+    /// This number of desks.
     pub fn make(alloc: Global, number: u32) -> Result<Desks, NoMemory>
         requires some { 1 ≤ number }
         requires few { number ≤ 16 }
@@ -114,7 +114,7 @@ impl Desks {
         Ok(Desks { desks })
     }
 
-    /// Writes the lines of the next entries from a place on, each desk a share of them, and gives the place behind them.
+    /// Writes the lines of the next entries from a place on, each desk a share of them, and gives the place after them.
     fn write_shares<R: Threads + Sync>(&mut self, rt: &R, entries: &Entries, from: usize) -> usize
         requires { from < length entries.now.items }
         ensures on { from < result }
@@ -126,8 +126,8 @@ impl Desks {
     }
 }
 
-/// Writes at each desk its share of the entries from a place on. They are written beside each other, unless one desk has
-/// them all.
+/// Writes at each desk its share of the entries from a place on. The desks write at the same time, unless one desk has
+/// all entries.
 fn write_beside<R: Threads + Sync>(rt: &R, desks: &mut Vec<Desk>, entries: &Entries, from: usize)
     requires few { length desks.old.items ≤ 16 }
     requires within { from ≤ length entries.now.items }
@@ -159,7 +159,8 @@ fn add_desks<O: Sink>(text: &mut Gathered<'_, O>, desks: &[Desk])
     }
 }
 
-/// Adds a line for each entry, in order, as `add_entries` does. The desks write them beside each other, until a put fails.
+/// Adds a line for each entry, in order, as `add_entries` does. The desks write the lines at the same time, until a put
+/// fails.
 pub(crate) fn add_entries_at<R: Threads + Sync, O: Sink>(
     rt: &R,
     desks: &mut Desks,

@@ -11,39 +11,38 @@ use ra_io::Sink;
 use ra_model_read::ModelFault;
 use ra_report_text::{Gathered, Note, Piece, add_note, add_pieces};
 
-/// Why a job was not done. The names are lent from the job. A reader's `ReadFault` is told as `Read` and its
-/// `NoMemory` as `Memory`: in `Model`, `Closed`, `Assign` and `Edits` they
-/// have no line.
+/// Why a job was not done. The names are borrowed from the job. A reader's `ReadFault` is told as `Read` and its
+/// `NoMemory` as `Memory`: in `Model`, `Closed`, `Assign` and `Edits` they have no line.
 #[derive(Clone, Copy)]
 pub enum Fault<'n> {
-    /// The words are no job.
+    /// The words are not a job.
     Usage,
     /// Reading a file failed.
     Read { name: &'n Name },
-    /// The model file is no model.
+    /// The model file is not a model.
     Model { fault: ModelFault },
-    /// A file is no closed list for the model.
+    /// A file is not a closed list for the model.
     Closed { name: &'n Name, fault: ClosedFault },
-    /// A file is no assignment for the model.
+    /// A file is not an assignment for the model.
     Assign { name: &'n Name, fault: AssignFault },
     /// A file has no edits for the model.
     Edits { name: &'n Name, fault: EditsFault },
     /// The assignment of a file breaks a constraint.
     Infeasible { name: &'n Name, cause: Cause },
-    /// A line of a report is not what the run that it tells would have written, counted from 1.
+    /// A line of a report, counted from 1, is not what the run that the report tells would have written.
     Wrong { line: u64 },
-    /// No try made the assignment of a file feasible: the last one breaks a constraint.
+    /// No try made the assignment of a file feasible: the last assignment breaks a constraint.
     Unrepaired { name: &'n Name, cause: Cause },
     /// Writing the output failed.
     Write,
-    /// Memory was refused.
+    /// The system refused memory.
     Memory,
 }
 
 const USAGE: &str =
     "usage: reassign check MODEL INITIAL NEW [--closed FILE] | bound MODEL [INITIAL [--closed FILE]] | solve MODEL INITIAL [--slack N] [--closed FILE] [--draws 1|2] LOT ... | trial N | verify MODEL INITIAL REPORT [--slack N] [--closed FILE] [--draws 1|2] LOT ... | repair MODEL INITIAL [--closed FILE] LOT | edit MODEL INITIAL CURRENT EDITS [--closed FILE]";
 
-/// What the line of a fault says: some words, a name and what stands behind it, and a note.
+/// What the line of a fault says: some words, a name and the text after it, and a note.
 #[derive(Clone, Copy)]
 struct FaultLine<'n> {
     words: &'static str,

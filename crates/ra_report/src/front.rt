@@ -15,8 +15,8 @@ pub struct Front {
     pub q: u64,
 }
 
-/// The worker of an entry and how many entries it had taken in, from the entry's line or at least the first
-/// `LONGEST_FRONT` bytes of it. Of bytes that are no line of an entry it may say anything.
+/// The worker of an entry and how many entries it had taken in, read from the entry's line or from at least its first
+/// `LONGEST_FRONT` bytes. For other bytes the answer means nothing.
 pub fn read_front(line: &[u8]) -> Option<Front>
     ensures whole { (j : ℕ) (e : Entry) → IsSmallEntry e → line.now ≡ entry_line j e
         → result ≡ Some (front_of e) }
@@ -47,7 +47,7 @@ fn read_numbers(line: &[u8]) -> Option<Front>
     })
 }
 
-/// The place behind the digits that stand from a place on, and behind one byte more.
+/// The place after the digits from a place on, and after one byte more.
 fn behind_number(bytes: &[u8], from: usize) -> Option<usize>
     requires { from ≤ length bytes.now }
     ensures behind { (n : ℕ) (rest : List ℕ) → drop from bytes.now ≡ number_text n ++ 32 ∷ rest
@@ -62,7 +62,7 @@ fn behind_number(bytes: &[u8], from: usize) -> Option<usize>
     }
 }
 
-/// How many digits stand in front.
+/// How many digits there are in front.
 fn digits_length(bytes: &[u8]) -> usize
     ensures past { drop result bytes.now ≡ past bytes.now }
     ensures within { result ≤ length bytes.now }

@@ -50,7 +50,7 @@ pub(crate) fn write_line(line: &mut Line, place: u64, entry: &Entry)
     prepend_front(line, place, entry)
 }
 
-/// Writes the words of an entry before its steps in front, with a space behind each.
+/// Writes the words of an entry before its steps in front, with a space after each.
 #[inline(always)]
 fn prepend_front(line: &mut Line, place: u64, entry: &Entry)
     requires { HasRoom line.old 90 }
@@ -76,7 +76,7 @@ pub(crate) fn prepend_kind(line: &mut Line, kind: MoveKind)
     }
 }
 
-/// Writes the steps of a move in front, with a space behind each.
+/// Writes the steps of a move in front, with a space after each.
 #[inline(always)]
 pub(crate) fn prepend_steps(line: &mut Line, mv: &Move)
     requires { HasRoom line.old 189 }
@@ -89,7 +89,7 @@ pub(crate) fn prepend_steps(line: &mut Line, mv: &Move)
     }
 }
 
-/// Writes a step in front, with a space behind it.
+/// Writes a step in front, with a space after it.
 #[inline(always)]
 fn prepend_step(line: &mut Line, step: Step)
     requires { HasRoom line.old 63 }

@@ -1,4 +1,4 @@
-//! How long the line of an entry is at most. Each function does nothing, and its contract is a bound that holds of the
+//! How long the line of an entry is at most. Each function does nothing, and its contract is a bound that holds for the
 //! values of its types.
 ghost use Rattle.std.specs.Prelude.{◌≤◌, ◌++◌, length};
 ghost use Rattle.ra_report_text.specs.Texts.{space, number_text, cause_text};
@@ -9,10 +9,10 @@ use ra_journal::Entry;
 use ra_moves::{Move, Step, Verdict};
 use ra_report_text::{CauseWords, cause_words};
 
-/// The most bytes of the line of an entry, its LF among them.
+/// The most bytes of the line of an entry, including its LF.
 pub const LONGEST_LINE: usize = 293;
 
-/// The most bytes of the four numbers with which the line of an entry begins, the space behind each among them.
+/// The most bytes of the four numbers at the front of the line of an entry, including the space after each.
 pub const LONGEST_FRONT: usize = 74;
 
 /// The line of an entry is short.
@@ -54,7 +54,7 @@ fn steps_are_short(mv: &Move)
     }
 }
 
-/// The word of a step is short, with a space behind it.
+/// The word of a step is short, with a space after it.
 fn step_is_short(step: Step)
     ensures { length (step_text step ++ space) ≤ 33 }
 {

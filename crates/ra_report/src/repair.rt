@@ -89,7 +89,7 @@ fn prepend_front(line: &mut Line, one: &Try)
     line.prepend_number(one.k)
 }
 
-/// Writes the words of a try behind its steps in front.
+/// Writes the words of a try after its steps in front.
 fn prepend_back(line: &mut Line, one: &Try)
     requires { HasRoom line.old 86 }
     ensures { Prepends line.old line.new (try_back one.now) 86 }
@@ -101,7 +101,7 @@ fn prepend_back(line: &mut Line, one: &Try)
     prepend_taken(line, one.taken)
 }
 
-/// Writes in front whether a move was taken, and a space behind it.
+/// Writes in front whether a move was taken, and a space after it.
 fn prepend_taken(line: &mut Line, taken: bool)
     requires { HasRoom line.old 6 }
     ensures { Prepends line.old line.new (taken_text taken ++ space) 6 }

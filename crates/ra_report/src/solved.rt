@@ -46,7 +46,7 @@ pub(crate) fn add_head<O: Sink>(
     add_number(text, "draws", drawing_number(drawing))
 }
 
-/// Adds the eight lines of what came out of a run: the parts, the total of the bound, and a place.
+/// Adds the eight lines of the outcome of a run: the parts, the total of the bound, and a place.
 pub(crate) fn add_outcome<O: Sink>(
     text: &mut Gathered<'_, O>,
     parts: &Parts,

@@ -28,7 +28,7 @@ pub fn write_parts<O: Sink>(sink: &mut O, parts: &Parts) -> Result<(), WriteFaul
     text.finish()
 }
 
-/// Writes a cause: its name and its numbers, with no end of the line.
+/// Writes a cause: its name and its numbers, without an end of the line.
 pub fn write_cause<O: Sink>(sink: &mut O, cause: &Cause) -> Result<(), WriteFault>
     ensures { Writes (writing O.Sink sink.old sink.new) (cause_text cause.now) result }
 {
@@ -60,7 +60,7 @@ pub fn write_report<O: Sink>(
     text.finish()
 }
 
-/// Writes the report of a run as `write_report` does; the lines of its entries are written at desks beside each other.
+/// Writes the report of a run as `write_report` does, but the desks write the lines of its entries at the same time.
 pub fn write_report_at<R: Threads + Sync, O: Sink>(
     rt: &R,
     desks: &mut Desks,
@@ -113,7 +113,7 @@ pub fn write_entry<O: Sink>(sink: &mut O, at: u64, entry: &Entry) -> Result<(), 
     text.finish()
 }
 
-/// Writes the line of a report that was found right: `accepted` and the number of its entries.
+/// Writes the line for a report that was found right: `accepted` and the number of its entries.
 pub fn write_accepted<O: Sink>(sink: &mut O, entries: u64) -> Result<(), WriteFault>
     ensures { Writes (writing O.Sink sink.old sink.new) (accepted_line entries) result }
 {

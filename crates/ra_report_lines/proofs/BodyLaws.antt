@@ -1,11 +1,11 @@
--- Bytes without LF, and the LF behind them.
+-- Bytes without LF, and the LF after them.
 use Rattle.std.proofs.Common.{◌≡◌, ℕ, suc, ◌+◌, ◌<◌, ◌≤◌, Bool, true, false, cond, eqb, List, [], ◌∷◌, ◌++◌, length}
 use Rattle.std.proofs.Common.{take, drop, get_or, refl, sym, ◌∙◌, ap, arith, length-append}
 use Rattle.std.proofs.lemmas.List.{append-nil, take_more, take-append-drop}
 use Rattle.std.proofs.Math.Seq.{drop-cons}
 use Rattle.ra_report_lines.specs.Lines.{ends_line, body_of, HasNoEnd, end_count}
 
--- of bytes without LF the first is none, and there is none behind it
+-- of bytes without LF the first is none, and there is none after it
 pub record NoEndFirst (byte : ℕ) (bytes : List ℕ) : Type 0 where
   pub first : eqb byte 10 ≡ false
   pub rest : HasNoEnd bytes

@@ -45,7 +45,7 @@ given_to e line agreed faults other text (inr part) =
     let p = opened_back e line (given_of e agreed other) (take part.0 text) part.1 in
     record { same = p.0; was_put = inr (part.0, p.1, part.2) }
 
--- what follows in the text behind the bytes that agree
+-- what follows in the text after the bytes that agree
 pub record Behind (p : List ℕ) (other : Option ℕ) (text : List ℕ) : Type 0 where
   pub rest : List ℕ
   pub split : text ≡ p ++ rest
@@ -71,7 +71,7 @@ behind_given expected text agreed faults (Some b) sound (inr part) = record {
   first = refl;
 }
 
--- the first byte behind those that agree is the one that was expected only if all agree
+-- the first byte after those that agree is the one that was expected only if all agree
 first_left : (expected : List ℕ) (agreed : ℕ) (b : ℕ) → slice_get (drop agreed expected) 0 ≡ Some b →
     is_byte_at expected agreed b ≡ true
 first_left expected agreed b e =

@@ -19,7 +19,7 @@ pub record KeepsFiles (held_before held_now : List ℕ → Option (List ℕ)) (f
     pub kept : (other : List ℕ) → held_now other ≡ held_before other
     pub never_fell : (other : List ℕ) → faults_before other ≤ faults_now other
 
--- of the bytes from a place on some were given, behind those of a list, and there is no LF among them
+-- of the bytes from a place on some were given at the end of a list, and there is no LF among them
 pub record GaveNoEnd (bytes : List ℕ) (place given : ℕ) (before line ready : List ℕ) : Type 0 where
   pub gave : Gave bytes place given before line ready
   pub unended : HasNoEnd (take given (drop place bytes))
@@ -108,7 +108,7 @@ told_more (Some bytes) place given total n before line ready after left sum with
           (no_end_both (take given (drop place bytes)) (take n ready) gave.unended none);
     }))
 
--- the given bytes with an LF behind them are the next line
+-- the given bytes with an LF after them are the next line
 pub told_gave : (told : Option (List ℕ)) (place given total n : ℕ) (before line ready after left : List ℕ) →
     total ≡ given + n → n ≤ length ready → after ≡ line ++ take n ready → left ≡ drop n ready
     → IfSome told (λ bytes. GaveNoEnd bytes place given before line ready) →
@@ -151,7 +151,7 @@ told_line (Some bytes) place given total n room now before line ready sum within
     ∙ length-append ended.body (10 ∷ []) in
     omega (arith, length-take n ready, length-take given (drop place bytes)))
 
--- no byte is left behind those that were given
+-- no byte is left after those that were given
 pub told_last : (told told_now : Option (List ℕ)) (place given room now : ℕ) (before line ready : List ℕ) →
     told_now ≡ told → now ≡ place + given → 0 < given → given ≤ room → length line ≡ length before + given
     → IfSome told (λ bytes. GaveNoEnd bytes place given before line ready) →
@@ -246,7 +246,7 @@ told_long (Some bytes) place given room before line ready long number gave =
           long = omega (arith, body_at_least (b ∷ t) first.more none);
         }
 
--- what a buffer has ready behind those that were given
+-- what a buffer has ready after those that were given
 pub left_behind : (items : List ℕ) (at filled n : ℕ) → n ≤ filled - at →
     take (filled - (at + n)) (drop (at + n) items) ≡ drop n (take (filled - at) (drop at items))
 left_behind items at filled n within =

@@ -1,10 +1,10 @@
--- The first line of bytes, and the lines behind it.
+-- The first line of bytes, and the lines after it.
 use Rattle.std.proofs.Common.{◌≡◌, ℕ, ◌<◌, Bool, true, false, cond, eqb, List, [], ◌∷◌, ◌++◌, length, refl, sym, ◌∙◌}
 use Rattle.std.proofs.Common.{ap, arith}
 use Rattle.ra_report_lines.specs.Lines.{onto_first, lines_of, joined_lines, ends_line, HasNoEnd}
 use Rattle.ra_report_lines.proofs.BodyLaws.{no_end_first}
 
--- a byte that is no LF stands in the first line of what follows
+-- a byte that is not an LF is in the first line of what follows
 pub lines_onto : (byte : ℕ) (bytes : List ℕ) → eqb byte 10 ≡ false →
     lines_of (byte ∷ bytes) ≡ onto_first byte (lines_of bytes)
 unfolding lines_of

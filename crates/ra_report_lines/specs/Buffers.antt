@@ -20,7 +20,7 @@ pub record IsEnded (bytes : List ℕ) : Type 0 where
   pub unended : HasNoEnd body
   pub split : bytes ≡ body ++ 10 ∷ []
 
--- of the bytes from a place on some were given, behind those of a list, and others are ready
+-- of the bytes from a place on, some were given at the end of a list, and others are ready
 pub record Gave (bytes : List ℕ) (place given : ℕ) (before line ready : List ℕ) : Type 0 where
   pub text : line ≡ before ++ take given (drop place bytes)
   pub front : take (length ready) (drop (place + given) bytes) ≡ ready
@@ -58,8 +58,8 @@ pub record MakesReady (files : Reading) (name : List ℕ) (place : ℕ) (old new
   pub kept : (other : List ℕ) → files.held_after other ≡ files.held other
   pub never_fall : (other : List ℕ) → files.before other ≤ files.after other
 
--- the front of the bytes that were ready was added to a list, up to the first LF with it, or all of them, but no more
--- than there was room for
+-- the front of the ready bytes was added to a list, up to and with the first LF, or all of them, but no more than there
+-- was room for
 pub record GivesFront (most_bytes : ℕ) (old new : List ℕ) (before after : Fixed ℕ) (is_ended : Bool) : Type
     0 where
   pub given : after.items ≡ before.items ++ take (added before after) old

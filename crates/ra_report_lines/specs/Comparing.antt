@@ -1,4 +1,4 @@
--- Bytes that are compared with those that are expected.
+-- Bytes that are compared with expected bytes.
 use Rattle.std.specs.Prelude.{◌≡◌, ℕ, ◌<◌, ◌⊎◌, Bool, ◌&&◌, nat_lt, nat_eq, List, [], ◌∷◌, ◌++◌, take, length, get_or}
 use Rattle.std.specs.Prelude.{Option, Some, None}
 
@@ -11,7 +11,7 @@ abbrev pub one_or_none : Option ℕ → List ℕ
 one_or_none None = []
 one_or_none (Some byte) = byte ∷ []
 
--- the front that agrees, and behind it the first byte that doesn't
+-- the front that agrees, and after it the first byte that doesn't
 abbrev pub given_of : List ℕ → ℕ → Option ℕ → List ℕ
 given_of expected agreed other = take agreed expected ++ one_or_none other
 
@@ -19,8 +19,8 @@ given_of expected agreed other = take agreed expected ++ one_or_none other
 abbrev pub opened : List ℕ → List ℕ
 opened expected = length expected ∷ expected
 
--- a sink that compares counts as one that took the bytes that it expects before all others, so that these are known to
--- stay whatever is written to it
+-- a comparing sink counts as one that took the bytes that it expects before all others, so that these are known to stay
+-- whatever is written to it
 abbrev pub taken_of : List ℕ → ℕ → Option ℕ → List ℕ
 taken_of expected agreed other = opened expected ++ given_of expected agreed other
 

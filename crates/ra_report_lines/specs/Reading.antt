@@ -13,11 +13,11 @@ use Rattle.ra_report_lines.specs.Standing.{Standing}
 pub record StandsIn (bytes : List ℕ) (reader : Standing) : Type 0 where
   pub front : take (length reader.ready) (drop reader.place bytes) ≡ reader.ready
 
--- if the bytes of the file are told, the reader stands in them
+-- if the bytes of the file are told, the reader is in them
 abbrev pub Reads : Option (List ℕ) → Standing → Type 0
 Reads told reader = IfSome told (λ bytes. StandsIn bytes reader)
 
--- the bytes begin with a line that ends with LF and is no longer than the room, and behind it others are left
+-- the bytes begin with a line that ends with LF and is no longer than the room, and other bytes are left after it
 pub record BeginsWithLine (room : ℕ) (bytes after : List ℕ) : Type 0 where
   pub line : List ℕ
   pub split : bytes ≡ line ++ after
@@ -25,7 +25,7 @@ pub record BeginsWithLine (room : ℕ) (bytes after : List ℕ) : Type 0 where
   pub ended : ends_line line ≡ true
   pub short : length_before_end line ≤ room
 
--- the bytes are one line without LF that is no longer than the room, and nothing is left behind it
+-- the bytes are one line without LF that is no longer than the room, and nothing is left after it
 pub record IsLastLine (room : ℕ) (bytes after : List ℕ) : Type 0 where
   pub lines : lines_of bytes ≡ bytes ∷ []
   pub unended : ends_line bytes ≡ false
@@ -39,7 +39,7 @@ pub record BeginsOverLong (room : ℕ) (bytes : List ℕ) : Type 0 where
   pub lines : lines_of bytes ≡ line ∷ others
   pub long : IsOverLong room line
 
--- what the next line is, of the bytes that are left; and what is left behind it
+-- what the next line of the bytes is, and what is left after it
 abbrev pub IsNext : ℕ → List ℕ → List ℕ → Next → Type 0
 IsNext room bytes after Line = BeginsWithLine room bytes after
 IsNext room bytes after Last = IsLastLine room bytes after

@@ -1,13 +1,13 @@
-/// What came next of a file.
+/// What comes next in a file.
 #[derive(Clone, Copy, Debug, PartialEq, Eq)]
 pub enum Next {
     /// A line that ends with LF.
     Line,
     /// The last line, which ends with the file and has no LF.
     Last,
-    /// A line with more bytes before its LF or its end than there was room for. Its first bytes were given.
+    /// A line with more bytes before its LF or its end than there is room for. Its first bytes were given.
     Long,
-    /// Nothing: all lines were given.
+    /// Nothing, since all lines were given.
     End,
 }
 

@@ -11,14 +11,14 @@ use std::alloc::{AllocError, Global};
 /// How many bytes are fetched at once.
 pub const BUFFER_BYTES: usize = 65_536;
 
-/// Some bytes of a file, held ready.
+/// Some bytes of a file that are held ready.
 #[derive(Drop)]
 pub struct Buffer {
     /// The index of the first byte that was not given yet.
     pub at: usize,
-    /// How many bytes were fetched, those that were given among them.
+    /// How many bytes were fetched, including those that were given.
     pub filled: usize,
-    /// Those bytes, and room for more.
+    /// The fetched bytes, and room for more.
     pub bytes: Vec<u8>,
     pub ghost whole: { vec_len bytes ≡ BUFFER_BYTES },
     pub ghost within: { filled ≤ BUFFER_BYTES },
@@ -40,7 +40,7 @@ impl Buffer {
         })
     }
 
-    /// Adds the next line of a file from `place` on behind what `line` has, as `LineReader::next` does.
+    /// Adds the next line of a file from `place` on at the end of `line`, as `LineReader::next` does.
     pub fn next_line<F: Files>(
         &mut self,
         files: &mut F,
@@ -71,7 +71,7 @@ impl Buffer {
         Ok(Next::Long)
     }
 
-    /// Whether bytes are ready. If none were, those from `place` on are fetched first.
+    /// Whether bytes are ready. If none are, it first fetches those from `place` on.
     pub fn has_ready<F: Files>(
         &mut self,
         files: &mut F,
@@ -94,8 +94,8 @@ impl Buffer {
         Ok(number > 0)
     }
 
-    /// Gives the bytes that are ready up to the first LF, with it, or all of them, but at most `most`: they are added
-    /// to `line`. Says whether there was an LF.
+    /// Gives the ready bytes up to and with the first LF, or all of them, but at most `most`: it adds them to `line`.
+    /// Says whether there was an LF.
     pub fn give(&mut self, most: usize, line: &mut Fixed<u8>) -> bool
         requires room { length line.old.items + most ≤ line.old.room }
         ensures { GivesFront most (ready_of self.old) (ready_of self.new) line.old line.new
@@ -108,7 +108,7 @@ impl Buffer {
     }
 }
 
-/// What comes next if the file ends behind `given` bytes of a line.
+/// What comes next if the file ends after `given` bytes of a line.
 fn at_end(given: usize) -> Next
     ensures none { given ≡ 0 → result ≡ Next.End }
     ensures some { 0 < given → result ≡ Next.Last }

@@ -6,9 +6,9 @@ ghost use Rattle.ra_report_lines.specs.Comparing.{is_byte_at, opened, WasGiven};
 use crate::scan::{count_ends, same_length};
 use ra_io::{Failed, Sink};
 
-/// A sink that compares what it is given with the bytes that are expected. It takes what agrees and the first byte that
-/// does not, and then fails: so after a call that writes a text to a new one, it tells whether the text is what was
-/// expected, whether or not the call failed.
+/// A sink that compares the bytes it is given with the expected ones. It takes the bytes that agree and the first one
+/// that doesn't, and fails after that. So once a call has written a text to a new sink, the sink tells whether the text
+/// is the expected one, whether or not the call failed.
 #[derive(Drop)]
 pub struct Expected<'a> {
     expected: &'a [u8],
@@ -24,7 +24,7 @@ pub struct Expected<'a> {
 impl<'a> Expected<'a> {
     ghost use Rattle.ra_report_lines.specs.Expecteds as sink;
 
-    /// It was given nothing yet.
+    /// A sink that was given nothing yet.
     pub fn make(expected: &'a [u8]) -> Expected<'a>
         ensures none { sink.taken result ≡ opened expected.now }
         ensures sound { sink.faults result ≡ 0 }
@@ -37,7 +37,7 @@ impl<'a> Expected<'a> {
         }
     }
 
-    /// Whether it was given exactly the bytes that are expected.
+    /// Whether the sink was given exactly the expected bytes.
     pub fn is_same(&self) -> bool
         ensures { (expected text : List ℕ) → WasGiven expected
             (sink.taken self.now) (sink.faults self.now) text →
@@ -49,8 +49,8 @@ impl<'a> Expected<'a> {
         }
     }
 
-    /// The number of the first line, counted from 0, at which what it was given differs from the bytes that are
-    /// expected, or one of them has none; none if they are the same.
+    /// The number of the first line, counted from 0, at which the given and the expected bytes differ, or which only
+    /// one of them has; none if they are equal.
     pub fn unlike_line(&self) -> Option<usize>
         ensures same { (expected text : List ℕ) → WasGiven expected
             (sink.taken self.now) (sink.faults self.now) text →

@@ -1,7 +1,7 @@
-//! The lines of a file, one after another, through one buffer, and a sink that compares what it is given with bytes that
-//! are expected.
+//! The lines of a file, one after another, through one buffer, and a sink that compares what it is given with expected
+//! bytes.
 //!
-//! A line ends behind its LF, and a last piece without LF is a line too.
+//! A line ends after its LF, and a last piece without LF is a line too.
 #![tactic(auto)]
 
 mod answers;

@@ -27,8 +27,8 @@ impl Model for LineReader {
 }
 
 impl LineReader {
-    /// A reader at the start of a file, of which it has fetched nothing yet. So it reads whichever files the first call
-    /// of `next` is given.
+    /// A reader at the start of a file. It has fetched nothing yet, so it reads whichever files the first call of
+    /// `next` is given.
     pub fn make(alloc: Global, name: &str) -> Result<LineReader, NoMemory>
         ensures name { IfOk result (λ r. r.name ≡ name.now) }
         ensures reads { IfOk result (λ r. (told : Option (List ℕ)) → Reads told r) }
@@ -43,13 +43,13 @@ impl LineReader {
         })
     }
 
-    /// Adds the next line behind what `line` has, with its LF, if at most `room` bytes come before the LF or the end,
-    /// and says what it is. Of a longer line the first `room + 1` bytes are added. Each call needs the files of the
-    /// first: if the bytes of its file are told, they have to be the same.
+    /// Adds the next line, with its LF, at the end of `line`, if at most `room` bytes come before the LF or the end,
+    /// and says what it is. Of a longer line it adds the first `room + 1` bytes. Each call needs the files of the first
+    /// call: if the bytes of its file are told, they have to be equal.
     ///
     /// # Errors
     ///
-    /// A fetch failed. The bytes of the line that were fetched before were given, and the next call goes on behind them.
+    /// A fetch failed. The bytes of the line that were fetched before were given, and the next call goes on after them.
     pub fn next<F: Files>(
         &mut self,
         files: &mut F,

@@ -16,8 +16,8 @@ pub fn body_length(bytes: &[u8]) -> usize
     bytes.len()
 }
 
-/// How many of the bytes, of which at most `most` are looked at, stand up to the first LF, the LF among them, or else how
-/// many were looked at; and whether there was an LF.
+/// Among at most `most` bytes, the number of bytes up to and with the first LF, or else of all that were looked at; and
+/// whether there was an LF.
 pub fn line_front(bytes: &[u8], most: usize) -> (usize, bool)
     ensures ended { result.1 ≡ true → IsEnded (take result.0 bytes.now) }
     ensures unended { result.1 ≡ false → HasNoEnd (take result.0 bytes.now) }
@@ -33,7 +33,7 @@ pub fn line_front(bytes: &[u8], most: usize) -> (usize, bool)
     (body, false)
 }
 
-/// How many bytes at the front of two slices are the same.
+/// How many bytes at the front of two slices are equal.
 pub fn same_length(a: &[u8], b: &[u8]) -> usize
     ensures same { take result a.now ≡ take result b.now }
     ensures within { result ≤ length a.now }

@@ -16,7 +16,7 @@ use Rattle.ra_report_text.specs.Gathering.{Moves, Adds}
 use Rattle.ra_report_text.specs.Writes.{Writes}
 use Rattle.ra_report_text.proofs.PieceLemmas.{breaks_after, breaks_before, bytes_take, words_take}
 
--- what stands behind two puts, one after the other
+-- what follows two puts, one after the other
 pub two_puts : (p q u v w s t : List ℕ) → p ++ v ≡ u ++ s → q ++ w ≡ v ++ t → (p ++ q) ++ w ≡ u ++ (s ++ t)
 two_puts p q u v w s t first next =
     append_assoc p q w

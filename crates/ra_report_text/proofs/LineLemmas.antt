@@ -16,7 +16,7 @@ in_front {a} {b} {c} {s} {t} {m} {n} first next =
           omega arith;
     }
 
--- the same within more room
+-- what fits into some room fits into more
 pub at_most : {a b s : List ℕ} {m : ℕ} (n : ℕ) → m ≤ n → Prepends a b s m → Prepends a b s n
 at_most {a} {b} {s} {m} n more before =
     record { line = before.line; short = let h : length b ≤ m + length a = before.short in omega arith }
@@ -29,14 +29,14 @@ nothing a = record { line = refl; short = omega arith }
 pub alone : {a b s : List ℕ} {m : ℕ} → a ≡ [] → Prepends a b s m → b ≡ s
 alone {a} {b} {s} none before = before.line ∙ (ap (λ (l : List ℕ). s ++ l) none ∙ append-nil s)
 
--- the text stands in front of what stood there
+-- the text is in front of what was there
 pub before_is : {a b s : List ℕ} {m : ℕ} → b ≡ s ++ a → length s ≤ m → Prepends a b s m
 before_is {a} {b} {s} {m} is few = record {
   line = is;
   short = let h : length b ≡ length s + length a = ap length is ∙ length-append s a in omega arith;
 }
 
--- there is room in front of what stands there
+-- there is room in front of what is there
 pub room_before : (bytes line : List ℕ) (from more : ℕ) → length bytes ≡ 400 → from ≤ 400 → drop from bytes ≡ line →
     more + length line ≤ 400 → more ≤ from
 room_before bytes line from more all within is room =
@@ -46,7 +46,7 @@ room_before bytes line from more all within is room =
 pub twenty_digits : (n : ℕ) → n < 2 ^ 64 → length (decimal n) ≤ 20
 twenty_digits n fits = length-decimal-le 20 n (omega arith) (omega arith) fits
 
--- a number stands in front of what stood there
+-- a number is in front of what was there
 pub number_before : (bytes : List ℕ) (from : ℕ) {line new : List ℕ} (n : ℕ) → n < 2 ^ 64 → drop from bytes ≡ line →
     new ≡ decimal n ++ drop from bytes → Prepends line new (number_text n) 20
 number_before bytes from {line} {new} n fits is written =

@@ -132,7 +132,7 @@ number_told n x ends = ap (told 0) (text_onto n x) ∙ (told_onto (64 + n / 10 ^
 pub number_past : (n : ℕ) (x : List ℕ) → Ends x → past (number_text n ++ x) ≡ x
 number_past n x ends = number_skipped past past_glyph n x ∙ past_ends x ends
 
--- the same number, and the same behind it
+-- two equal texts tell one number, and go on alike
 pub number_then : (n m : ℕ) (x y : List ℕ) → Ends x → Ends y → number_text n ++ x ≡ number_text m ++ y → (n ≡ m)
     × (x ≡ y)
 number_then n m x y ends stops e = (

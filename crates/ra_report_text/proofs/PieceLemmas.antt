@@ -12,7 +12,7 @@ use Rattle.ra_io.specs.Pieces.{AppendsPart}
 use Rattle.ra_report_text.specs.declared.pieces.Piece.{Piece}
 use Rattle.ra_report_text.specs.Pieces.{bytes_of, piece_bytes, Breaks}
 
--- a front of the second text, behind the whole first one
+-- a front of the second text, after the whole first one
 pub part_after : (a b c : Option (List ℕ)) (s t : List ℕ) → Appends a b s → AppendsPart b c t → AppendsPart a c (s ++ t)
 part_after a b c s t first part =
     let same : take (length s + part.0) (s ++ t) ≡ s ++ take part.0 t = take-append-add s t part.0 in

@@ -4,8 +4,8 @@ use Rattle.std.specs.Io.KnownBytes.{Appends}
 use Rattle.ra_report_text.specs.declared.gathered.Gathered.{Gathered}
 use Rattle.ra_report_text.specs.Pieces.{Breaks}
 
--- what waited and the text behind it were put, but for what waits now; or a put failed, and the sink took a front of
--- them; once a put has failed, the sink takes nothing more
+-- what waited and the text after it were put, except for what waits now; or a put failed, and the sink took a front of
+-- them; after a put has failed, the sink takes nothing more
 unfoldable pub Moves : Bool → Bool → Option (List ℕ) → Option (List ℕ) → ℕ → ℕ → List ℕ → List ℕ
     → List ℕ → Type 0
 Moves false false old new before after waited waits text =
@@ -15,8 +15,8 @@ Moves false true old new before after waited waits text =
 Moves true false old new before after waited waits text = ⊥
 Moves true true old new before after waited waits text = (new ≡ old) × (after ≡ before)
 
--- the text was added: it waits, or it was put, or a put failed. The sink is the same, and its count of faults never
--- fell
+-- the text was added: it waits, or it was put, or a put failed. The sink is the same one, and its count of faults
+-- didn't fall
 abbrev pub Adds : {O : Type 0} → (O → Option (List ℕ)) → (O → ℕ) → Gathered O → Gathered O → List ℕ
     → Type 0
 Adds taken faults old new text =

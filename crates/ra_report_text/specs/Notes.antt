@@ -5,7 +5,7 @@ use Rattle.ra_report_text.specs.declared.notes.Note.TheVariants.{Nothing, Words,
 use Rattle.ra_report_text.specs.Pieces.{joined}
 use Rattle.ra_report_text.specs.Texts.{space, number_text, cause_text}
 
--- what is said of a number that is not within its limits: some words, the name of its field, its place, the number, the
+-- the text for a number that is not within its limits: some words, the name of its field, its place, the number, the
 -- limits
 abbrev pub range_text : List ℕ → List ℕ → ℕ → ℕ → ℕ → ℕ → List ℕ
 range_text words field at value least most =

@@ -15,7 +15,7 @@ space = 32 ∷ []
 abbrev pub line_end : List ℕ
 line_end = 10 ∷ []
 
--- a number in decimal, without leading zeros: all its digits, of which below 10 ^ 64 there are at most 64
+-- a number in decimal, without leading zeros; a number below 10 ^ 64 has at most 64 digits
 unfoldable pub number_text : ℕ → List ℕ
 number_text n = digits_onto (64 + n / 10 ^ 64) 10 false n []
 

@@ -10,7 +10,7 @@ pub enum WriteFault {
     Put,
 }
 
-/// A text on its way to a sink: what is added waits until no more fits, and is then put in one piece. Once a put has
+/// A text on its way to a sink: what is added waits until no more fits, and is then put in one piece. After a put has
 /// failed, nothing more is put.
 #[derive(Drop)]
 pub struct Gathered<'a, O: Sink> {
@@ -20,7 +20,7 @@ pub struct Gathered<'a, O: Sink> {
 }
 
 impl<'a, O: Sink> Gathered<'a, O> {
-    /// Nothing was added yet.
+    /// A gathered text without bytes.
     pub fn make(to: &'a mut O) -> Gathered<'a, O>
         ensures same_reference { result.to.ghost_name ≡ to.entry.ghost_name }
         ensures same { result.to.now ≡ to.old }
@@ -44,7 +44,7 @@ impl<'a, O: Sink> Gathered<'a, O> {
         }
     }
 
-    /// Adds a piece that no longer fits: what waits is put first.
+    /// Adds a piece that no longer fits: it first puts what waits.
     #[cold]
     #[inline(never)]
     fn add_past(&mut self, piece: &[u8])
@@ -87,7 +87,7 @@ impl<'a, O: Sink> Gathered<'a, O> {
         self.waiting.clear();
     }
 
-    /// Puts a piece, if nothing waits.
+    /// Puts a piece, while nothing waits.
     fn put(&mut self, piece: &[u8])
         requires { self.old.waiting ≡ [] }
         ensures { Adds O.taken O.faults self.old self.new piece.now }

@@ -8,8 +8,8 @@ use std::marker::Model;
 /// How many bytes fit into a line.
 pub const LINE_ROOM: usize = 400;
 
-/// A line that is written from its end to its front, so that the digits of a number are written to where they stay.
-/// Contracts see its bytes.
+/// A line that is written from its end to its front, so that the digits of a number are written directly to their
+/// places. Contracts see its bytes.
 #[derive(Drop)]
 pub struct Line {
     bytes: [u8; LINE_ROOM],
@@ -27,7 +27,7 @@ impl Model for Line {
 }
 
 impl Line {
-    /// Nothing is written yet.
+    /// An empty line.
     pub fn new() -> Line
         ensures { result ≡ [] }
     {
@@ -37,7 +37,7 @@ impl Line {
         }
     }
 
-    /// Begins anew.
+    /// Empties the line.
     pub fn clear(&mut self)
         ensures { self.new ≡ [] }
     {
@@ -82,7 +82,7 @@ impl Line {
         self.from = write_digits(number, &mut self.bytes, self.from);
     }
 
-    /// Writes a byte in front, and behind it a number in decimal.
+    /// Writes a byte in front, and after this byte a number in decimal.
     #[inline(always)]
     pub fn prepend_marked(&mut self, mark: u8, number: u64)
         requires { HasRoom self.old 21 }

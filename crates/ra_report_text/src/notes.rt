@@ -26,7 +26,7 @@ pub enum Note<'a> {
     Cause(&'a str, Cause),
 }
 
-/// Adds what a note says, with no end of the line.
+/// Adds what a note says, without an end of the line.
 #[tactic(auto, unfolding(crate::specs::Notes::note_text))]
 pub fn add_note<O: Sink>(text: &mut Gathered<'_, O>, note: Note<'_>)
     ensures { Adds O.taken O.faults text.old text.new (note_text note.entry) }
@@ -62,7 +62,7 @@ pub fn add_note<O: Sink>(text: &mut Gathered<'_, O>, note: Note<'_>)
     }
 }
 
-/// Adds what is said of the number of a field that is not within its limits.
+/// Adds the text for the number of a field that is not within its limits.
 fn add_range<'a, O: Sink>(
     text: &mut Gathered<'_, O>,
     words: &'a str,

@@ -14,7 +14,7 @@ pub enum Piece<'a> {
     Text(&'a str),
     /// A number in decimal.
     Number(u128),
-    /// A byte, and behind it a number in decimal.
+    /// A byte, and after it a number in decimal.
     Marked(u8, u64),
 }
 
@@ -27,7 +27,7 @@ pub fn add_decimal<O: Sink>(text: &mut Gathered<'_, O>, number: u64)
     text.add(Buffer::new().format(number).as_bytes())
 }
 
-/// Adds a byte, and behind it a number in decimal.
+/// Adds a byte, and after it a number in decimal.
 #[inline(always)]
 pub fn add_marked<O: Sink>(text: &mut Gathered<'_, O>, mark: u8, number: u64)
     ensures { Adds O.taken O.faults text.old text.new (mark ∷ number_text number) }

@@ -35,7 +35,7 @@ pub fn add_parts<O: Sink>(text: &mut Gathered<'_, O>, parts: &Parts)
     )
 }
 
-/// Adds a cause: its name and its numbers, with no end of the line.
+/// Adds a cause: its name and its numbers, without an end of the line.
 #[tactic(auto, unfolding(crate::specs::CauseTexts::words_text))]
 pub fn add_cause<O: Sink>(text: &mut Gathered<'_, O>, cause: &Cause)
     ensures { Adds O.taken O.faults text.old text.new (cause_text cause.now) }

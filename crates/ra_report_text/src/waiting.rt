@@ -5,7 +5,7 @@ use std::marker::Model;
 /// How many bytes wait at most.
 const ROOM: usize = 16_384;
 
-/// Bytes that wait, which are let go without a pass over them. Contracts see the list of them.
+/// Bytes that wait, which are freed without a pass over them. Contracts see the list of them.
 #[derive(Drop)]
 pub struct Waiting {
     bytes: [u8; ROOM],
@@ -57,7 +57,7 @@ impl Waiting {
         true
     }
 
-    /// Lets go what waits.
+    /// Drops what waits.
     pub fn clear(&mut self)
         ensures { self.new ≡ [] }
     {

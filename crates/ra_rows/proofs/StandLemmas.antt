@@ -48,7 +48,7 @@ stand_at_start i a0 used between fits sums copied = record {
       ∙ sym (transient_at_start i a0 m r);
 }
 
--- what stands for an assignment is small
+-- what represents an assignment is small
 
 pub stands_below : (i : Tables) (start a : List Machine) (used between : List ℕ) → WellFormed i → Small i →
     StandFor (rows_of i start used between) a → (IsBelow (resource_count i) (2 ^ 48) used)

@@ -7,21 +7,21 @@ use Rattle.ra_model.specs.Numbers.{resource_count, machine_count, requirement_of
 use Rattle.ra_model.specs.Assignments.{tally}
 use Rattle.ra_rows.specs.Rows.{IsBelow}
 
--- an amount at row `at` alone
+-- an amount at row `at`, and zero at all other rows
 unfoldable pub at_row : ℕ → ℕ → ℕ → ℕ
 at_row at amount m = if at == m then amount else 0
 
--- an amount at row `at` alone, and nothing if that is the home row
+-- an amount at row `at` unless it is the home row, and zero at all other rows
 unfoldable pub away_row : ℕ → ℕ → ℕ → ℕ → ℕ
 away_row home at amount m = if home == at then 0 else at_row at amount m
 
--- one table has more than another in one column, row by row, and the same in all others
+-- one table has more than another in one column, by this amount in each row, and as much in all others
 pub record HasMore (width column : ℕ) (extra : ℕ → ℕ) (low high : List ℕ) : Type 0 where
   pub here : (m : ℕ) → cell width high m column ≡ cell width low m column + extra m
   pub others : (m r : ℕ) → r < width → r ≢ column → cell width high m r ≡ cell width low m r
   pub same_length : length high ≡ length low
 
--- in one column, row by row, a part has left and a part has come; all other columns are as they were
+-- in one column an amount of each row has left and another has come; all other columns are as they were
 pub record Moves (width column : ℕ) (left come : ℕ → ℕ) (old new : List ℕ) : Type 0 where
   pub here : (m : ℕ) → cell width new m column + left m ≡ cell width old m column + come m
   pub others : (m r : ℕ) → r < width → r ≢ column → cell width new m r ≡ cell width old m r
@@ -44,12 +44,12 @@ pub record IsTally (width n : ℕ) (share : ℕ → ℕ → ℕ → ℕ → ℕ)
     Type 0 where
   pub each : (m r : ℕ) → r < width → cell width table m r ≡ tally n (share m r) a
 
--- row `at` has at least what process p requires of each resource
+-- row `at` has at least what process p requires of each resource, so that it can be subtracted
 pub record HasRoomFor (i : Tables) (p at : ℕ) (table : List ℕ) : Type 0 where
   pub each : (r : ℕ) → r < resource_count i
       → requirement_of i p r ≤ cell (resource_count i) table at r
 
--- a table with a small number for each machine and resource, from whose row `at` what process p requires may be taken
+-- a table with a small number for each machine and resource, and its row `at` has at least what process p requires
 pub record MayLeave (i : Tables) (p at : ℕ) (table : List ℕ) : Type 0 where
   pub grid : length table ≡ machine_count i * resource_count i
   pub below : IsBelow (resource_count i) (2 ^ 48) table

@@ -1,4 +1,4 @@
--- What rows stand for.
+-- What rows represent.
 use Rattle.std.specs.Prelude.{◌≡◌, ℕ, ◌*◌, ◌^◌, ◌<◌, List, length, slice_index_or}
 use Rattle.ra_base.specs.Tables.{cell}
 use Rattle.ra_base.specs.declared.ids.Machine.{Machine}
@@ -8,7 +8,7 @@ use Rattle.ra_model.specs.Assignments.{IsAssignment, machine_at}
 use Rattle.ra_model.specs.Usage.{use_of, transient_of}
 use Rattle.ra_rows.specs.RowTables.{RowTables}
 
--- rows stand for an assignment: they have the use and the transient use of each resource of each machine
+-- rows represent an assignment: they have the use and the transient use of each resource of each machine
 pub record StandFor (rows : RowTables) (a : List Machine) : Type 0 where
   pub fits : IsAssignment rows.tables a
   pub usage : (m r : ℕ) → r < resource_count rows.tables
@@ -17,7 +17,7 @@ pub record StandFor (rows : RowTables) (a : List Machine) : Type 0 where
       → cell (resource_count rows.tables) rows.between m r
       ≡ transient_of rows.tables rows.start a m r
 
--- rows stand for some assignment that has process p on machine `from`
+-- rows represent some assignment that has process p on machine `from`
 pub record HasAt (rows : RowTables) (p from : ℕ) : Type 0 where
   pub assignment : List Machine
   pub stands : StandFor rows assignment
@@ -39,8 +39,8 @@ pub record AreBelow (bound : ℕ) (row : List ℕ) : Type 0 where
 pub record IsBelow (width bound : ℕ) (table : List ℕ) : Type 0 where
   pub each : (m r : ℕ) → r < width → cell width table m r < bound
 
--- what all rows are: the initial assignment fits the instance, and each table has a small number for each machine and
--- resource
+-- an invariant of all rows: the initial assignment fits the instance, and each table has a small number for each
+-- machine and resource
 pub record AreRows (rows : RowTables) : Type 0 where
   pub start : IsAssignment rows.tables rows.start
   pub used_grid : length rows.used ≡ machine_count rows.tables * resource_count rows.tables

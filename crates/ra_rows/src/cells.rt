@@ -17,7 +17,7 @@ pub(crate) fn read_row(table: &Fixed<u64>, width: u32, row: u32) -> &[u64]
     &table.as_slice()[start..start + width as usize]
 }
 
-/// Adds to the number of a table at a row and a column.
+/// Adds to the number at a row and a column of a table.
 pub(crate) fn add_to_cell(table: &mut Fixed<u64>, width: u32, row: u32, column: u32, amount: u32)
     requires column { column < width }
     requires place { row * width + column < length table.old.items }
@@ -29,7 +29,7 @@ pub(crate) fn add_to_cell(table: &mut Fixed<u64>, width: u32, row: u32, column: 
     table.set(row as usize * width as usize + column as usize, sum);
 }
 
-/// Takes from the number of a table at a row and a column.
+/// Subtracts from the number at a row and a column of a table.
 pub(crate) fn take_from_cell(table: &mut Fixed<u64>, width: u32, row: u32, column: u32, amount: u32)
     requires column { column < width }
     requires place { row * width + column < length table.old.items }
@@ -63,7 +63,7 @@ pub(crate) fn move_amount(
     add_to_cell(table, width, to.0, column, amount);
 }
 
-/// Moves an amount from one row of a table to another, but for the home row, which has it at all times.
+/// Moves an amount from one row of a table to another, but never into or out of the home row, which always has it.
 pub(crate) fn move_beside_home(
     table: &mut Fixed<u64>,
     width: u32,
@@ -86,7 +86,7 @@ pub(crate) fn move_beside_home(
     enter_row(table, width, column, home, to, amount);
 }
 
-/// Takes an amount from a row, but not from the home row.
+/// Subtracts an amount from a row, unless it is the home row.
 fn leave_row(
     table: &mut Fixed<u64>,
     width: u32,
@@ -105,7 +105,7 @@ fn leave_row(
     }
 }
 
-/// Adds an amount to a row, but not to the home row.
+/// Adds an amount to a row, unless it is the home row.
 fn enter_row(
     table: &mut Fixed<u64>,
     width: u32,

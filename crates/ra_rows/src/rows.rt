@@ -14,8 +14,8 @@ use std::alloc::Global;
 use std::marker::{Brand, Model};
 use std::sync::ledger::{Blank, Ledger};
 
-/// The use and the transient use of each machine's resources, for one assignment at a time, which the rows don't hold.
-/// They are made for the initial assignment, and follow it by `shift`. Each machine has one row of use and one of
+/// The use and the transient use of each machine's resources, for one assignment at a time. The rows don't hold the
+/// assignment: they are made for the initial one, and follow it by `shift`. Each machine has one row of use and one of
 /// transient use, with a number for each resource.
 pub struct Rows<'a> {
     inst: &'a Instance,
@@ -24,7 +24,7 @@ pub struct Rows<'a> {
     between: Fixed<u64>,
 }
 
-/// Lets all lists go in one call, so that the end of an owner is short to prove.
+/// Frees all lists in one call, so that the end of an owner is short to prove.
 impl Drop for Rows<'_> {
     fn drop(self) {
         let Rows {
@@ -90,8 +90,8 @@ impl<'a> Rows<'a> {
         read_cell(&self.used, inst.resources(), m.0, r.0)
     }
 
-    /// The transient use of a resource of a machine: what the processes that are on it or were at first use, each
-    /// counted once.
+    /// The transient use of a resource of a machine: what the processes that are on it, or were on it at first, use,
+    /// each counted once.
     pub fn transient_use(&self, m: Machine, r: Resource) -> u64
         requires machine { m.0 < machine_count self.now.tables }
         requires resource { r.0 < resource_count self.now.tables }

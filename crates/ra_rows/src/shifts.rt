@@ -10,8 +10,8 @@ use ra_base::{Fixed, Machine, Process, Resource, Steps};
 use ra_model::Instance;
 use std::sync::ledger::Ledger;
 
-/// Moves what a process requires from one machine's row to another's, in the table of use, and in that of transient
-/// use, where its home, the initial machine, has it at all times.
+/// Moves what a process requires from one machine's row to another's in the table of use. In the table of transient use
+/// it does so except for the row of the initial machine, which always has it.
 pub(crate) fn shift_rows<L: Ledger>(
     inst: &Instance,
     p: Process,

@@ -10,7 +10,7 @@ use ra_base::{Assignment, Fixed, Machine, Process, Resource, Steps};
 use ra_model::{Instance, machine_of};
 use std::sync::ledger::{Blank, Ledger};
 
-/// Adds up the use of each machine's resources, in a table of zeros.
+/// Adds up the use of each machine's resources, in a table that starts with zeros.
 pub(crate) fn sum_usage<L: Ledger>(
     inst: &Instance,
     a: &Assignment,

@@ -32,7 +32,7 @@ use Rattle.ra_verify.specs.WrongLines.{IsReport}
 use Rattle.ra_jobs.proofs.BareLemmas.{bare}
 use Rattle.ra_jobs.proofs.AlikeLemmas.{opened, whole, along}
 
--- no room is looked at
+-- rooms don't matter
 
 parts_bare : (raw : RawInstance) (closed : Option (Listed Bool)) (a0 a : List Machine) →
     parts_of (bare (whole raw closed)) a0 a ≡ parts_of (whole raw closed) a0 a

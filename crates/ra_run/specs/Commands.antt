@@ -19,7 +19,7 @@ use Rattle.ra_run.specs.Headline.{solve_command}
 use Rattle.ra_run.specs.Trials.{trial_command}
 use Rattle.ra_run.specs.Verifying.{verify_command}
 
--- lots are those that words say
+-- the lots are those in the words
 pub record AreLots (slack : ℕ) (drawing : Drawing) (lots : List LotSays) (l : Lots) : Type 0 where
   pub slack_is : l.slack ≡ slack
   pub drawing_is : l.drawing ≡ drawing
@@ -38,7 +38,7 @@ command_of (Repairs model initial closed slack drawing lots) =
 command_of (Edits model initial current edits closed) =
     edit_command model initial current edits closed
 
--- the status of words that are no job comes for these and for no others, with the usage line and no output
+-- the status of words that are not a job comes for these and for no others, with the usage line and no output
 pub record UsageComes (job : Option JobSays) (out err : Output) (status : Status) : Type 0 where
   pub exactly : (status ≡ Usage) ↔ (job ≡ None)
   pub line : status ≡ Usage → Put err.sink (joined (usage_line ∷ line_end ∷ []))

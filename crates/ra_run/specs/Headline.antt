@@ -1,4 +1,5 @@
--- `solve`. `sent` is how far a text came: the output took it whole, or broke off after a front of it.
+-- `solve`. `sent` is a predicate on texts that says how far a text came: the output took it whole, or broke off after a
+-- front of it.
 use Rattle.std.specs.Prelude.{◌≡◌, ℕ, ◌<◌, ◌≤◌, List, length, Option}
 use Rattle.ra_base.specs.declared.ids.Machine.{Machine}
 use Rattle.ra_model.specs.declared.raw.Tables.{Tables}
@@ -24,9 +25,9 @@ pub record IsFirstLeast (i : Tables) (a0 : List Machine) (h : List Entry) (j : �
   pub least : (n : ℕ) → n ≤ length h → cost_at i a0 h j ≤ cost_at i a0 h n
   pub first : (n : ℕ) → n < j → cost_at i a0 h j < cost_at i a0 h n
 
--- `solve`, the headline: the printed journal is one legal history in which every proposal of every worker stands
--- exactly once; every state in it meets all constraints, and its kept cost is the challenge's objective computed
--- afresh; the printed assignment is the first of least cost among those states, its parts are exact, and no feasible
+-- `solve`, the headline: the printed journal is one legal history in which every proposal of every worker occurs
+-- exactly once; every state in it meets all constraints, and its kept cost is the challenge's objective computed from
+-- scratch; the printed assignment is the first of least cost among those states, its parts are exact, and no feasible
 -- assignment costs less than the printed bound
 pub record SolvePrinted (held : Held) (names : Names) (l : Lots) (sent : List ℕ → Type 0) : Type 0 where
   pub tables : Tables
@@ -36,8 +37,8 @@ pub record SolvePrinted (held : Held) (names : Names) (l : Lots) (sent : List �
   -- the files mean an instance and an initial assignment, which is feasible
   pub accepts : Accepts held names tables a0 a0
   pub start : Feasible tables a0 a0
-  -- these bytes were sent: they are the report of the journal, which is the only one that they tell, and it is legal
-  -- and whole
+  -- these bytes were sent: they are the report of the journal, which is the only one that they tell, and the journal is
+  -- legal and whole
   pub text : sent bytes
   pub report : bytes ≡ report_text tables a0 l journal
   pub told : IsJournalOf bytes journal
@@ -48,7 +49,7 @@ pub record SolvePrinted (held : Held) (names : Names) (l : Lots) (sent : List �
   pub alone : worker_count l ≡ 1 → journal ≡ solo tables a0 l
   -- every state is a feasible assignment, and the kept cost there is its objective
   pub sound : (j : ℕ) → j ≤ length journal → IsSound tables a0 journal j
-  -- the first of least cost among those states is at this place; the lines tell its parts, the bound's total, the
+  -- the first of least cost among these states is at this place; the lines tell its parts, the bound's total, the
   -- place, the state and the drawing, and then the journal
   pub best_at : ℕ
   pub best : IsFirstLeast tables a0 journal best_at
@@ -59,7 +60,7 @@ pub record SolvePrinted (held : Held) (names : Names) (l : Lots) (sent : List �
   pub least : (a : List Machine) → IsAssignment tables a → Feasible tables a0 a
       → (pinned_bound_of tables a0).total ≤ objective tables a0 a
 
--- of the lots that were asked for
+-- the own part of `solve`, for the lots that were asked for
 abbrev pub solving : Names → (Lots → Type 0) → OverFiles
 solving names asked = judged names (λ held sent. (l : Lots) × asked l × SolvePrinted held names l sent)
 

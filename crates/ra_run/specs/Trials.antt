@@ -23,7 +23,7 @@ pub record HoldsTexts (held : Held) (of_model of_start : List ℕ) : Type 0 wher
   pub model : held (codes "model") ≡ Some of_model
   pub start : held (codes "start") ≡ Some of_start
 
--- so it is with the two texts of a number
+-- the files hold the two texts of a number
 abbrev pub HoldsTrial : ℕ → Held → Type 0
 HoldsTrial number held = HoldsTexts held (model_text number) start_text
 
@@ -43,9 +43,9 @@ pub record IsTrialLots (number : ℕ) (l : Lots) : Type 0 where
 abbrev pub IsSummarized : Tables → List Machine → Lots → (List ℕ → Type 0) → Type 0
 IsSummarized i a0 l sent = sent (summary_text i a0 (solo i a0 l))
 
--- `trial`: so was that of the trial of a number, from its instance, its start and its lot. Which instance and which
--- lots of the number these are is no matter: they differ in rooms alone, and the text rests on the number (`ra_laws`,
--- `trials_have_one_text`)
+-- `trial`: the summary of the run of one worker was sent, for the instance, the start and the lot of a number. It
+-- doesn't matter which instance and which lots of the number these are: they differ only in the rooms of their lists,
+-- and the text depends only on the number (`ra_laws`, `trials_have_one_text`)
 pub record TrialPrinted (number : ℕ) (sent : List ℕ → Type 0) : Type 0 where
   pub tables : Tables
   pub lots : Lots
@@ -53,13 +53,13 @@ pub record TrialPrinted (number : ℕ) (sent : List ℕ → Type 0) : Type 0 whe
   pub lots_are : IsTrialLots number lots
   pub text : IsSummarized tables start_list lots sent
 
--- why a trial is refused; `written` is so if writing its summary failed
+-- why a trial is refused; `written` holds if writing its summary failed
 abbrev pub TrialReason : Type 0 → TrialFault → Type 0
 TrialReason written Write = written
 TrialReason written Memory = Unit {0}
 
 -- the reasons of its refusals: the output broke off after a front of the summary, or memory was refused. There is no
--- other
+-- other reason
 abbrev pub TrialRefused : ℕ → (List ℕ → Type 0) → Refusal → Type 0
 TrialRefused number broke_off refusal.Write = TrialPrinted number broke_off
 TrialRefused number broke_off refusal.Memory = Unit {0}

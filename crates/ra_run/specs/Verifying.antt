@@ -23,27 +23,27 @@ use Rattle.ra_jobs.specs.Refusals.{RoleBreaks}
 use Rattle.ra_jobs.specs.Stages.{StartReason}
 use Rattle.ra_run.specs.Headline.{SolvePrinted}
 
--- the bytes are a report of `solve`, the headline, whose journal has so many entries; none of its lines is wrong
+-- the bytes are a report of `solve`, the headline, whose journal has this number of entries; none of its lines is wrong
 pub record IsSolved (held : Held) (names : Names) (l : Lots) (entries : ℕ) (bytes : List ℕ) : Type 0
   where
     pub solved : SolvePrinted held names l (λ text. text ≡ bytes)
     pub number : length solved.journal ≡ entries
     pub none_wrong : IsWrongLine solved.tables solved.a0 l bytes None
 
--- the other files pass, and the told bytes of the report are one of `solve`
+-- the other files pass, and the told bytes of the report are a report of `solve`
 pub record IsRead (held : Held) (names : Names) (l : Lots) (entries : ℕ) : Type 0 where
   pub tables : Tables
   pub a0 : List Machine
   pub passes : Passes held names tables a0 a0
   pub report : IfSome (held (name_of names file.Report)) (IsSolved held names l entries)
 
--- it is accepted: the line with the number of its entries was sent
+-- the report is accepted: the line with the number of its entries was sent
 pub record VerifyPrinted (held : Held) (names : Names) (l : Lots) (sent : List ℕ → Type 0) : Type 0 where
   pub entries : ℕ
   pub read : IsRead held names l entries
   pub text : sent (accepted_line entries)
 
--- this is the wrong line of these bytes, so that they are no report of a legal whole journal
+-- this is the wrong line of these bytes, so that they are not the report of a legal whole journal
 pub record IsWrongAt (i : Tables) (a0 : List Machine) (l : Lots) (line : ℕ) (bytes : List ℕ) : Type
     0 where
   pub first : IsWrongLine i a0 l bytes (Some line)
@@ -68,14 +68,15 @@ abbrev pub IsWrongReport : Held → Names → Tables → List Machine → Lots �
 IsWrongReport held names i a0 l line =
     IfSome (held (name_of names file.Report)) (λ bytes. IsWrongLine i a0 l bytes (Some line))
 
--- it is the report of a legal whole journal
+-- the told report is that of a legal whole journal
 abbrev pub IsRightReport : Held → Names → Tables → List Machine → Lots → Type 0
 IsRightReport held names i a0 l =
     IfSome (held (name_of names file.Report)) (λ bytes. (n : ℕ) × IsReport i a0 l bytes n)
 
--- of the lots that were asked for: the status tells a wrong report, and over known files that pass a wrong report is
--- told, and one that is right is accepted. Any instance that the other files mean will do: by `told_files_mean_one` and
--- `alike_run_alike` of `ra_laws` a report is wrong for one of them exactly if it is for each
+-- for the lots that were asked for: the status of a wrong report comes only for one. If the files are known and the
+-- others pass, every wrong report gets this status and every right report is accepted, unless writing fails or memory
+-- is refused. This holds for any instance that the other files mean: by `told_files_mean_one` and `alike_run_alike` of
+-- `ra_laws` a report is wrong for one of them exactly if it is wrong for each
 pub record VerdictComes (held : Held) (names : Names) (asked : Lots → Type 0) (before now : Faults)
     (status : Status) : Type 0 where
   pub wrong : status ≡ Wrong → (l : Lots) × asked l × ((line : ℕ) × ReportWrong held names l line)
@@ -88,8 +89,8 @@ pub record VerdictComes (held : Held) (names : Names) (asked : Lots → Type 0) 
       → ((l : Lots) → asked l → IsRightReport held names i a0 l)
       → (status ≡ Done) ⊎ ((status ≡ WriteFault) ⊎ (status ≡ NoMemory))
 
--- of the lots that were asked for: over valid files the report is accepted, or its wrong line told, or memory was
--- refused
+-- the own part of `verify`, for the lots that were asked for: over valid files the report is accepted, or its wrong
+-- line told, or memory was refused
 abbrev pub verifying : Names → (Lots → Type 0) → OverFiles
 verifying names asked = record {
   names = names;
@@ -109,13 +110,13 @@ verify_command model initial report closed asked =
 
 -- ---- the stages
 
--- these bytes are the report of a legal whole journal of so many entries, and none of their lines is wrong
+-- these bytes are the report of a legal whole journal with this number of entries, and none of their lines is wrong
 pub record IsRightAt (i : Tables) (a0 : List Machine) (l : Lots) (entries : ℕ) (bytes : List ℕ) :
     Type 0 where
   pub report : IsReport i a0 l bytes entries
   pub none_wrong : IsWrongLine i a0 l bytes None
 
--- the initial list is feasible, and the told report is that of a legal whole journal of so many entries
+-- the initial list is feasible, and the told report is that of a legal whole journal with this number of entries
 pub record IsCounted (held : Held) (name : List ℕ) (i : Tables) (a0 : List Machine) (l : Lots)
     (entries : ℕ) : Type 0 where
   pub start : Feasible i a0 a0

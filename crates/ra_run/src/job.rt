@@ -21,11 +21,11 @@ use std::marker::Sync;
 use std::sync::Wait;
 use std::thread::Threads;
 
-/// Does the job of the command words, which leave out the program's name: `check`, `bound`, `solve` and `verify` with 1 to
-/// 16 lots, `trial`, `repair` with one lot, or `edit`. All other words are a usage fault. If the job ends with the status
-/// Done, its output is printed and the error sink takes nothing; if it ends with another one, the error sink takes one line
-/// that says why. What each job prints stands with its command; if `solve` is done, that is the report of one legal
-/// journal, `SolvePrinted`. Any job may end with NoMemory. A `trial` reads no file of `files`.
+/// Does the job of the command words, which leave out the program's name: `check`, `bound`, `solve` and `verify` with 1
+/// to 16 lots, `trial`, `repair` with one lot, or `edit`. All other words are a usage fault. If the job ends with the
+/// status Done, its output is printed and the error sink takes nothing; if it ends with another status, the error sink
+/// takes one line that says why. The comment of each command says what its job prints; if `solve` is done, this is the
+/// report of one legal journal, `SolvePrinted`. Any job may end with NoMemory. A `trial` reads no file of `files`.
 pub fn run<R: Threads + Wait + Sync, F: Files, O: Sink, E: Sink, G: Gate>(
     rt: &R,
     alloc: Global,

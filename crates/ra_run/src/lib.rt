@@ -1,7 +1,6 @@
-//! The top call: `run` does the one job that the words of the command line name, over files and
-//! sinks that are handed in. Two programs stand on it: `reassign` hands in those of the system,
-//! `cases` those in memory. The jobs that run workers or judge their reports stand here, `edit` in
-//! `ra_edit_job`, and the others in `ra_jobs`.
+//! The top call: `run` does the one job that the words of the command line name, over files and sinks that the caller
+//! gives. Two programs use it: `reassign` gives it those of the system, `cases` those in memory. The jobs that run
+//! workers or judge their reports are here, `edit` is in `ra_edit_job`, and the others are in `ra_jobs`.
 #![tactic(auto)]
 
 mod job;

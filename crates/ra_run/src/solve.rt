@@ -29,9 +29,8 @@ use std::marker::Sync;
 use std::sync::Wait;
 use std::thread::Threads;
 
-/// Improves the list `initial` of a model by the proposals of one worker for each lot: prints a
-/// report of their journal, or puts one line that says why not. All memory is taken before the
-/// first proposal is made.
+/// Improves the list `initial` of a model by the proposals of one worker for each lot, and prints a report of their
+/// journal. If it can't, it puts one line that says why. It takes all memory before the first proposal is made.
 pub fn solve_run<'n, R: Threads + Wait + Sync, F: Files, O: Sink, E: Sink, G: Gate>(
     rt: &R,
     alloc: Global,
@@ -127,7 +126,8 @@ fn run_from<R: Threads + Wait + Sync, O: Sink, G: Gate>(
     ended
 }
 
-/// The run and its report. The bound is made before the memory of the run is taken, so that after it only writing can refuse.
+/// The run and its report. The bound is computed before the memory of the run is taken, so that after that only writing
+/// can fail.
 fn run_over<R: Threads + Wait + Sync, O: Sink, G: Gate>(
     rt: &R,
     alloc: Global,
@@ -155,7 +155,7 @@ fn run_over<R: Threads + Wait + Sync, O: Sink, G: Gate>(
     Ok(())
 }
 
-/// Writes the report of a run at these desks. It tells this bound.
+/// Writes the report of a run at these desks, with this bound.
 fn report<R: Threads + Sync, O: Sink>(
     rt: &R,
     desks: &mut Desks,

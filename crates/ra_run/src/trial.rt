@@ -34,7 +34,7 @@ use std::thread::Threads;
 pub(crate) enum TrialFault {
     /// Writing the summary failed.
     Write,
-    /// Memory was refused.
+    /// The system refused memory.
     Memory,
 }
 
@@ -60,9 +60,9 @@ impl From<WriteFault> for TrialFault {
     }
 }
 
-/// Makes an instance and a start from a number, improves the start by one worker, and prints the
-/// summary of its journal, or puts one line that says why not. Only writing and want of memory can
-/// refuse it.
+/// Makes an instance and a start from a number, improves the start by one worker, and prints the summary of its
+/// journal. If it can't, it puts one line that says why. It fails only if writing fails or if the system refuses
+/// memory.
 pub fn trial_run<R: Threads + Wait + Sync, O: Sink, E: Sink, G: Gate>(
     rt: &R,
     alloc: Global,
@@ -92,7 +92,7 @@ fn refuse_write<E: Sink>(err: &mut E) -> Status
     Status::WriteFault
 }
 
-/// A trial but for the line of its refusal.
+/// A trial without the line of its refusal.
 fn trial<R: Threads + Wait + Sync, O: Sink, G: Gate>(
     rt: &R,
     alloc: Global,
@@ -126,7 +126,7 @@ fn trial_lots(alloc: Global, number: u64) -> Result<Lots, NoMemory>
     Ok(Lots::of(1000, Drawing::Two, lots))
 }
 
-/// The instance of a number and its start. Both texts are accepted, so only memory can be refused.
+/// The instance of a number and its start. Both texts are accepted, so this fails only for memory.
 fn trial_start(alloc: Global, number: u64) -> Result<Start, NoMemory>
     ensures { IfOk result (λ s. IsTrialStart number s.inst.tables s.initial.items) }
 {

@@ -19,9 +19,9 @@ use ra_topology::Topology;
 use ra_verify::{VerifyFault, verify};
 use std::alloc::Global;
 
-/// Checks the report of a run of the lots from the list `initial` of a model: prints how many entries its journal has, or
-/// puts one line that says why it was not accepted, for example which of its lines is wrong. It returns, and waits for
-/// nobody.
+/// Checks the report of a run of the lots from the list `initial` of a model, and prints how many entries its journal
+/// has. If the report isn't accepted, it puts one line that says why, for example which of its lines is wrong. It
+/// returns, and waits for nobody.
 pub fn verify_run<'n, F: Files, O: Sink, E: Sink>(
     alloc: Global,
     model: &'n Name,
@@ -101,7 +101,7 @@ fn read_report<F: Files>(
     counted
 }
 
-/// How many entries the report has, if the initial list is feasible, which is judged first, and no line is wrong.
+/// How many entries the report has, if the initial list is feasible, which is tested first, and no line is wrong.
 fn count_entries<F: Files>(
     alloc: Global,
     start: &Start,

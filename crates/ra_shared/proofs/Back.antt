@@ -1,4 +1,4 @@
--- A guard that was held round a turn is given back.
+-- A guard that was locked around a turn is unlocked.
 use Rattle.std.proofs.Common.{◌≡◌, ℕ, ◌<◌, ◌≤◌, true, List, [], ◌∷◌, ◌++◌, length, drop, All, Contains, Option}
 use Rattle.std.proofs.Common.{Some, None, IfSome, IfNone, refl, ap, ap₂, sym, subst, ◌∙◌, ⊎_elim, arith}
 use mathlib.Core.List.{IsPrefix}

@@ -1,4 +1,4 @@
--- The guards that a pass holds for a move, and what they say of the history.
+-- The guards that a pass has locked for a move, and what they say of the history.
 use Rattle.std.proofs.Common.{◌≡◌, ℕ, suc, ◌+◌, ◌-◌, ◌<◌, ◌≤◌, not, eqb, Bool, true, false, cond, List, []}
 use Rattle.std.proofs.Common.{◌∷◌, ◌++◌, length, filter, All, Contains, get_or, Option, None, refl, ap}
 use Rattle.std.proofs.Common.{sym, subst, ◌∙◌, ⊎_elim, arith}
@@ -99,7 +99,7 @@ entry_writes : (i : Tables) (e : Entry) (g : Guard) → touches i (made_by e) g 
 unfolding made_by
 entry_writes i e g is = verdict_writes i e.verdict e.mv.steps g is
 
--- the entry of a move whose write guards are held touches none but these
+-- the entry of a move whose write guards are locked touches none but these
 pub holds_touched : (o : Opening) (e : Entry) (q : ℕ) (grips : List Grip) →
     HoldsWrites o.inst.tables e.mv.steps q grips → HoldsAll entry_touches o grips e
 holds_touched o e q grips holds n is =
@@ -161,7 +161,7 @@ module _ (i : Tables) (steps : List Step) (guards : List Guard) (q : ℕ) (limit
       listed : (j : ℕ) (g : Guard) → j < length guards → get_or guards j g ≡ g → guard_at guards j ≡ g
       listed j g lt is = get_or_default guards j _ g lt ∙ is
 
--- a guard that comes after all others is given back, and these stay
+-- a guard that comes after all others is unlocked, and the others stay locked
 kept_grip : (b : Bool) (k : Grip) (ks ls : List Grip) → b ≡ false → ls ≡ ks → cond (not b) (k ∷ ls) ls ≡ k ∷ ks
 kept_grip true k ks ls e same = absurd (cc e)
 kept_grip false k ks ls e same = ap (λ (xs : List Grip). k ∷ xs) same
@@ -197,7 +197,7 @@ module _ (o : Opening) (h : List Entry) (g : Guard) (known : IsKnown o.inst.tabl
   pub touched_stamp : (j : ℕ) → TouchedAt touched_by h j → stamp i (made_in h) g j ≡ suc j
   touched_stamp j t = stamp_touched i (made_in h) g j (same_touch j ∙ (ap touched_by (get_entry h j t.0 t.1) ∙ t.2))
 
-  -- if only worker w's entries touch it from a place on that isn't behind q, and all of these are before q, its version
+  -- if only worker w's entries touch it from a place on that isn't after q, and all of these are before q, its version
   -- is at most q
   pub held_version : (w q v : ℕ) → v ≤ q → OnlyBy touched_by (λ (e : Entry). e.worker) w h v →
       ((j : ℕ) → j < length h → (entry_at h j).worker ≡ w → j < q) → version i (made_in h) (length h) g ≤ q
@@ -224,7 +224,7 @@ module _ (o : Opening) (h : List Entry) (g : Guard) (known : IsKnown o.inst.tabl
       let most = greatest_at (length h) (v - 1) (stamp i (made_in h) g) inside in
       omega (arith, touched_stamp (v - 1) t)
 
--- no write guard of a move was touched since place q, if all are held and the worker's own entries are before q
+-- no write guard of a move was touched since place q, if all are locked and the worker's own entries are before q
 pub are_held : (o : Opening) (h : List Entry) (w q : ℕ) (steps : List Step) (grips : List Grip) →
     WellFormed o.inst.tables → AreWithin o.inst.tables steps → HoldsWrites o.inst.tables steps q grips
     → ShutBy entry_touches o (λ (e : Entry). e.worker) w h grips →

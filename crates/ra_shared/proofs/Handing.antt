@@ -127,7 +127,7 @@ answered_by o h w plan None commit is =
 pub answered : (o : Opening) (h : List Entry) (w : ℕ) (plan : Plan) → IsCommitOf o h w plan → Answered o h w plan
 answered o h w plan commit = answered_by o h w plan (newer_since o.inst.tables h plan.q plan.mv.steps) commit refl
 
--- what may be given back: the entries that were seen, or one more, whose guards are held
+-- the entries that may be put back: those that were seen, or these and one more, whose guards are locked
 abbrev pub MayGive : Opening → List Grip → ℕ → List Entry → List Entry → Type 0
 MayGive o grips w h xs =
     (xs ≡ h) ⊎ ((n : Entry) × (xs ≡ h ++ n ∷ []) × (n.worker ≡ w) × HoldsAll entry_touches o grips n)
@@ -169,7 +169,8 @@ refused_holds o e cause grips is guard touched =
     ∙ none_touched o.inst.tables guard in
     absurd (let clash : true ≡ false = sym touched ∙ none in cc clash)
 
--- what may be given back of a plan that is known to be refused: its entry touches nothing, so no guard is held for it
+-- the entries that may be put back for a plan that is known to be refused: its entry touches nothing, so no guard is
+-- locked for it
 pub may_give_refused : (o : Opening) (h xs : List Entry) (w : ℕ) (plan : Plan) (grips : List Grip) → IsStartOf o →
     IsLegalSeen o h → IsCommitOf o h w plan → IsRefused o.inst.tables (allowed o.lots w plan.k) plan
     → xs ≡ (committed_in o h w plan.q).journal → MayGive o grips w h xs
@@ -191,7 +192,7 @@ pub only_stale : (o : Opening) (h xs : List Entry) (w : ℕ) (plan : Plan) → I
 only_stale o h xs w plan commit some is =
     ⊎_elim (λ stale. is ∙ stale.1.journal) (λ done. absurd (some done.1.none)) (answered o h w plan commit)
 
--- the version of a write guard of the move behind the answer
+-- the version of a write guard of the move after the answer
 
 pub touched_version : (touched : Entry → Bool) (h : List Entry) (e : Entry) → touched e ≡ true →
     IsVersion touched (h ++ e ∷ []) (length (h ++ e ∷ []))
@@ -263,7 +264,7 @@ module _ (o : Opening) (w : ℕ) (plan : Plan) (g : Guard) (known : IsKnown o.in
       (sym same) there)))
       (answered o h w plan later)
 
--- what the worker has made is then what stands there of its own
+-- what the worker has made is then what is there of its own
 
 -- the laws for a worker that is answered
 

@@ -12,7 +12,7 @@ use Rattle.ra_shared.specs.declared.books.Opening.{Opening}
 use Rattle.ra_shared.specs.Holding.{HoldsWrites, KnowsGuards, NeedsNoGuard}
 
 module _ {g : Ghosts Book Entry Opening} where
-  -- all write guards are held, or none need be
+  -- all write guards are locked, or none has to be
   pub by_guards : {R : Type 0} (o : Opening) (plan : Plan) (p : Pass Book Entry Opening g)
       (guards : Option (List Guard)) → KnowsGuards o plan p guards →
       (HoldsWrites o.inst.tables plan.mv.steps plan.q (grips_of p) → R) → (NeedsNoGuard o plan p → R) → R

@@ -1,4 +1,5 @@
--- The next write guard of a plan's move, when those before it are held: what is known of it, and once it is held too.
+-- The next write guard of a plan's move, if those before it are locked: what holds of it, before and after it is locked
+-- too.
 use Rattle.std.proofs.Common.{◌≡◌, ℕ, ◌+◌, ◌<◌, ◌≤◌, true, List, [], ◌∷◌, ◌++◌, length, All, Contains, Option, IfSome}
 use Rattle.std.proofs.Common.{IfNone, ap, sym, subst, ◌∙◌, arith}
 use Rattle.std.proofs.lemmas.List.Elements.{Contains-push}
@@ -33,7 +34,7 @@ number_found s guards k n guard is found =
 
 module _ {g : Ghosts Book Entry Opening} (s : Shared) (plan : Plan) (guards : List Guard) (k : ℕ)
     (p : Pass Book Entry Opening g) where
-  -- guard k has number n and is written by the plan's move, and comes after all that the pass holds
+  -- guard k has number n and is written by the plan's move, and comes after all guards that the pass has locked
   pub record IsNext (n : ℕ) : Type 0 where
     pub number : n ≡ number_at (start_of s).inst.tables guards k
     pub known : IsKnown (start_of s).inst.tables (guard_at guards k)
@@ -41,7 +42,7 @@ module _ {g : Ghosts Book Entry Opening} (s : Shared) (plan : Plan) (guards : Li
     pub below : All (λ (h : Grip). h.guard < n) (grips_of p)
     pub few : n < guard_count s.inst.now.tables
 
-  -- the pass p, now q, holds it too, at version v
+  -- the pass p, now q, has locked it too, at version v
   pub record HoldsNext (v : ℕ) (q : Pass Book Entry Opening g) : Type 0 where
     pub may : MayHandIn s plan q
     pub held : HoldsFirst (start_of s).inst.tables guards plan.q (k + 1) (grips_of q)
@@ -99,7 +100,7 @@ module _ {g : Ghosts Book Entry Opening} (s : Shared) (plan : Plan) (guards : Li
           reached = omega (arith, gripped.within, may.commit.place, ap length knows.0);
         }
 
-  -- after the turn it is still held
+  -- after the turn it is still locked
   pub still_held : (n v : ℕ) (q r : Pass Book Entry Opening g) (reply : Option Reply) →
       grips_of q ≡ grips_of p ++ grip n v ∷ [] → IfSome reply (IsHandedIn s plan q r) →
       IfNone reply (IsHeldUp s plan q r) → Contains (grips_of r) (grip n v)

@@ -23,7 +23,7 @@ use Rattle.ra_turn.specs.Notes.{by}
 use Rattle.ra_turn.proofs.Versions.{get_cases, filter_none, none_later}
 use Rattle.ra_shared.specs.Books.{KnowsOwn}
 
--- what stands at a place of a list of entries
+-- what is at a place of a list of entries
 pub entry_get : (h : List Entry) (j : ℕ) → j < length h → slice_get h j ≡ Some (entry_at h j)
 unfolding entry_at
 entry_get h j lt = slice_get-get_or h j _ lt

@@ -47,7 +47,7 @@ turned_commit o p w v seen mine h plan opened number turned commit =
     subst (λ (x : Opening). IsCommitOf x h v plan) (sym opened)
     (subst (λ (n : ℕ). IsCommitOf o h n plan) (sym number) later)
 
--- what is held, in its turn
+-- what the pass has locked, in its turn
 pub turned_held : (o p : Opening) (w v : ℕ) (h found : List Entry) (plan : Plan) (grips kept : List Grip) → p ≡ o →
     v ≡ w → found ≡ h → kept ≡ grips → IsStartOf p → IsLegalSeen p h → IsCommitOf o h w plan
     → HoldsWrites o.inst.tables plan.mv.steps plan.q grips →
@@ -66,7 +66,7 @@ turned_held o p w v h found plan grips kept opened number here same start legal 
     subst (λ (x : Opening). AreHeld x.inst.tables h plan.q plan.mv.steps) (sym opened)
     (are_held o h w plan.q plan.mv.steps grips start'.limits within holds three commit.seen)
 
--- what may be given back
+-- the entries that may be put back
 pub turned_gives : (o p : Opening) (w v u : ℕ) (h found xs : List Entry) (plan : Plan) (grips kept : List Grip) →
     p ≡ o → v ≡ w → u ≡ w → found ≡ h → kept ≡ grips → IsCommitOf o h w plan
     → HoldsWrites o.inst.tables plan.mv.steps plan.q grips → xs ≡ (committed_in p h u plan.q).journal →
@@ -79,7 +79,7 @@ turned_gives o p w v u h found xs plan grips kept opened number worker here same
     (subst (λ (ys : List Entry). MayGive o grips v ys xs) (sym here)
     (subst (λ (n : ℕ). MayGive o grips n h xs) (sym number) gives))
 
--- what may be given back of a plan that is known to be refused
+-- the entries that may be put back for a plan that is known to be refused
 pub turned_refused : (o p : Opening) (w v u : ℕ) (h found xs : List Entry) (plan : Plan) (kept : List Grip) → p ≡ o →
     v ≡ w → u ≡ w → found ≡ h → IsStartOf p → IsLegalSeen p h → IsCommitOf o h w plan
     → IsRefused o.inst.tables (allowed o.lots w plan.k) plan → xs ≡ (committed_in p h u plan.q).journal →
@@ -92,7 +92,7 @@ turned_refused o p w v u h found xs plan kept opened number worker here start le
     subst (λ (ys : List Entry). MayGive o kept v ys xs) (sym here)
     (subst (λ (n : ℕ). MayGive o kept n h xs) (sym number) gives)
 
--- what is given back if a write guard was newer
+-- the entries that are put back if a write guard was newer
 pub turned_stale : (o p : Opening) (w u : ℕ) (h found xs : List Entry) (plan : Plan) (g : Guard) (version : ℕ) → p ≡ o →
     u ≡ w → found ≡ h → IsStartOf p → IsLegalSeen p h → IsCommitOf o h w plan
     → writes o.inst.tables plan.mv.steps g ≡ true → plan.q < version →

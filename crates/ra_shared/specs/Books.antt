@@ -1,4 +1,4 @@
--- A journal as the value behind a lock.
+-- A journal as the value that a lock protects.
 use Rattle.std.specs.Prelude.{◌≡◌, ℕ, Bool, List}
 use Rattle.ra_moves.specs.declared.verdicts.Plan.{Plan}
 use Rattle.ra_journal.specs.declared.entries.Entry.{Entry}
@@ -20,11 +20,11 @@ opening_of_journal j = record { inst = instance_in j; a0 = initial_in j; lots = 
 abbrev pub opened_by : Book → Opening
 opened_by b = opening_of_journal b.journal.value
 
--- its entries
+-- the entries of the journal
 abbrev pub notes_in : Book → List Entry
 notes_in b = entries_in b.journal.value
 
--- what an entry makes touches the guard of a number; there is none from the guard count on
+-- the entry touches the guard with this number; from the guard count on there is no guard
 abbrev pub entry_touches : Opening → Entry → ℕ → Bool
 entry_touches o e n = touches_number o.inst.tables (made_by e) n
 

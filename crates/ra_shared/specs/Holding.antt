@@ -1,4 +1,4 @@
--- How a worker hands in a plan: it holds the write guards of its move, takes its turn, and gives them back.
+-- How a worker hands in a plan: it locks the write guards of its move, takes its turn, and unlocks them.
 use Rattle.std.specs.Prelude.{◌≡◌, ◌⊎◌, ℕ, ◌+◌, ◌<◌, ◌≤◌, true, List, length, All, Contains, Option, Some, None}
 use Rattle.ra_base.specs.declared.ids.Guard.{Guard}
 use Rattle.ra_model.specs.declared.raw.Tables.{Tables}
@@ -28,8 +28,8 @@ use Rattle.ra_shared.specs.Shares.{start_of, IsCommitted}
 abbrev pub number_at : Tables → List Guard → ℕ → ℕ
 number_at i guards k = number_of i (guard_at guards k)
 
--- the first k guards of a list are held, each at a version of at most q, and all guards that are held come before the
--- rest
+-- the first k guards of a list are locked, each at a version of at most q, and all guards that are locked come before
+-- the rest
 pub record HoldsFirst (i : Tables) (guards : List Guard) (q k : ℕ) (grips : List Grip) : Type 0
   where
     pub count : length grips ≡ k
@@ -37,7 +37,7 @@ pub record HoldsFirst (i : Tables) (guards : List Guard) (q k : ℕ) (grips : Li
     pub below : (j : ℕ) → k ≤ j → j < length guards
         → All (λ g. g.guard < number_at i guards j) grips
 
--- each write guard of a move is held, at a version of at most q
+-- each write guard of a move is locked, at a version of at most q
 pub record HoldsWrites (i : Tables) (steps : List Step) (q : ℕ) (grips : List Grip) : Type 0 where
   pub each : (g : Guard) → writes i steps g ≡ true
       → (v : ℕ) × (v ≤ q) × Contains grips (grip (number_of i g) v)
@@ -56,7 +56,7 @@ module _ {g : Ghosts Book Entry Opening} where
     pub legal : IsLegalSeen (start_of s) (seen_by p)
     pub commit : IsCommitOf (start_of s) (seen_by p) p.number plan
 
-  -- the pass p, now q, has handed in the plan in one turn, and holds what it held
+  -- the pass p, now q, has handed in the plan in one turn, and has the same guards locked
   pub record IsHandedIn (s : Shared) (plan : Plan) (p q : Pass Book Entry Opening g)
       (reply : Reply) : Type 0 where
     pub ready : IsReady s.turn q
@@ -76,21 +76,22 @@ module _ {g : Ghosts Book Entry Opening} where
     pub above : plan.q < version
     pub told : WillSee p (number_of i guard) version
 
-  -- No guard need be held to hand in the plan: it is refused wherever it is recorded, so its entry touches nothing, or
-  -- it will be found stale
+  -- No guard has to be locked to hand in the plan: it is refused wherever it is recorded, so its entry touches nothing,
+  -- or it will be found stale
   abbrev pub NeedsNoGuard : Opening → Plan → Pass Book Entry Opening g → Type 0
   NeedsNoGuard o plan p =
       IsRefused o.inst.tables (allowed o.lots p.number plan.k) plan ⊎ IsNewer o.inst.tables plan p
 
   -- What is known of the guards that are given to hand in the plan: they are the write guards of its move, and the pass
-  -- holds each. If none are given, none need be held
+  -- has locked each. If none are given, none has to be locked
   abbrev pub KnowsGuards : Opening → Plan → Pass Book Entry Opening g → Option (List Guard) → Type 0
   KnowsGuards o plan p (Some guards) =
       AreWrites o.inst.tables plan.mv.steps guards
       × HoldsWrites o.inst.tables plan.mv.steps plan.q (grips_of p)
   KnowsGuards o plan p None = NeedsNoGuard o plan p
 
-  -- the pass p, now q, was told so; it holds what it held, and has seen and made nothing
+  -- the pass p, now q, was told that a guard is newer; it has the same guards locked, and has seen and made nothing
+  -- more
   pub record IsHeldUp (s : Shared) (plan : Plan) (p q : Pass Book Entry Opening g) : Type 0 where
     pub ready : IsReady s.turn q
     pub number : q.number ≡ p.number

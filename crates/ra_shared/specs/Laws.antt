@@ -1,4 +1,4 @@
--- What holds of guards' numbers in every history, and of what a worker is answered, each proved by a function of
+-- What holds of guards' numbers in every history, and of the answers to a worker, each proved by a function of
 -- `ra_laws`.
 use Rattle.std.specs.Prelude.{◌≡◌, ◌≢◌, ℕ, ◌+◌, ◌<◌, ◌≤◌, true, false, List, [], ◌∷◌, ◌++◌, length, Option}
 use Rattle.ra_base.specs.declared.ids.Guard.{Guard}
@@ -17,7 +17,7 @@ use Rattle.ra_shared.specs.Books.{KnowsOwn, IsCommitOf}
 use Rattle.ra_shared.specs.Numbers.{guard_count, number_of, touches_number}
 use Rattle.ra_shared.specs.Shares.{IsCommitted}
 
--- what an entry makes touches a guard exactly if it touches its number
+-- an entry touches a guard exactly if it touches the guard's number
 abbrev pub TouchesAgree : Type 0
 TouchesAgree =
     (i : Tables) (made : Option (List Step)) (g : Guard) → IsKnown i g
@@ -29,8 +29,8 @@ NoneAbove =
     (i : Tables) (made : Option (List Step)) (n : ℕ) → guard_count i ≤ n
     → touches_number i made n ≡ false
 
--- the plan is recorded at place j with this verdict: its entry is the last that the worker has now seen, and it has
--- made this entry besides
+-- the plan is recorded at place j with this verdict: its entry is the last one that the worker has now seen, and the
+-- worker has made this entry as well
 pub record IsRecorded (w : ℕ) (plan : Plan) (mine seen' mine' : List Entry) (j : ℕ)
     (verdict : Verdict) : Type 0 where
   pub last : length seen' ≡ j + 1
@@ -41,7 +41,7 @@ pub record IsRecorded (w : ℕ) (plan : Plan) (mine seen' mine' : List Entry) (j
   pub judged : (entry_at seen' j).verdict ≡ verdict
   pub made : mine' ≡ mine ++ entry_at seen' j ∷ []
 
--- the plan is stale by the guard, one of its move, which another worker's entry at this place has touched since it was
+-- the plan is stale because of a guard of its move, which another worker's entry at this place has touched since it was
 -- planned; nothing was made
 pub record IsStale (o : Opening) (w : ℕ) (plan : Plan) (mine seen' mine' : List Entry)
     (guard : Guard) (at : ℕ) : Type 0 where
@@ -61,7 +61,7 @@ RecordedStands =
     → IsCommitted o w plan.q seen mine seen' mine' (Recorded j verdict)
     → IsRecorded w plan mine seen' mine' j verdict
 
--- and if it is answered Stale
+-- what a worker knows if it is answered Stale
 abbrev pub StaleStands : Type 0
 StaleStands =
     (o : Opening) (w : ℕ) (plan : Plan) (seen mine seen' mine' : List Entry) (guard : Guard)

@@ -1,4 +1,4 @@
--- The numbers under which the lock knows the guards: the machines first, then the services.
+-- The guards' numbers in the lock: the machines first, then the services.
 use Rattle.std.specs.Prelude.{ℕ, ◌+◌, ◌-◌, Bool, false, List, Option, nat_lt, if◌then◌else◌}
 use Rattle.ra_base.specs.declared.ids.Guard.{Guard}
 use Rattle.ra_base.specs.declared.ids.Guard.TheVariants as guard
@@ -11,12 +11,12 @@ use Rattle.ra_guards.specs.Versions.{touches}
 unfoldable pub guard_count : Tables → ℕ
 guard_count i = machine_count i + service_count i
 
--- machine m is guard m, and service s is the machine count plus s
+-- machine m has the number m, and service s the machine count plus s
 unfoldable pub number_of : Tables → Guard → ℕ
 number_of i (guard.Machine m) = m.0
 number_of i (guard.Service s) = machine_count i + s.0
 
--- what an entry makes touches the guard of a number; there is none from the guard count on
+-- the entry's steps touch the guard with this number; from the guard count on there is no guard
 unfoldable pub touches_number : Tables → Option (List Step) → ℕ → Bool
 touches_number i made n =
     if nat_lt n (machine_count i) then touches i made (guard.Machine (record { 0 = n }))

@@ -24,23 +24,23 @@ module _ {g : Ghosts Book Entry Opening} where
   abbrev pub turns_left : Pass Book Entry Opening g → ℕ
   turns_left p = p.left
 
-  -- no other worker's entry touches a guard that the pass holds
+  -- no other worker's entry touches a guard that the pass has locked
   abbrev pub ShutsOut : Shared → Pass Book Entry Opening g → Type 0
   ShutsOut s p = Shut s.turn p
 
-  -- the pass p is q after one turn
+  -- the pass p becomes q in one turn
   abbrev pub HasTakenTurn : Pass Book Entry Opening g → Pass Book Entry Opening g → Type 0
   HasTakenTurn p q = (worker_of q ≡ worker_of p) × (turns_left q + 1 ≡ turns_left p)
 
-  -- A pass of these between two calls: it has no turn and holds no guard, it knows which entries it has made, and what
-  -- it has seen is a legal journal
+  -- A pass of these between two calls: it is outside its turns and has no guard locked, it knows which entries it has
+  -- made, and what it has seen is a legal journal
   pub record IsAtRest (s : Shared) (p : Pass Book Entry Opening g) : Type 0 where
     pub ready : IsReady s.turn p
     pub free : grips_of p ≡ []
     pub own : KnowsOwn p.number (seen_by p) (made_by p)
     pub legal : IsLegalSeen (start_of s) (seen_by p)
 
-  -- as `Shared::make` gives the pass n
+  -- the pass n as `Shared::make` gives it
   pub record IsNew (s : Shared) (n : ℕ) (p : Pass Book Entry Opening g) : Type 0 where
     pub rest : IsAtRest s p
     pub number : p.number ≡ n
@@ -48,13 +48,13 @@ module _ {g : Ghosts Book Entry Opening} where
     pub seen : seen_by p ≡ []
     pub made : made_by p ≡ []
 
-  -- as `Shared::close` wants the pass n
+  -- the pass n as `Shared::close` needs it
   pub record IsLast (s : Shared) (n : ℕ) (p : Pass Book Entry Opening g) : Type 0 where
     pub rest : IsAtRest s p
     pub number : p.number ≡ n
 
 -- Worker w, which had seen and made these entries, has handed in its next proposal, planned at place q: there was a
--- history in which all that it had made stood, and this is what it answered. The worker has now seen what the history
+-- history with all entries that it had made, and this is the answer to it. The worker has now seen what the history
 -- became, and has made what was added
 pub record IsCommitted (o : Opening) (w q : ℕ) (seen mine seen' mine' : List Entry) (reply : Reply)
     : Type 0 where

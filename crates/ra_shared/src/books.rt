@@ -4,7 +4,7 @@ use ra_journal::{Entry, Journal};
 use ra_model::Instance;
 use ra_turn::{Pass, Story};
 
-/// What a journal was opened with. Clauses alone name it; no value of it is made.
+/// What a journal was opened with. Only clauses name this type; no value of it is made.
 pub struct Opening {
     /// The instance.
     pub inst: Instance,
@@ -14,14 +14,14 @@ pub struct Opening {
     pub lots: Lots,
 }
 
-/// A journal as the value behind a lock: its notes are its entries. It lies in a block of its own, so that a turn moves
-/// its address alone.
+/// A journal as the value that a lock protects: its notes are its entries. It is in a heap block of its own, so that a
+/// turn moves only its address.
 #[derive(Drop)]
 pub struct Book<'a> {
     pub(crate) journal: Box<Journal<'a>>,
 }
 
-/// The right of one worker to take turns with the journal. It knows which entries it has seen and made.
+/// The right of one worker to take turns at the journal. It knows which entries the worker has seen and made.
 pub type WorkerPass<'a> = Pass<Book<'a>>;
 
 impl<'a> Story for Book<'a> {

@@ -5,12 +5,12 @@ ghost use Rattle.ra_shared.specs.Copies.{CopiesUnlessQuiet};
 
 use ra_journal::{Batch, Journal};
 
-/// What is copied of the journal for a worker, in the turn in which its plan is answered.
+/// What a worker copies of the journal in the turn that answers its plan.
 pub(crate) trait Copying {
-    /// It was copied from these entries, from a place on.
+    /// It is a copy of these entries, from a place on.
     ghost copied: { Self → List Entry → ℕ → Type 0 };
 
-    /// Copies from a place on.
+    /// Copies the entries from a place on.
     fn copy(&mut self, journal: &Journal<'_>, place: u64)
         requires { place ≤ length (entries_in journal.now) }
         ensures { copied self.new (entries_in journal.now) place };
@@ -29,7 +29,7 @@ impl Copying for Batch {
     }
 }
 
-/// For a worker that takes nothing in.
+/// The choice of a worker that copies nothing.
 #[derive(Drop)]
 pub(crate) struct Nothing;
 

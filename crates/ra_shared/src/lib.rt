@@ -1,5 +1,5 @@
-//! Several workers over one lock: the journal that they share, how they are run, and what guards' numbers in the lock
-//! stand for.
+//! Several workers over one ticket lock: the journal that they share, how they run, and the numbers of the guards in
+//! the lock.
 #![tactic(auto)]
 
 mod books;

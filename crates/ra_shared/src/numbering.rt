@@ -21,7 +21,7 @@ pub(crate) fn number_of(inst: &Instance, guard: Guard) -> u32
 }
 
 /// The version of a write guard after an answer, with `version` before it: the number of entries that were seen if the
-/// move was done, and else what it was before.
+/// move was done, and else `version`.
 #[tactic(auto, unfolding(crate::specs::Holding::then_version))]
 pub(crate) fn then_version(reply: &Option<Reply>, version: u64, seen: u64) -> u64
     ensures { result ≡ then_version reply.now version seen }

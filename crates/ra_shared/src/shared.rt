@@ -18,10 +18,10 @@ use ra_turn::{Hold, Turn};
 use std::alloc::Global;
 use std::sync::Wait;
 
-/// How many turns each worker has. It needs at most as many as its budget and twice all budgets together.
+/// How many turns each worker has. A worker needs at most its own budget and twice all budgets together.
 const TURNS: u64 = 4000000;
 
-/// The journal of a run that several workers share. Each takes turns with it by a pass of its own.
+/// The journal of a run, shared by several workers. Each takes turns at it by a pass of its own.
 #[derive(Drop)]
 pub struct Shared<'a> {
     turn: Turn<Book<'a>>,
@@ -75,8 +75,8 @@ impl<'a> Shared<'a> {
         ))
     }
 
-    /// Takes a turn to look at the journal. It fills the batch with the entries from a place on, as many as it has room
-    /// for, and tells their number.
+    /// Takes a turn to read the journal. It fills the batch with the entries from a place on, as many as it has room
+    /// for, and gives their number.
     pub fn catch_up<R: Wait>(
         &self,
         rt: &R,
@@ -100,9 +100,9 @@ impl<'a> Shared<'a> {
         number
     }
 
-    /// Hands in a plan in one turn: the worker's next proposal is recorded, judged at the state after all entries,
-    /// unless a guard of its move was touched since it was planned. It holds the write guards of the move meanwhile. It
-    /// holds none for a plan that is known to be refused wherever it is recorded, since its entry touches nothing.
+    /// Hands in a plan in one turn: records the worker's next proposal, judged at the state after all entries, unless a
+    /// guard of its move was touched since it was planned. The worker locks the write guards of the move for that time.
+    /// It locks none if the plan is known to be refused wherever it is recorded, since its entry touches nothing.
     pub fn commit<R: Wait>(&self, rt: &R, pass: &mut WorkerPass<'a>, plan: &Plan) -> Reply
         requires { MayCommit self.now plan.now pass.old }
         ensures { HasCommitted self.now plan.now pass.old pass.new result }
@@ -110,8 +110,8 @@ impl<'a> Shared<'a> {
         self.hand_in(rt, pass, plan, &mut Nothing)
     }
 
-    /// Hands in a plan as `commit` does, and in that turn fills the batch with the entries from the plan's place on. The
-    /// batch is empty if all of these are known at once to be refused: they change nothing, so the worker may pass over
+    /// Hands in a plan as `commit` does, and in that turn fills the batch with the entries from the plan's place on.
+    /// The batch is empty if all of these are known at once to be refused: they change nothing, so the worker may skip
     /// them.
     pub fn commit_and_copy<R: Wait>(
         &self,
@@ -149,8 +149,8 @@ impl<'a> Shared<'a> {
         }
     }
 
-    /// Holds the write guards from place k on, hands the plan in, and gives these guards back. `None` if one of them is
-    /// newer than the plan; then it has held none for longer, and the plan is not handed in.
+    /// Locks the write guards from place k on, hands the plan in, and unlocks these guards. `None` if one of them is
+    /// newer than the plan; then it has unlocked all that it locked, and the plan is not handed in.
     fn commit_from<R: Wait, C: Copying>(
         &self,
         rt: &R,
@@ -183,8 +183,8 @@ impl<'a> Shared<'a> {
         reply
     }
 
-    /// Hands the plan in, in one turn, and copies for the worker in it. The guards are the write guards of its move, if
-    /// the pass holds them.
+    /// Hands the plan in, in one turn, and copies for the worker in this turn. The guards are the write guards of its
+    /// move, if the pass has locked them.
     fn commit_once<R: Wait, C: Copying>(
         &self,
         rt: &R,

@@ -133,12 +133,12 @@ packed_small x (suc n) small =
       pow-suc 256 n,
     )
 
--- what stands above the first bytes
+-- what is above the first bytes
 abbrev above : (ℕ → ℕ) → ℕ → ℕ → ℕ
 above b zero m = packed b m
 above b (suc n) m = above (λ k. b (suc k)) n m
 
--- bytes of which the first ones are digits: the digits, 48 for each, and what stands above them
+-- bytes of which the first ones are digits: the digits, 48 for each, and what is above them
 packed_digits : (b x : ℕ → ℕ) → (n m : ℕ) → ((k : ℕ) → k < n → b k ≡ x k + 48) → packed b (n + m) ≡ packed x n
     + 48 * ones n + 256 ^ n * above b n m
 packed_digits b x zero m are = omega (arith, ap (packed b) (zero-add m))

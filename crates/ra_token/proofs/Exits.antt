@@ -12,7 +12,7 @@ use Rattle.ra_token.specs.Scan.{IsReached, Begins, InRun, IsTaken, IsNext, Fault
 use Rattle.ra_token.proofs.Steps.{reached_here, next_of}
 use Rattle.ra_token.proofs.Scanning.{KeepsFiles}
 
--- the same error of results of two types
+-- an error means as much in results of two types
 pub same_err : {T U E : Type 0} (x y : E) → ◌≡◌ {A = Result T E} (Err x) (Err y) → ◌≡◌ {A = Result U E} (Err x) (Err y)
 same_err x y same = cc
 

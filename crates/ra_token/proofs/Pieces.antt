@@ -3,7 +3,7 @@ use Rattle.std.proofs.Common.{◌≡◌, ℕ, ◌+◌, ◌<◌, List, length, dr
 use Rattle.std.proofs.Common.{length-drop, get_or-take, get_or-drop}
 use Rattle.ra_token.specs.Reads.{IsPiece}
 
--- it stands within the bytes
+-- the piece is within the bytes
 pub piece_within : (bytes piece : List ℕ) (start k : ℕ) → IsPiece bytes start piece → k < length piece →
     start + k < length bytes
 piece_within bytes piece start k is inside =

@@ -40,11 +40,11 @@ digit_within bytes k digit = ⊎_elim
     absurd (both_ways (digit_at bytes k) (ap is_ascii_digit (get_or_past bytes k 0 past)) digit))
     (cases_lt k (length bytes))
 
--- a blank is no digit
+-- a blank is not a digit
 pub blank_is_no_digit : (byte : ℕ) → is_blank byte ≡ true → is_ascii_digit byte ≡ false
 blank_is_no_digit byte blank = grind (arith, or_cases, eqb-true)
 
--- a place beside a byte that is no digit cuts no run
+-- a place beside a byte that is not a digit cuts no run
 pub cuts_before : (bytes : List ℕ) (k : ℕ) → digit_at bytes k ≡ false → cuts_run bytes k ≡ false
 unfolding cuts_run
 cuts_before bytes zero other = refl

@@ -157,7 +157,7 @@ reads_start (Some bytes) reader at_start nothing = record {
   between = subst (IsBetween bytes) (sym at_start) (between_start bytes);
 }
 
--- a token behind blanks
+-- a token after blanks
 pub next_of : (bytes : List ℕ) (from start place value : ℕ) → IsReached bytes from start →
     IsTaken bytes start place value → IsNext bytes from start place value
 next_of bytes from start place value reached taken = record {

@@ -64,7 +64,7 @@ takes_then piece from at end limit m n old now new one two most = record {
       (omega (arith, one.grows, two.grows)) so_far (two.adds bytes start low is so_far.between);
 }
 
--- of the 64 bytes behind an index, those up to another were passed, and the bits that are left tell which of the others
+-- of the 64 bytes after an index, those up to another were passed, and the bits that are left tell which of the others
 -- are no digits
 pub record InBlock (piece : List ℕ) (from at rest : ℕ) : Type 0 where
   pub low : from ≤ at

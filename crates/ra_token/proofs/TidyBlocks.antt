@@ -28,7 +28,7 @@ digit_large byte digit = grind arith
 pub digit_small : (byte : ℕ) → is_ascii_digit byte ≡ true → byte ≤ 57
 digit_small byte digit = grind arith
 
--- at the last of few digits behind a blank
+-- the last of a few digits after a blank
 byte_at : (piece : List ℕ) (i j : ℕ) → i ≡ j → get_or piece i 0 ≡ get_or piece j 0
 byte_at piece i j same = ap (λ k. get_or piece k 0) same
 
@@ -69,7 +69,7 @@ short_is piece at (suc (suc (suc zero))) some few blank before digits =
     )
 short_is piece at (suc (suc (suc (suc n)))) some few blank before digits = absurd (omega arith)
 
--- behind a blank of a tidy block comes a digit
+-- after a blank of a tidy block comes a digit
 digit_next : (piece : List ℕ) (from at : ℕ) → IsTidy piece from → from ≤ at → at < from + 64 →
     is_blank (get_or piece at 0) ≡ true → digit_at piece (at + 1) ≡ true
 digit_next piece from at tidy low high blank = elim (cases_lt from at) [
@@ -86,7 +86,7 @@ digit_next piece from at tidy low high blank = elim (cases_lt from at) [
       )
 ]
 
--- so that the next bit is not directly behind it
+-- so the next bit is not the one directly after it
 pub some_digits : (piece : List ℕ) (from at bit : ℕ) → IsTidy piece from → from ≤ at → at < from + 1 + bit → bit < 64 →
     is_blank (get_or piece at 0) ≡ true → digit_at piece (from + 1 + bit) ≡ false → 0 < from + bit - at
 some_digits piece from at bit tidy low after below blank other = elim (cases_lt at (from + bit)) [
@@ -98,7 +98,7 @@ some_digits piece from at bit tidy low after below blank other = elim (cases_lt 
       )
 ]
 
--- and it is at most three digits behind it
+-- and it is at most three digits after it
 pub few_digits : (piece : List ℕ) (from at bit : ℕ) → IsTidy piece from → from ≤ at → bit < 64 →
     ((k : ℕ) → k < from + bit - at → digit_at piece (at + 1 + k) ≡ true) → from + bit - at ≤ 3
 few_digits piece from at bit tidy low below digits = elim (cases_lt 3 (from + bit - at)) [
@@ -117,12 +117,12 @@ few_digits piece from at bit tidy low below digits = elim (cases_lt 3 (from + bi
   | inr few ↦ omega arith
 ]
 
--- the next of its bytes that is no digit is a blank
+-- the next of its bytes that is not a digit is a blank
 pub blank_next : (piece : List ℕ) (from bit : ℕ) → IsTidy piece from → bit < 64 →
     digit_at piece (from + 1 + bit) ≡ false → is_blank (get_or piece (from + 1 + bit) 0) ≡ true
 blank_next piece from bit tidy below other = tidy.blank bit below other
 
--- what stands before it is a digit
+-- what is before it is a digit
 pub digit_last : (piece : List ℕ) (from at bit : ℕ) → from ≤ at → 0 < from + bit - at →
     ((k : ℕ) → k < from + bit - at → digit_at piece (at + 1 + k) ≡ true) → get_or piece (from + 1 + bit - 1) 0 ≤ 57
 digit_last piece from at bit low some digits =

@@ -1,4 +1,4 @@
--- How many tokens stand before a place, and which is next.
+-- How many tokens come before a place, and which is next.
 use Rattle.std.proofs.Common.{◌≡◌, ℕ, suc, ◌+◌, ◌<◌, true, false, List, length, slice_get, Some, sym, ap, ◌∙◌, add-one}
 use Rattle.std.proofs.lemmas.List.{length-map}
 use Rattle.std.proofs.lemmas.Option.{slice_get-map, slice_get-get_or}
@@ -24,7 +24,7 @@ pub before_no : (bytes : List ℕ) (k : ℕ) → ends_at bytes k ≡ false → t
 unfolding tokens_before
 before_no bytes k on = ap (λ n. count n (ends_at bytes)) (sym (add-one k)) ∙ count_no k (ends_at bytes) on
 
--- all tokens stand before the first fault
+-- all tokens come before the first fault
 pub before_all : (bytes : List ℕ) → tokens_before bytes (fault_place bytes) ≡ length (tokens bytes)
 unfolding tokens_before tokens
 before_all bytes =

@@ -61,7 +61,7 @@ told_byte (Some bytes) items start filled at byte shows after before within read
     ∙ get_or-take filled items (at - start) 0 (omega arith)
     ∙ sym (get_or_read items (at - start) byte (omega arith) read 0)))
 
--- a run with blanks before it and another byte behind it, all of them ready
+-- a run with blanks before it and another byte after it, all of them ready
 next_here : (bytes piece : List ℕ) (start place i j value : ℕ) → IsPiece bytes start piece → i < j → j < length piece →
     is_ascii_digit (get_or piece i 0) ≡ true → is_ascii_digit (get_or piece j 0) ≡ false →
     (InRun bytes (start + i) (start + i) 0 → InRun bytes (start + i) (start + j) value) →

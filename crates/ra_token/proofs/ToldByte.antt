@@ -98,7 +98,7 @@ taken_here bytes start at value after begins other run = ⊎_elim
     absurd (both_ways (digit_at bytes at) other (ap (digit_at bytes) here ∙ begins.digit)))
     (cases_lt start at)
 
--- a run that ends at a byte that is no digit, or at the end
+-- a run that ends at a byte that is not a digit, or at the end
 pub told_taken : (told : Option (List ℕ)) (start at value byte : ℕ) → start ≤ at → is_ascii_digit byte ≡ false →
     IfSome told (λ bytes. Begins bytes start start) → IfSome told (λ bytes. slice_get bytes at ≡ Some byte) →
     IfSome told (λ bytes. InRun bytes start at value) → IfSome told (λ bytes. IsTaken bytes start at value)

@@ -6,7 +6,7 @@ use Rattle.ra_token.specs.declared.answers.TokenFault.{TokenFault}
 use Rattle.ra_token.specs.declared.answers.TokenFault.TheVariants.{BadByte, TooLarge, TooLong}
 use Rattle.ra_token.specs.Runs.{digit_at, is_blank, worth, run_start}
 
--- a digit with which its run is worth too much: more than 2^32 - 1
+-- a digit at which its run exceeds 2^32 - 1
 unfoldable pub digit_fault : List ℕ → ℕ → Option TokenFault
 digit_fault bytes k =
     if nat_lt 4294967295 (worth bytes (suc k)) then Some (TooLarge (run_start bytes k)) else None
@@ -31,6 +31,6 @@ first_fault bytes = first (length bytes) (fault_at bytes)
 unfoldable pub faulty_place : List ℕ → ℕ → Option ℕ
 faulty_place bytes k = if is_some (fault_at bytes k) then Some k else None
 
--- the place where the first fault shows, or else the end
+-- the place where the first fault shows, and the end if there is none
 unfoldable pub fault_place : List ℕ → ℕ
 fault_place bytes = unwrap_or (first (length bytes) (faulty_place bytes)) (length bytes)

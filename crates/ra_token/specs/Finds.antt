@@ -31,7 +31,7 @@ outside held held_after faults faults_after =
       faults_after = faults_after;
     }
 
--- the byte at a place, which is held ready then, or none past the end
+-- the byte at a place, which the buffer then holds ready, or none past the end
 pub record ReadsByte (o : Outside) (name : List ℕ) (at : ℕ) (after : Buffer)
     (said : Result (Option ℕ) TokenFault) : Type 0 where
   pub shows : Shows (o.held_after name) after
@@ -89,7 +89,7 @@ pub record EndsRun (o : Outside) (name : List ℕ) (first : ℕ) (after : Buffer
   pub never_fall : (other : List ℕ) → o.faults other ≤ o.faults_after other
 
 -- the next token, and none if all were given and the file has no fault; or the first fault, if the tokens before it
--- were given, or a failed fetch. Nothing is lost if none was given
+-- were given, or a failed fetch. A call that gives no token loses nothing
 pub record GivesNext (o : Outside) (before after : Standing)
     (said : Result (Option Token) TokenFault) : Type 0 where
   pub reads : Reads (o.held_after after.name) after

@@ -17,15 +17,15 @@ pub record Here : Type 0 where
 abbrev pub here : (List ℕ → Option (List ℕ)) → (List ℕ → ℕ) → Standing → Here
 here held faults tokens = record { held = held; faults = faults; tokens = tokens }
 
--- the same from what is told of the files, which is `F.Files` in a clause
+-- the files and a reader at one moment, from what is told of the files, which is `F.Files` in a clause
 abbrev pub moment : {F : Type 0} → files.Ghosts F → F → Standing → Here
 moment told lent tokens = here (told.held lent) (told.faults lent) tokens
 
--- the reader stands in the bytes of its file, if they are told
+-- the reader is in the bytes of its file, if they are told
 abbrev pub Stands : Here → Type 0
 Stands a = Reads (a.held a.tokens.name) a.tokens
 
--- what every call leaves: the reader of the same file, all that is held, and no count that fell
+-- what every call leaves: the reader reads the same file, the files hold what they held, and no count fell
 pub record Goes (a b : Here) : Type 0 where
   pub name : b.tokens.name ≡ a.tokens.name
   pub stands : Stands b

@@ -11,13 +11,13 @@ digit_at bytes k = is_ascii_digit (slice_index bytes k)
 abbrev pub is_blank : ℕ → Bool
 is_blank byte = byte == 32 || byte == 9 || byte == 13 || byte == 10
 
--- what the digits are worth that stand directly before a place
+-- what the digits directly before a place are worth
 unfoldable pub worth : List ℕ → ℕ → ℕ
 worth bytes zero = 0
 worth bytes (suc k) =
     if digit_at bytes k then worth bytes k * 10 + (slice_index bytes k - 48) else 0
 
--- where the digits begin that stand directly before a place
+-- where the digits directly before a place begin
 unfoldable pub run_start : List ℕ → ℕ → ℕ
 run_start bytes zero = 0
 run_start bytes (suc k) = if digit_at bytes k then run_start bytes k else suc k

@@ -12,7 +12,7 @@ use Rattle.ra_token.specs.TokenList.{tokens, tokens_before, IsAnswer}
 use Rattle.ra_token.specs.Reads.{IsBetween, IsPiece}
 use Rattle.ra_token.specs.Values.{AddsValues}
 
--- if the bytes of the file are told, the buffer shows some of them
+-- if the bytes of the file are told, the buffer has some of them
 abbrev pub Shows : Option (List ℕ) → Buffer → Type 0
 Shows told w = IfSome told (λ bytes. IsPiece bytes w.start (take w.filled w.bytes.items))
 
@@ -25,7 +25,7 @@ pub record Covers (w : Buffer) (place : ℕ) : Type 0 where
 abbrev pub ready_byte : Buffer → ℕ → ℕ
 ready_byte w place = slice_index w.bytes.items (place - w.start)
 
--- a place that was reached from an earlier one, and no token ends between them
+-- a place that is reached from an earlier one, with no end of a token between them
 pub record IsReached (bytes : List ℕ) (from place : ℕ) : Type 0 where
   pub between : IsBetween bytes place
   pub given : tokens_before bytes place ≡ tokens_before bytes from
@@ -35,7 +35,7 @@ pub record Begins (bytes : List ℕ) (from place : ℕ) : Type 0 where
   pub reached : IsReached bytes from place
   pub digit : digit_at bytes place ≡ true
 
--- the run that begins at a place was looked at up to another, where it is worth `value`
+-- the run that begins at `start` was looked at up to `place`, and is worth `value` so far
 pub record InRun (bytes : List ℕ) (start place value : ℕ) : Type 0 where
   pub within : place ≤ length bytes
   pub worth_is : worth bytes place ≡ value
@@ -47,26 +47,26 @@ pub record InRun (bytes : List ℕ) (start place value : ℕ) : Type 0 where
 abbrev pub token_of : ℕ → ℕ → Token
 token_of value at = record { value = value; at = at }
 
--- the run from one place to another is the next token, of this value
+-- the run from one place to another is the next token, and has this value
 pub record IsTaken (bytes : List ℕ) (start place value : ℕ) : Type 0 where
   pub token : slice_get (tokens bytes) (tokens_before bytes start) ≡ Some (token_of value start)
   pub between : IsBetween bytes place
   pub given : tokens_before bytes place ≡ tokens_before bytes start + 1
 
--- from a place on, the run from one place to another is the next token, of this value
+-- the run from one place to another is the next token after `from`, and has this value
 pub record IsNext (bytes : List ℕ) (from start place value : ℕ) : Type 0 where
   pub token : slice_get (tokens bytes) (tokens_before bytes from) ≡ Some (token_of value start)
   pub between : IsBetween bytes place
   pub given : tokens_before bytes place ≡ tokens_before bytes from + 1
 
--- what digits that stand one after another are worth
+-- what digits one after another are worth
 unfoldable pub digits_worth : List ℕ → ℕ → ℕ → ℕ
 digits_worth bytes from zero = 0
 digits_worth bytes from (suc k) =
     digits_worth bytes from k * 10 + (slice_index bytes (from + k) - 48)
 
--- runs of a piece of bytes, from one index on up to another, were taken, no more than a limit: their values were put
--- behind those of a list
+-- runs of a piece of bytes, from one index on up to another and no more than a limit, were taken: their values were
+-- added at the end of a list
 pub record TakesRuns (piece : List ℕ) (from end limit : ℕ) (old new : Listed ℕ) : Type 0 where
   pub low : from ≤ end
   pub within : end ≤ length piece
@@ -78,7 +78,7 @@ pub record TakesRuns (piece : List ℕ) (from end limit : ℕ) (old new : Listed
       → AddsValues bytes (start + from) (start + end) (length new.items - length old.items)
       old.items new.items
 
--- what holds of whatever bytes have this piece, if a run is worth `carried` at an index of it
+-- what holds of all bytes that contain this piece, if a run is worth `carried` at an index of it
 abbrev pub RunsOn : List ℕ → ℕ → ℕ → (List ℕ → ℕ → ℕ → Type 0) → Type 0
 RunsOn piece from carried P =
     (bytes : List ℕ) (start first : ℕ) → start + length piece ≤ 536870912 → IsPiece bytes start piece

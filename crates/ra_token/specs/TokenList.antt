@@ -11,7 +11,7 @@ use Rattle.ra_token.specs.Faults.{first_fault, fault_place}
 unfoldable pub token_to : List ℕ → ℕ → Token
 token_to bytes k = record { value = worth bytes (suc k); at = run_start bytes k }
 
--- the runs whose last digit stands before the first fault, in order
+-- the runs that end before the first fault, in order
 unfoldable pub tokens : List ℕ → List Token
 tokens bytes = map (token_to bytes) (pick (fault_place bytes) (ends_at bytes))
 

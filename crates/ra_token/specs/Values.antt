@@ -12,7 +12,7 @@ value_of t = t.value
 unfoldable pub values_from : List ℕ → ℕ → ℕ → List ℕ
 values_from bytes k n = map value_of (take n (drop k (tokens bytes)))
 
--- from one place to another there are n tokens, and their values were put behind those of a list
+-- between two places there are n tokens, and their values were added at the end of a list
 pub record AddsValues (bytes : List ℕ) (from place n : ℕ) (before after : List ℕ) : Type 0 where
   pub between : IsBetween bytes place
   pub given : tokens_before bytes place ≡ tokens_before bytes from + n

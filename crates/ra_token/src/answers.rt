@@ -1,6 +1,6 @@
 use thiserror::Error;
 
-/// The place at which a file is too long, in bytes from its start.
+/// The limit of a file's size: the place, in bytes from the start, of the first byte that is too many.
 pub const PLACE_LIMIT: u64 = 536_870_912;
 
 /// The largest value of a token.
@@ -38,7 +38,7 @@ pub enum TokenFault {
     /// The file has a byte at `PLACE_LIMIT`.
     #[error("too long")]
     TooLong,
-    /// Memory was refused.
+    /// The system refused memory.
     #[error("out of memory")]
     NoMemory,
 }

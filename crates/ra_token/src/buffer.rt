@@ -12,14 +12,14 @@ use std::alloc::{AllocError, Global};
 /// How many bytes are fetched at once.
 pub const BUFFER_BYTES: usize = 65_536;
 
-/// Some bytes of a file, held ready.
+/// Some bytes of a file that are held ready.
 #[derive(Drop)]
 pub struct Buffer {
     /// The place of the first byte that is held ready.
     pub start: u64,
     /// How many bytes are held ready.
     pub filled: usize,
-    /// Those bytes, and room for more.
+    /// The ready bytes, and room for more.
     pub bytes: Vec<u8>,
     pub ghost whole: { vec_len bytes ≡ BUFFER_BYTES },
     pub ghost within: { filled ≤ BUFFER_BYTES },
@@ -29,7 +29,7 @@ pub struct Buffer {
 /// A run of digits of a file.
 #[derive(Clone, Copy)]
 pub struct Run {
-    /// The place behind its last digit.
+    /// The place after its last digit.
     pub end: u64,
     /// What it is worth.
     pub value: u64,
@@ -56,7 +56,7 @@ impl Buffer {
         })
     }
 
-    /// The next run of digits from `place` on, with the place of its first digit, and none if blanks alone are left.
+    /// The next run of digits from `place` on, with the place of its first digit, and none if only blanks are left.
     pub fn next_run<F: Files>(
         &mut self,
         files: &mut F,
@@ -76,7 +76,7 @@ impl Buffer {
         }
     }
 
-    /// The next run, if it, the blanks before it and the byte behind it are ready, and it is not too large.
+    /// The next run, if it is not too large, and if it, the blanks before it and the byte after it are ready.
     fn ready_run(&self, place: u64) -> Option<(u64, Run)>
         ensures next { (told : Option (List ℕ)) → Shows told self.now →
             IfSome told (λ bytes. IsBetween bytes place
@@ -99,8 +99,8 @@ impl Buffer {
     }
 
     /// Adds the values of the next runs from `place` on to a list, at most `most` of them, as far as they are close
-    /// together in the buffer: each behind one blank, and ending well before the buffer's end. Gives the place behind
-    /// the last.
+    /// together in the buffer: each follows one blank, and ends well before the buffer's end. Gives the place after the
+    /// last one.
     pub fn ready_values(&self, place: u64, most: usize, values: &mut Fixed<u32>) -> u64
         requires place { place ≤ PLACE_LIMIT }
         requires room { length values.old.items + most ≤ values.old.room }
@@ -121,7 +121,7 @@ impl Buffer {
         self.start + end as u64
     }
 
-    /// The next run, byte by byte if its bytes have to be fetched.
+    /// The next run, read byte by byte if its bytes have to be fetched.
     #[cold]
     #[inline(never)]
     fn fetched_run<F: Files>(
@@ -144,7 +144,8 @@ impl Buffer {
         Ok(Some((first, run)))
     }
 
-    /// The byte at a place, and none past the end of the file. It is held ready then, unless it is at `PLACE_LIMIT`.
+    /// The byte at a place, and none past the end of the file. The buffer then holds it ready, unless it is at
+    /// `PLACE_LIMIT`.
     fn byte<F: Files>(
         &mut self,
         files: &mut F,
@@ -187,7 +188,8 @@ impl Buffer {
         Ok(Some(self.bytes[0]))
     }
 
-    /// The place of the first byte from `place` on that is ready and no blank, or else of the first that isn't ready.
+    /// The place of the first byte from `place` on that is ready and no blank, or else of the first byte that isn't
+    /// ready.
     fn past_blanks(&self, place: u64) -> u64
         requires { Covers self.now place }
         ensures low { place ≤ result }
@@ -200,7 +202,7 @@ impl Buffer {
         self.start + index as u64
     }
 
-    /// Where the next run of digits begins, from `place` on, and none if blanks alone are left.
+    /// Where the next run of digits begins, from `place` on, and none if only blanks are left.
     fn first_digit<F: Files>(
         &mut self,
         files: &mut F,
@@ -263,8 +265,8 @@ impl Buffer {
         Ok(Run { end, value })
     }
 
-    /// The run that is worth `carried` up to a place, with the digits from there on that are ready, as far as
-    /// they go or until it is worth more than `LARGEST`.
+    /// The run that is worth `carried` up to a place, extended by the ready digits from there on, until they end or the
+    /// run is worth more than `LARGEST`.
     fn more_digits(&self, place: u64, carried: u64) -> Run
         requires covers { Covers self.now place }
         requires small { carried ≤ LARGEST }

@@ -1,7 +1,7 @@
 //! The numbers of a file, one after another, through one buffer.
 //!
-//! A file is digits and blanks. Each run of digits is a token, and the first fault of the file is
-//! told once the tokens before it were given, however the bytes are cut by fetching.
+//! A file consists of digits and blanks. Each run of digits is a token. The first fault of the file is told after all
+//! tokens before it, however fetching cuts the bytes.
 #![tactic(auto)]
 
 mod answers;

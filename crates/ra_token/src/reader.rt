@@ -37,8 +37,8 @@ impl Model for Tokens {
 }
 
 impl Tokens {
-    /// A reader at the start of a file, of which it has fetched nothing yet. So it reads whichever files the first call
-    /// of `next` is given.
+    /// A reader at the start of a file. It has fetched nothing yet, so it reads whichever files the first call of
+    /// `next` is given.
     pub fn make(alloc: Global, name: &str) -> Result<Tokens, TokenFault>
         ensures name { IfOk result (λ t. t.name ≡ name.now) }
         ensures reads { IfOk result (λ t. (told : Option (List ℕ)) → Reads told t) }
@@ -58,8 +58,8 @@ impl Tokens {
         })
     }
 
-    /// The next token, and none if all were given and the file has no fault. Each call needs the files of the first: if
-    /// the bytes of its file are told, they have to be the same.
+    /// The next token, and none if all were given and the file has no fault. Each call needs the files of the first
+    /// call: if the bytes of its file are told, they have to be equal.
     ///
     /// # Errors
     ///
@@ -83,12 +83,12 @@ impl Tokens {
     }
 
     /// Adds the values of the next tokens to a list: `count` of them, or all that are left if these are fewer. Gives
-    /// how many were added. Each call needs the files of the first, as in `next`.
+    /// how many were added. Each call needs the files of the first call, as in `next`.
     ///
     /// # Errors
     ///
     /// The first fault of the file, or `ReadFault`, once the values of all tokens before it were added. The reader is
-    /// behind those tokens then, so the next call gives the same fault, or tries to fetch again.
+    /// after those tokens then, so the next call gives the same fault, or tries to fetch again.
     pub fn next_values<F: Files>(
         &mut self,
         files: &mut F,
@@ -114,7 +114,7 @@ impl Tokens {
         Ok(taken)
     }
 
-    /// Adds the values of the next tokens to a list, at most `most` of them, as far as the bytes are ready.
+    /// Adds the values of the next tokens to a list, at most `most` of them, as far as their bytes are ready.
     fn take_ready(&mut self, most: usize, values: &mut Fixed<u32>)
         requires room { length values.old.items + most ≤ values.old.room }
         ensures adds { (told : Option (List ℕ)) → Reads told self.old →

@@ -17,7 +17,7 @@ pub fn is_blank(byte: u8) -> bool
     byte <= b' ' && matches!(byte, b' ' | b'\t' | b'\r' | b'\n')
 }
 
-/// The first index from `from` on whose byte is no blank, or else the length.
+/// The first index from `from` on whose byte is not a blank, or else the length.
 pub fn skip_blanks(bytes: &[u8], from: usize) -> usize
     requires { from ≤ length bytes.now }
     ensures low { from ≤ result }
@@ -33,17 +33,17 @@ pub fn skip_blanks(bytes: &[u8], from: usize) -> usize
     bytes.len()
 }
 
-/// How far a run of digits was looked at, and what it is worth there.
+/// How far a scan has looked at a run of digits, and what the run is worth up to there.
 #[derive(Clone, Copy)]
 pub struct Stretch {
-    /// The index behind the last digit that was looked at.
+    /// The index after the last digit that was looked at.
     pub end: usize,
     /// What the digits are worth.
     pub value: u64,
 }
 
-/// Looks at the digits from `from` on, of a run that is worth `carried` there, as far as they go or until
-/// the run is worth more than `LARGEST`.
+/// Looks at the digits from `from` on, of a run that is worth `carried` up to there, until they end or the run is worth
+/// more than `LARGEST`.
 pub fn gather(bytes: &[u8], from: usize, carried: u64) -> Stretch
     requires within { from ≤ length bytes.now }
     requires small { carried ≤ LARGEST }
@@ -74,8 +74,8 @@ pub fn gather(bytes: &[u8], from: usize, carried: u64) -> Stretch
     }
 }
 
-/// The next run of digits from `from` on, with the index of its first digit, if the blanks before it and a byte behind
-/// it are there, and it is worth no more than `LARGEST`.
+/// The next run of digits from `from` on, with the index of its first digit, if the run is worth at most `LARGEST`, and
+/// if the blanks before it and a byte after it are there.
 #[inline]
 pub fn whole_run(bytes: &[u8], from: usize) -> Option<(usize, Stretch)>
     requires { from ≤ length bytes.now }
@@ -99,8 +99,8 @@ pub fn whole_run(bytes: &[u8], from: usize) -> Option<(usize, Stretch)>
 /// How many bytes of a run `near_digits` looks at.
 pub const NEAR: usize = 8;
 
-/// The digits from `from` on, if the run is worth nothing before them and ends within `NEAR` bytes. The loop has a
-/// fixed length, so that it costs no count.
+/// The digits from `from` on, if the run begins there and ends within `NEAR` bytes. The loop has a fixed length, so
+/// that it needs no counter.
 #[inline]
 pub fn near_digits(bytes: &[u8], from: usize) -> Option<Stretch>
     requires { from + NEAR ≤ length bytes.now }
@@ -127,7 +127,7 @@ pub fn near_digits(bytes: &[u8], from: usize) -> Option<Stretch>
     None
 }
 
-/// The run of digits behind one blank at `from`, if it ends within `NEAR` bytes.
+/// The run of digits after one blank at `from`, if it ends within `NEAR` bytes.
 #[inline]
 pub fn near_run(bytes: &[u8], from: usize) -> Option<Stretch>
     requires { from ≤ length bytes.now }
@@ -149,10 +149,10 @@ pub fn near_run(bytes: &[u8], from: usize) -> Option<Stretch>
     Some(stretch)
 }
 
-/// How many bytes behind a blank `block_runs` looks at, and how many more it may read.
+/// How many bytes after a blank `block_runs` looks at, and how many more it may read.
 pub const BLOCK: usize = 64;
 
-/// Which of the `BLOCK` bytes from `from` on are no digits: bit k stands for the byte at `from + k`.
+/// Which of the `BLOCK` bytes from `from` on aren't digits: bit k is for the byte at `from + k`.
 #[inline(always)]
 pub fn others(bytes: &[u8], from: usize) -> u64
     requires { from + BLOCK ≤ length bytes.now }
@@ -173,7 +173,7 @@ pub fn lowest(bits: u64) -> usize
     bits.trailing_zeros() as usize
 }
 
-/// The bits without one of them.
+/// The bits without the lowest one that is set.
 #[inline(always)]
 pub fn without(bits: u64, bit: usize) -> u64
     requires { bit < 64 }
@@ -183,8 +183,8 @@ pub fn without(bits: u64, bit: usize) -> u64
     bits & !(1 << bit)
 }
 
-/// What `count` digits from `from` on are worth, eight at most, if eight bytes are there: eight at a time, then their
-/// pairs, then the pairs of these.
+/// What `count` digits from `from` on are worth, for a count of at most eight, if eight bytes are there: it computes
+/// eight digits at a time, then pairs of them, then pairs of these.
 #[inline(always)]
 pub fn eight_worth(bytes: &[u8], from: usize, count: usize) -> u32
     requires there { from + 8 ≤ length bytes.now }
@@ -209,8 +209,8 @@ pub fn eight_worth(bytes: &[u8], from: usize, count: usize) -> u32
     (fours.wrapping_mul(42_949_672_960_001) >> 32) as u32
 }
 
-/// Adds the values of the runs that end among the `BLOCK` bytes behind the blank at `from` to a list, at most `most` of
-/// them, as far as each stands behind one blank and has few digits. Gives the index behind the last.
+/// Adds the values of the runs that end among the `BLOCK` bytes after the blank at `from` to a list, at most `most` of
+/// them, as long as each follows one blank and has few digits. Gives the index after the last one.
 #[inline]
 pub fn block_runs(bytes: &[u8], from: usize, most: usize, values: &mut Fixed<u32>) -> usize
     requires within { from + BLOCK + NEAR < length bytes.now }

@@ -9,7 +9,7 @@ use crate::scan::{BLOCK, is_blank, lowest, without};
 use ra_base::Fixed;
 use std::simd::prelude::*;
 
-/// The most numbers that `BLOCK` bytes have with a blank before each.
+/// The most numbers in `BLOCK` bytes, if a blank comes before each.
 pub const MOST_SHORT: usize = 32;
 
 /// The `BLOCK` bytes from `from` on, side by side.
@@ -29,7 +29,7 @@ fn zeros() -> u8x64
     u8x64::splat(b'0')
 }
 
-/// The differences of two lists, with 0 for each that is below.
+/// The differences of two lists, with 0 if a difference is negative.
 #[inline(always)]
 fn less(left: u8x64, right: u8x64) -> u8x64
     ensures { HasLanes result (λ k. slice_index left k - slice_index right k) }
@@ -37,7 +37,7 @@ fn less(left: u8x64, right: u8x64) -> u8x64
     left.saturating_sub(right)
 }
 
-/// The same numbers, with room for sums.
+/// These numbers as u16, which have room for sums.
 #[inline(always)]
 fn widened(lanes: u8x64) -> u16x64
     ensures { HasLanes result (λ k. slice_index lanes k) }
@@ -45,7 +45,7 @@ fn widened(lanes: u8x64) -> u16x64
     lanes.cast::<u16>()
 }
 
-/// Each number as often as a factor says.
+/// Each number times a factor.
 #[inline(always)]
 fn times(lanes: u16x64, factor: u16) -> u16x64
     ensures { HasLanes result (λ k. slice_index lanes k * factor % 2 ^ 16) }
@@ -61,7 +61,7 @@ fn plus(left: u16x64, right: u16x64) -> u16x64
     left + right
 }
 
-/// The numbers that have these ones, tens and hundreds.
+/// The numbers with these ones, tens and hundreds.
 #[inline(always)]
 fn joined(ones: u8x64, tens: u8x64, hundreds: u8x64) -> [u16; 64]
     ensures { HasLanes result (λ k. slice_index ones k + slice_index tens k * 10 + slice_index hundreds k * 100) }
@@ -70,8 +70,8 @@ fn joined(ones: u8x64, tens: u8x64, hundreds: u8x64) -> [u16; 64]
     plus(low, times(widened(hundreds), 100)).to_array()
 }
 
-/// For each of the `BLOCK` bytes from `from` on, what the digits up to it are worth, three at most: no digit counts
-/// that stands before a blank.
+/// For each of the `BLOCK` bytes from `from` on, the value of the up to three digits that end there. A digit before a
+/// blank doesn't count.
 #[inline(always)]
 fn short_values(bytes: &[u8], from: usize) -> [u16; 64]
     requires low { 2 ≤ from }
@@ -85,7 +85,7 @@ fn short_values(bytes: &[u8], from: usize) -> [u16; 64]
     joined(ones, tens, hundreds)
 }
 
-/// Which of the `BLOCK` bytes from `from` on are spaces or LFs: bit k stands for the byte at `from + k`.
+/// Which of the `BLOCK` bytes from `from` on are spaces or LFs: bit k is for the byte at `from + k`.
 #[inline(always)]
 fn spaces(bytes: &[u8], from: usize) -> u64
     requires { from + BLOCK ≤ length bytes.now }
@@ -96,7 +96,7 @@ fn spaces(bytes: &[u8], from: usize) -> u64
     either.to_bitmask()
 }
 
-/// The lowest bit isn't set, and no two neighbours are.
+/// The lowest bit isn't set, and no two neighbouring bits are.
 #[inline(always)]
 fn are_apart(bits: u64) -> bool
     ensures { IsTrue result → AreApart bits }
@@ -104,7 +104,7 @@ fn are_apart(bits: u64) -> bool
     bits & 1 == 0 && bits & (bits >> 1) == 0
 }
 
-/// Among four neighbouring bits one is set.
+/// Of any four neighbouring bits one is set.
 #[inline(always)]
 fn are_short(bits: u64) -> bool
     ensures { IsTrue result → AreShort bits }
@@ -114,8 +114,8 @@ fn are_short(bits: u64) -> bool
     two & (two >> 2) == 0
 }
 
-/// Whether the `BLOCK` bytes behind a blank at `from` are numbers of at most three digits with one blank between two of
-/// them. `rest` tells which are no digits.
+/// Whether the `BLOCK` bytes after a blank at `from` are numbers of at most three digits, each separated from the next
+/// by one blank. `rest` tells which bytes aren't digits.
 #[inline(always)]
 pub fn is_tidy(bytes: &[u8], from: usize, rest: u64) -> bool
     requires low { 0 < from }
@@ -132,8 +132,8 @@ pub fn is_tidy(bytes: &[u8], from: usize, rest: u64) -> bool
     are_apart(rest) && are_short(rest)
 }
 
-/// Adds the values of the runs that end among the `BLOCK` bytes behind the blank at `from` to a list. Gives the index
-/// behind the last.
+/// Adds the values of the runs that end among the `BLOCK` bytes after the blank at `from` to a list. Gives the index
+/// after the last one.
 #[inline(always)]
 pub fn tidy_runs(bytes: &[u8], from: usize, others: u64, values: &mut Fixed<u32>) -> usize
     requires low { 2 ≤ from }

@@ -6,7 +6,7 @@ use crate::scan::{BLOCK, NEAR, block_runs, near_run, others};
 use crate::short::{MOST_SHORT, is_tidy, tidy_runs};
 use ra_base::Fixed;
 
-/// Adds the value of the next run from `from` on to a list, if `near_run` gives it. Gives the index behind it.
+/// Adds the value of the next run from `from` on to a list, if `near_run` gives it. Gives the index after it.
 #[inline]
 pub fn one_run(bytes: &[u8], from: usize, values: &mut Fixed<u32>) -> usize
     requires within { from ≤ length bytes.now }
@@ -20,8 +20,8 @@ pub fn one_run(bytes: &[u8], from: usize, values: &mut Fixed<u32>) -> usize
     stretch.end
 }
 
-/// Adds the values of the runs that end among the `BLOCK` bytes behind the blank at `from` to a list, at most `most` of
-/// them, as far as each stands behind one blank and has few digits. Gives the index behind the last.
+/// Adds the values of the runs that end among the `BLOCK` bytes after the blank at `from` to a list, at most `most` of
+/// them, as long as each follows one blank and has few digits. Gives the index after the last one.
 #[inline(always)]
 fn some_runs(bytes: &[u8], from: usize, most: usize, values: &mut Fixed<u32>) -> usize
     requires within { from + BLOCK + NEAR < length bytes.now }
@@ -37,8 +37,8 @@ fn some_runs(bytes: &[u8], from: usize, most: usize, values: &mut Fixed<u32>) ->
     block_runs(bytes, from, most, values)
 }
 
-/// Adds the values of the next runs from `from` on to a list, at most `most` of them, as far as they are close
-/// together: each behind one blank, and ending well before the end of the bytes. Gives the index behind the last.
+/// Adds the values of the next runs from `from` on to a list, at most `most` of them, as long as they are close
+/// together: each follows one blank, and ends well before the end of the bytes. Gives the index after the last one.
 #[inline(never)]
 pub fn take_runs(bytes: &[u8], from: usize, most: usize, values: &mut Fixed<u32>) -> usize
     requires within { from ≤ length bytes.now }

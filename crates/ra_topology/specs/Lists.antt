@@ -10,7 +10,7 @@ use Rattle.ra_model.specs.Relations.{depends}
 abbrev pub numbers_of : List Service → List ℕ
 numbers_of services = map (λ s. s.0) services
 
--- the number of service k of some
+-- the number of service k of a list
 unfoldable pub service_at : List Service → ℕ → ℕ
 service_at services k = (slice_index_or services k (record { 0 = 0 })).0
 

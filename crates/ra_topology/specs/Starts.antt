@@ -9,7 +9,7 @@ use Rattle.ra_model.specs.Costs.{parts_of}
 use Rattle.ra_topology.specs.Fits.{IsTopologyOf}
 use Rattle.ra_topology.specs.TopologyLists.{TopologyLists}
 
--- a0 is an assignment of an instance with this topology and breaks nothing, and its cost has these parts
+-- a0 is an assignment of an instance with this topology that breaks nothing, and its cost has these parts
 pub record IsFeasibleStart (i : Tables) (topo : TopologyLists) (a0 : List Machine) (costs : Parts) :
     Type 0 where
   pub fits : IsAssignment i a0

@@ -27,7 +27,7 @@ pub(crate) fn list_distinct(alloc: Global, inst: &Instance) -> Result<ServiceLis
     Ok(ServiceLists { all, ends })
 }
 
-/// The services on which a service depends, each at the first of its dependencies that names it.
+/// The services on which a service depends, each at the first dependency that names it.
 fn distinct_of(
     alloc: Global,
     inst: &Instance,
@@ -46,7 +46,7 @@ fn distinct_of(
     Ok(row)
 }
 
-/// Adds the service of a dependency, unless a dependency before names it.
+/// Adds the service of a dependency, unless an earlier dependency names it.
 fn add_need(
     inst: &Instance,
     s: u32,

@@ -21,7 +21,7 @@ pub struct Topology {
     dependants: ServiceLists,
 }
 
-/// Lets all lists go in one call, so that the end of an owner is short to prove.
+/// Frees all lists in one call, so that the end of an owner is short to prove.
 impl Drop for Topology {
     fn drop(self) {
         let Topology {

@@ -26,7 +26,7 @@ listed_all P zero f each = All-nil P
 listed_all P (suc n) f each =
     All-push P (listed n f) (f n) (listed_all P n f (λ k within. each k (omega arith))) (each n (omega arith))
 
--- one line, and lines behind lines
+-- one line, and lines after lines
 pub one_short : (c : ℕ) (line : List ℕ) → IsShort c line → AreShort (11 * c + 1) (line ∷ [])
 one_short c line h = record {
   small = All-cons (λ ns. All IsSmall ns) line [] h.small (All-nil (λ ns. All IsSmall ns));

@@ -16,7 +16,7 @@ unfoldable pub text_from : ℕ → List ℕ → List ℕ
 text_from zero ns = line_text ns
 text_from (suc k) ns = more_text ns
 
--- one number and what is behind it
+-- one number and what is after it
 text_step : (k n : ℕ) (ns : List ℕ) → text_from k (n ∷ ns) ≡ number_text k n ++ text_from (suc k) ns
 unfolding text_from number_text line_text more_text
 text_step zero n ns = refl
@@ -41,13 +41,13 @@ more_written k text after whole ns n d within before read e =
     ∙ (ap (λ (r : List ℕ). text ++ r) (sym (text_step k (get_or ns k d) (drop (suc k) ns)))
     ∙ (ap (λ (r : List ℕ). text ++ text_from k r) (sym (drop-cons ns k d within)) ∙ before)))
 
--- behind the last number
+-- after the last number
 written : (k : ℕ) (text after whole ns : List ℕ) → length ns ≤ k → text ++ text_from k (drop k ns) ≡ whole →
     after ≡ text ++ 10 ∷ [] → after ≡ whole
 written k text after whole ns past before e =
     e ∙ all_written k text whole (ap (λ (r : List ℕ). text ++ text_from k r) (sym (drop_all k ns past)) ∙ before)
 
--- the whole line, and LF behind it
+-- the whole line, and LF after it
 pub line_done : (k : ℕ) (before text after : Listed ℕ) (ns : List ℕ) → length ns ≤ k → k ≤ length ns →
     text.items ++ text_from k (drop k ns) ≡ before.items ++ line_text ns → length text.items ≤ length before.items + 11
     * k → text.room ≡ before.room → after.items ≡ text.items ++ 10 ∷ [] → after.room ≡ text.room →
@@ -58,7 +58,7 @@ line_done k before text after ns past within so_far short room end end_room = re
   room = end_room ∙ room;
 }
 
--- a number behind others, and the first
+-- a number after others, and the first
 pub pushed_later : (k n : ℕ) (before between after : Listed ℕ) → 0 < k → between.items ≡ before.items ++ 32 ∷ [] →
     between.room ≡ before.room → Adds between after (decimal n) 10 → Adds before after (number_text k n) 11
 unfolding number_text
@@ -108,7 +108,7 @@ listed_at {X} (suc n) f i d within = ⊎_elim
     ∙ (get_or-append_seam (listed n f) (f n) [] d ∙ ap f (sym here)))
     (cases_lt i n)
 
--- one more item behind a list, and behind other items
+-- one more item after a list, and after other items
 pub listed_pushed : {X : Type 0} (n : ℕ) (f : ℕ → X) (items after : List X) (v : X) → items ≡ listed n f → v ≡ f n →
     after ≡ items ++ v ∷ [] → after ≡ listed (n + 1) f
 listed_pushed {X} n f items after v before same push = push
@@ -127,7 +127,7 @@ pub none_behind : (f : ℕ → ℕ) (base : List ℕ) → base ≡ base ++ liste
 unfolding listed
 none_behind f base = sym (append-nil base)
 
--- a count and no line behind it, and one more line
+-- a count and no line after it, and one more line
 counted_none : (x : List ℕ) (f : ℕ → List ℕ) → lines_text (x ∷ listed 0 f) ≡ line_text x
 unfolding listed
 counted_none x f = lines_one x
@@ -139,7 +139,7 @@ counted_more n x f =
     ∙ lines_append (x ∷ listed n f) (f n ∷ [])
     ∙ ap (λ (t : List ℕ). lines_text (x ∷ listed n f) ++ t) (lines_one (f n))
 
--- one text added behind another
+-- one text added after another
 pub adds_then : (a b c : Listed ℕ) (s t : List ℕ) (m n o : ℕ) → m + n ≤ o → Adds a b s m → Adds b c t n →
     Adds a c (s ++ t) o
 adds_then a b c s t m n o enough first then = record {
@@ -149,7 +149,7 @@ adds_then a b c s t m n o enough first then = record {
   room = then.room ∙ first.room;
 }
 
--- the same text, of at most more bytes
+-- what is added may be given by an equal text, and with a greater limit
 pub adds_as : (a b : Listed ℕ) (s t : List ℕ) (m o : ℕ) → s ≡ t → m ≤ o → Adds a b s m → Adds a b t o
 adds_as a b s t m o same enough adds = record {
   items = adds.items ∙ ap (λ (x : List ℕ). a.items ++ x) same;

@@ -6,7 +6,7 @@ use Rattle.ra_trial.specs.Lines.{listed}
 use Rattle.ra_trial.specs.Numbers.{requirement_of, process_cost_of, spread_of, way_cost_of}
 use Rattle.ra_trial.specs.Trials.{machine_front, machine_line, service_line, process_line}
 
--- a machine: its front, and its move costs behind it
+-- a machine: its front, and its move costs after it
 pub machine_gathered : (g : ℕ → ℕ) (m : ℕ) (cleared some all front : List ℕ) → cleared ≡ [] → some ≡ cleared ++ front →
     front ≡ machine_front g m → all ≡ some ++ listed 100 (way_cost_of m) → all ≡ machine_line g m
 unfolding machine_line

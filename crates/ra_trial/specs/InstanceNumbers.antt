@@ -10,7 +10,7 @@ pub record HasNumbers (g : ℕ → ℕ) (i : Tables) : Type 0 where
   pub services : model.service_count i ≡ 250
   pub processes : model.process_count i ≡ 1000
   pub balances : model.balance_count i ≡ 1
-  -- resource 0 alone is transient
+  -- only resource 0 is transient
   pub transient : (r : ℕ) → r < 4 → model.transient_at i r ≡ (r == 0)
   pub load_weight : (r : ℕ) → r < 4 → model.load_weight_of i r ≡ 10
   -- 20 machines have one neighbourhood, and 10 one location

@@ -13,7 +13,7 @@ use Rattle.ra_trial.specs.Trials.{start_machine}
 unfoldable pub table_of : ℕ → ℕ → (ℕ → ℕ → ℕ) → List ℕ
 table_of rows width f = listed (rows * width) (λ k. f (k / width) (k % width))
 
--- a resource: resource 0 alone is transient
+-- a resource: only resource 0 is transient
 unfoldable pub trial_resource : ℕ → ResourceNumbers
 trial_resource r = record { transient = r == 0; load_weight = 10 }
 

@@ -13,7 +13,7 @@ unfoldable pub number_text : ℕ → ℕ → List ℕ
 number_text zero n = decimal n
 number_text (suc k) n = 32 ∷ decimal n
 
--- a text was added, of at most so many bytes, and the room is as before
+-- a text of at most this number of bytes was added, and the room is as before
 pub record Adds (old new : Listed ℕ) (added : List ℕ) (most : ℕ) : Type 0 where
   pub items : new.items ≡ old.items ++ added
   pub short : length new.items ≤ length old.items + most

@@ -8,7 +8,7 @@ use Rattle.ra_draws.specs.Words.{stream_word, seed_stream}
 unfoldable pub trial_word : ℕ → ℕ → ℕ
 trial_word number i = stream_word (seed_stream number) i
 
--- resource 0 alone is transient
+-- only resource 0 is transient
 unfoldable pub transient_of : ℕ → ℕ
 transient_of r = if r == 0 then 1 else 0
 
@@ -28,7 +28,7 @@ start_of p = p % 100
 unfoldable pub start_share : (ℕ → ℕ) → ℕ → ℕ → ℕ → ℕ
 start_share g m r p = if start_of p == m then requirement_of g p r else 0
 
--- what is used of resource r on machine m at the start: the requirements of the processes that start there
+-- the use of resource r on machine m at the start: the requirements of the processes that start there
 unfoldable pub start_use_of : (ℕ → ℕ) → ℕ → ℕ → ℕ
 start_use_of g m r = total 1000 (start_share g m r)
 
@@ -44,6 +44,6 @@ safety_of g m r = 3 * capacity_of g m r / 4
 unfoldable pub way_cost_of : ℕ → ℕ → ℕ
 way_cost_of a b = if a == b then 0 else 1 + (a + b) % 5
 
--- how many locations service s wants, from words 5,400 to 5,649: 1 to 3
+-- how many locations service s needs, from words 5,400 to 5,649: 1 to 3
 unfoldable pub spread_of : (ℕ → ℕ) → ℕ → ℕ
 spread_of g s = 1 + g (5400 + s) % 3

@@ -15,7 +15,7 @@ resource_line r = transient_of r ∷ 10 ∷ []
 unfoldable pub machine_front : (ℕ → ℕ) → ℕ → List ℕ
 machine_front g m = m / 20 ∷ m % 10 ∷ listed 4 (capacity_of g m) ++ listed 4 (safety_of g m)
 
--- and the costs of a move from it to each machine
+-- the whole line of a machine: its front, and the costs of a move from it to each machine
 unfoldable pub machine_line : (ℕ → ℕ) → ℕ → List ℕ
 machine_line g m = machine_front g m ++ listed 100 (way_cost_of m)
 

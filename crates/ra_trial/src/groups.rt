@@ -37,7 +37,7 @@ fn push_resource(text: &mut Fixed<u8>, r: u32)
     push_line(text, &[transient_flag(r), LOAD_WEIGHT]);
 }
 
-/// Resource 0 alone is transient.
+/// Only resource 0 is transient.
 #[tactic(auto, unfolding(crate::specs::Numbers::transient_of))]
 fn transient_flag(r: u32) -> u32
     ensures { result ≡ transient_of r }

@@ -46,7 +46,7 @@ fn push_machine(text: &mut Fixed<u8>, line: &mut Fixed<u32>, words: &Words, m: u
     push_line(text, line.as_slice());
 }
 
-/// Makes the line's numbers those of machine `m`.
+/// Fills the line's numbers with those of machine `m`.
 fn gather_machine(line: &mut Fixed<u32>, words: &Words, m: u32)
     requires machine { m < 100 }
     requires room { line.old.room ≡ 110 }

@@ -44,7 +44,7 @@ fn share(words: &Words, m: u32, r: u32, p: u32) -> u32
     }
 }
 
-/// What is used of resource `r` on machine `m` at the start.
+/// The use of resource `r` on machine `m` at the start.
 #[tactic(auto, using(ra_base::proofs::Sums::total_none, ra_base::proofs::Sums::total_more), unfolding(crate::specs::Numbers::start_use_of))]
 fn start_use(words: &Words, m: u32, r: u32) -> u32
     requires { r < 4 }
@@ -79,7 +79,7 @@ pub(crate) fn move_cost(a: u32, b: u32) -> u32
     if a == b { 0 } else { 1 + (a + b) % 5 }
 }
 
-/// How many locations service `s` wants.
+/// How many locations service `s` needs.
 #[tactic(auto, unfolding(crate::specs::Numbers::spread_of))]
 pub(crate) fn spread(words: &Words, s: u32) -> u32
     requires { s < 250 }

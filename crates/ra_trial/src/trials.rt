@@ -10,7 +10,7 @@ use ra_assign::assignment_text;
 use ra_base::{Assignment, Fixed, Machine, NoMemory};
 use std::alloc::Global;
 
-/// How many bytes the text of a model has at most: 10 digits and what stands behind them for each number, and LF.
+/// How many bytes the text of a model has at most: for each number 10 digits and the byte after them, and LF.
 const MODEL_ROOM: usize = 196_832;
 
 /// The texts of a trial instance.
@@ -22,8 +22,8 @@ pub struct TrialText {
     pub start: Fixed<u8>,
 }
 
-/// The texts of the trial of a number, whose words are those of the generator xoshiro256++ that the number seeds.
-/// Want of memory is the only refusal.
+/// The texts of the trial of a number, whose words are those of the generator xoshiro256++ that the number seeds. It
+/// fails only if the system refuses memory.
 pub fn trial_text(alloc: Global, number: u64) -> Result<TrialText, NoMemory>
     ensures model { IfOk result (λ text. text.model.items ≡ model_text number) }
     ensures start { IfOk result (λ text. text.start.items ≡ start_text) }

@@ -218,7 +218,7 @@ module _ {V N O : Type 0} (opening : V → O) (notes : V → List N) (author : N
             (r.locks.news i v at)) refl refl;
       }
 
-  -- one pass is joined to another, and both hold nothing
+  -- one pass is joined to another, and both have no guard locked
   pub glues : (i : ℕ) (v : Sight N O) (other : ℕ) (w : Sight N O) → v.stage ≡ Idle → w.stage ≡ Idle → v.grips ≡ [] →
       w.grips ≡ [] → Joins Rule i v other w (joined v w) spent
   glues i v other w stage stage' empty empty' s r at apart at' =
@@ -342,7 +342,7 @@ module _ {V N O : Type 0} (opening : V → O) (notes : V → List N) (author : N
             (r.locks.news i v at)) at' empty' refl refl;
       }
 
-  -- if one idle seat has every number, the slot is at home, and its value stands for what the seat knows
+  -- if one idle seat has every number, the slot is at home, and its value has the history that the seat knows
   pub ends : (i : ℕ) (v : Sight N O) (ws : List ℕ) (xs : List (Option V)) → v.stage ≡ Idle → Covers passes v →
       Final (Seen Rule i v) ws xs
       → (x : V) × (get_elem? xs 0 ≡ some (Some x)) × (opening x ≡ o) × All (Stands author (notes x)) (v.own ∷ v.joined)

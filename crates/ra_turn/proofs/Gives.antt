@@ -163,7 +163,7 @@ module _ {V N O : Type 0} (opening : V → O) (notes : V → List N) (author : N
         ),
       )
 
-  -- the slot is given back, and the next ticket served
+  -- the value is put back into the slot, and the next ticket is served
   pub serves : (slots i : ℕ) (m : Me (Option V) (Sight N O)) (x : V) → passes * turns < 2 ^ 62 → HasSlot m.0.stage →
       m.1 ≡ (0, Some x) ∷ [] → notes x ≡ m.0.own.seen → m.0.opened ≡ Some (opening x)
       → Allows Rule slots i m 1 (λ n. (n + 1) % 2 ^ 64) (served author touches (step slots 1 1 0 none) m)

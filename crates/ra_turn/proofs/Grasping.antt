@@ -1,4 +1,4 @@
--- What a seat holds and was told, over several steps.
+-- What a seat has locked and was told, over several steps.
 use Rattle.std.proofs.Common.{◌≡◌, ℕ, zero, suc, ◌/◌, ◌%◌, ◌==◌, Bool, true, false, cond, List, ◌∷◌, ◌≤◌, ◌<◌, length}
 use Rattle.std.proofs.Common.{Contains, refl, ap, sym, subst, ◌∙◌, arith}
 use Rattle.atomic_table.specs.Table.{Me}
@@ -21,7 +21,7 @@ keeps_if : (b : Bool) (ks more : List Grip) → KeepsNews ks more → KeepsNews 
 keeps_if true ks more keeps = keeps
 keeps_if false ks more keeps = (λ k h. h, omega arith)
 
--- what was told before a look stays told
+-- nothing that was told before a look is lost
 pub heard_keeps : (guard word : ℕ) (ks : List Grip) → KeepsNews ks (heard guard word ks)
 heard_keeps guard word ks =
     keeps_if (word % 2 == 0) ks (at_version guard (word / 2) ks) (version_keeps guard (word / 2) ks)
@@ -40,7 +40,7 @@ heard_last guard word ks even some = record {
 }
 
 module _ {N O : Type 0} (author : N → ℕ) (touches : O → N → ℕ → Bool) where
-  -- an answer after a look is one after all that was told before it
+  -- an answer after a look is an answer after all that was told before the look
   pub answer_back : (guard asked : ℕ) (grips told later : List Grip) (v : Sight N O) (answer : Hold) →
       length told ≤ length later → IsAnswerAt author touches guard asked grips later v answer →
       IsAnswerAt author touches guard asked grips told v answer

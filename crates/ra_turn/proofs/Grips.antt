@@ -33,7 +33,7 @@ module _ {V N O : Type 0} (opening : V → O) (notes : V → List N) (author : N
   abbrev Base : Scene N → List ℕ → State (Option V) (Sight N O) → Type 0
   Base = Kept opening notes author passes turns o
 
-  -- an idle seat's view changes in what it holds and was told alone, and one guard's word changes
+  -- an idle seat's view changes only in what it has locked and was told, and one guard's word changes
   base_grip : (c : Scene N) (gs gs' : List ℕ) (s : State (Option V) (Sight N O)) (i : ℕ) (v : Sight N O)
       (grips news : List Grip) → v.stage ≡ Idle → Base c gs s → get_elem? s.views i ≡ some v
       → Base c gs' (record {
@@ -222,7 +222,7 @@ module _ {V N O : Type 0} (opening : V → O) (notes : V → List N) (author : N
       (subst (λ (ws : List ℕ). P ws (suc (suc (suc guard)))) (sym r.kept.words)
       (grips_at slots i m guard old p s stage below twice r at (get_or r.guard_words guard 0 == old) refl))
 
-  -- a guard is given back
+  -- a guard is unlocked
   pub releases : (slots i : ℕ) (m : Me (Option V) (Sight N O)) (guard p q : ℕ) → m.0.stage ≡ Idle →
       Contains m.0.grips (grip guard p) → p ≤ length m.0.own.seen
       → ((z : O) → m.0.opened ≡ Some z → IsVersion (touching touches z guard) m.0.own.seen q)

@@ -14,7 +14,7 @@ use Rattle.ra_turn.specs.Seats.{Covers}
 use Rattle.ra_turn.specs.Steps.{joined}
 use Rattle.ra_turn.proofs.Lists.{all_one, all_map}
 
--- an element stands at each place of a list
+-- there is an element at each place of a list
 has_at : {A : Type 0} (xs : List A) (k : ℕ) → k < length xs → (x : A) × (slice_index_or xs k x ≡ x)
 has_at [] k lt = absurd (omega arith)
 has_at (x ∷ xs) zero lt = (x, refl)

@@ -57,7 +57,7 @@ module _ {N O : Type 0} (author : N → ℕ) (touches : O → N → ℕ → Bool
   abbrev Gripped : (ℕ → Latch) → ℕ → ℕ → Grip → Type 0
   Gripped latch i number k = (k.guard < guards) × (latch k.guard ≡ taken i number k.version)
 
-  -- a view goes from v to w, which holds no more and was told what is true
+  -- a view goes from v to w, which has no more guards locked and was told only what is true
   pub locks_view : (history : List N) (words : List ℕ) (views : List (Sight N O)) (i : ℕ) (v w : Sight N O) →
       Lock history words views → get_elem? views i ≡ some v
       → w.own.number ≡ v.own.number → w.grips ≡ v.grips → (IsLive v.stage → IsLive w.stage) →
@@ -79,7 +79,7 @@ module _ {N O : Type 0} (author : N → ℕ) (touches : O → N → ℕ → Bool
         (λ h. k.news j u h.1) (at_set views i j w u e);
   }
 
-  -- a view more, which holds nothing
+  -- one more view, which has no guard locked
   pub locks_more : (history : List N) (words : List ℕ) (views : List (Sight N O)) (w : Sight N O) →
       Lock history words views → w.grips ≡ [] → w.news ≡ [] → Lock history words (views ++ w ∷ [])
   locks_more history words views w k grips news = record {
@@ -99,7 +99,7 @@ module _ {N O : Type 0} (author : N → ℕ) (touches : O → N → ℕ → Bool
         (at_end views w u j e);
   }
 
-  -- a view that held nothing goes to one that holds nothing
+  -- a view without locked guards goes to one without locked guards
   pub locks_less : (history : List N) (words : List ℕ) (views : List (Sight N O)) (i : ℕ) (v w : Sight N O) →
       Lock history words views → get_elem? views i ≡ some v → v.grips ≡ [] → w.grips ≡ [] → w.news ≡ [] →
       Lock history words (set views i w)
@@ -126,7 +126,7 @@ module _ {N O : Type 0} (author : N → ℕ) (touches : O → N → ℕ → Bool
   news_longer : (xs ys : List N) → IsPrefix xs ys → (k : Grip) → IsNews touches o xs k → IsNews touches o ys k
   news_longer xs ys p k h = (h.0, touched_longer (touching touches o k.guard) xs ys (k.version - 1) p h.1)
 
-  -- a latch stays right if a note is added by a pass that holds each guard that it touches
+  -- a latch stays right if a note is added by a pass that has locked each guard that the note touches
   latched_more : (history : List N) (n : N) (guard word : ℕ) (latch : Latch) (i : ℕ) (number : ℕ) → author n ≡ number
       → (touches o n guard ≡ true → (v : ℕ) × (latch ≡ taken i number v)) →
       Latched (touching touches o guard) author history word latch
@@ -140,7 +140,7 @@ module _ {N O : Type 0} (author : N → ℕ) (touches : O → N → ℕ → Bool
         (λ t. (let h = (has t).1 in let same : number ≡ q = sym (cc h) in mine ∙ same)) l.1,
   )
 
-  -- a note is added by a pass that holds each guard that it touches
+  -- a note is added by a pass that has locked each guard that the note touches
   pub locks_note : (history xs : List N) (words : List ℕ) (views : List (Sight N O)) (i : ℕ) (v w : Sight N O) (n : N) →
       Lock history words views → get_elem? views i ≡ some v
       → xs ≡ history ++ n ∷ [] → author n ≡ v.own.number → HoldsAll touches o v.grips n
@@ -268,7 +268,7 @@ module _ {N O : Type 0} (author : N → ℕ) (touches : O → N → ℕ → Bool
             (λ h. k.news j u h.1) (at_set views i j w u e);
       }
 
-  -- a guard is given back at its version
+  -- a guard is unlocked at its version
   pub locks_release : (history : List N) (words : List ℕ) (views : List (Sight N O)) (i : ℕ) (v w : Sight N O)
       (guard p q : ℕ) → Lock history words views → get_elem? views i ≡ some v
       → (IsLive v.stage → IsLive w.stage) → Contains v.grips (grip guard p) →
@@ -321,7 +321,7 @@ module _ {N O : Type 0} (author : N → ℕ) (touches : O → N → ℕ → Bool
             (λ h. k.news j u h.1) (at_set views i j w u e);
       }
 
-  -- each guard that a seat holds keeps others' notes out of the history
+  -- each guard that a seat has locked keeps others' notes on it out of the history
   pub shut_by : (history : List N) (words : List ℕ) (views : List (Sight N O)) (i : ℕ) (v : Sight N O) →
       Lock history words views → get_elem? views i ≡ some v
       → ShutBy touches o author v.own.number history v.grips

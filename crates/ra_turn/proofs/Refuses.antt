@@ -39,7 +39,7 @@ module _ {V N O : Type 0} (opening : V → O) (notes : V → List N) (author : N
   abbrev Rule : State (Option V) (Sight N O) → Type 0
   Rule = Ruled opening notes author touches passes turns guards o
 
-  -- a guard whose word is odd is held, at half of the word
+  -- a guard whose word is odd is locked, at half of the word
   pub odd_is_held : (s : State (Option V) (Sight N O)) (r : Rule s) (guard p : ℕ) → guard < guards →
       slice_index r.guard_words guard ≡ 2 * p + 1
       → (seat : ℕ) × (v : Sight N O) × HasGrip guard p v × (get_elem? s.views seat ≡ some v)

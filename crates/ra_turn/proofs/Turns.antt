@@ -42,7 +42,8 @@ module _ {V N O : Type 0} (opening : V → O) (notes : V → List N) (author : N
   abbrev Lock : Scene N → List ℕ → List (Sight N O) → Type 0
   Lock c = Locks author touches o guards c.history
 
-  -- the guards that a view holds keep others' notes out of the history, and so out of what it has seen of it
+  -- the guards that a view has locked keep others' notes on them out of the history, and so out of what the view has
+  -- seen of it
   pub is_shut : (c : Scene N) (gs : List ℕ) (views : List (Sight N O)) (i : ℕ) (v : Sight N O) → Lock c gs views →
       get_elem? views i ≡ some v
       → (xs : List N) (grips : List Grip) (number : ℕ) → v.opened ≡ Some o → xs ≡ c.history → grips ≡ v.grips →
@@ -56,7 +57,7 @@ module _ {V N O : Type 0} (opening : V → O) (notes : V → List N) (author : N
       (subst (λ (q : ℕ). ShutBy touches o author q c.history grips) (sym one)
       (subst (λ (ks : List Grip). ShutBy touches o author v.own.number c.history ks) (sym same) shut)))
 
-  -- what a view was told stands in the history
+  -- what a view was told is in the history
   pub is_told : (c : Scene N) (gs : List ℕ) (views : List (Sight N O)) (i : ℕ) (v : Sight N O) → Lock c gs views →
       get_elem? views i ≡ some v
       → (xs : List N) (news : List Grip) → v.opened ≡ Some o → xs ≡ c.history → news ≡ v.news
@@ -245,7 +246,7 @@ module _ {V N O : Type 0} (opening : V → O) (notes : V → List N) (author : N
       × drawn (step slots 0 old (old + 1) none) m (get_or ws 0 0) (w', carried_after m.1 a) in
       subst P (sym r.kept.words) (draws_at slots i m old s idle more r at (r.scene.ticket == old) refl)
 
-  -- a ticket is drawn behind those that wait
+  -- a ticket is drawn after those that wait
   pub queues : (slots i : ℕ) (m : Me (Option V) (Sight N O)) → passes * turns < 2 ^ 62 → m.0.stage ≡ Idle → 0 < m.0.left
       → Allows Rule slots i m 0 (λ n. (n + 1) % 2 ^ 64) (queued (step slots 0 1 0 none) m)
   queues slots i m small idle more s r len at fits =

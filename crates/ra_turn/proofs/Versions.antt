@@ -9,13 +9,13 @@ use mathlib.Core.List.{IsPrefix}
 use Rattle.ra_turn.specs.Notes.{by, TouchedAt, QuietFrom, OnlyBy, IsVersion}
 
 module _ {A : Type 0} where
-  -- what stands in a list stands in a longer one, at the same place
+  -- what is in a list is in a longer one, at the same place
   pub get_front : (xs ys : List A) (k : ℕ) (x : A) → slice_get xs k ≡ Some x → slice_get (xs ++ ys) k ≡ Some x
   get_front [] ys k x e = absurd cc
   get_front (y ∷ xs) ys zero x e = e
   get_front (y ∷ xs) ys (suc k) x e = get_front xs ys k x e
 
-  -- what stands in two lists stands in the first or in the second
+  -- what is in two lists joined is in the first or in the second
   pub get_cases : (xs ys : List A) (k : ℕ) (x : A) → slice_get (xs ++ ys) k ≡ Some x → (slice_get xs k ≡ Some x)
       ⊎ ((j : ℕ) × (k ≡ length xs + j) × (slice_get ys j ≡ Some x))
   get_cases [] ys k x e = inr (k, omega arith, e)
@@ -23,7 +23,7 @@ module _ {A : Type 0} where
   get_cases (y ∷ xs) ys (suc k) x e =
       ⊎_elim (λ h. inl h) (λ h. inr (h.0, (let n = h.1 in omega arith), h.2)) (get_cases xs ys k x e)
 
-  -- what stands in one element more
+  -- what is in a list with one element more
   pub get_last : (x y : A) (j : ℕ) → slice_get (x ∷ []) j ≡ Some y → (j ≡ 0) × (x ≡ y)
   get_last x y zero e = (refl, cc e)
   get_last x y (suc j) e = absurd (cc e)

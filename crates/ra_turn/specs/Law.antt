@@ -1,4 +1,4 @@
--- The rule of the table, over its words, its slot and what its seats know.
+-- The rule of the table: what holds of its words, its slot and what its seats know.
 use Rattle.std.specs.Prelude.{◌≡◌, ◌⊎◌, ℕ, ◌+◌, ◌*◌, ◌<◌, ◌≤◌, Bool, List, [], ◌∷◌, length, All, Contains, sum_by}
 use Rattle.std.specs.Prelude.{Option, Some}
 use mathlib.Core.Option.{none, some}
@@ -13,8 +13,8 @@ use Rattle.ra_turn.specs.Notes.{by}
 use Rattle.ra_turn.specs.Stages.{IsLive, IsPass, HasTicket, IsServed, HasSlot, counted_by}
 use Rattle.ra_turn.specs.Locks.{Locks}
 
--- What all seats are measured by: the words, the history, and two maps, from a ticket and from a pass's number to the
--- seat that has it
+-- The state that all seats refer to: the words, the history, and two maps, from a ticket and from a pass's number to
+-- the seat that has it
 pub record Scene (N : Type 0) : Type 0 where
   pub ticket : ℕ
   pub serving : ℕ
@@ -26,8 +26,8 @@ pub record Scene (N : Type 0) : Type 0 where
 abbrev pub left_of : {N O : Type 0} → Sight N O → ℕ
 left_of v = v.left
 
--- What the seat i knows of a number: its `seen` begins the history, and its notes are those of the history by the
--- number
+-- What the seat i knows of a number: its `seen` is a prefix of the history, and its own notes are the history's notes
+-- by this number
 pub record Fits {N : Type 0} (author : N → ℕ) (history : List N) (given : ℕ) (owner : ℕ → ℕ) (i : ℕ)
     (p : Part N) : Type 0 where
   pub below : p.number < given
@@ -44,7 +44,7 @@ HasNumber {N} n v = IsPass v.stage × ((p : Part N) × Contains (v.own ∷ v.joi
 abbrev pub AtTicket : {N O : Type 0} → ℕ → Sight N O → Type 0
 AtTicket t v = HasTicket v.stage × (v.at ≡ t)
 
--- the seat i is the first one, and has the turns, t for each, of the numbers that it hasn't given
+-- the seat i is the first one, and keeps the turns, t for each, of the numbers that it hasn't given out
 pub record IsMakers {N O : Type 0} (passes turns given i t : ℕ) (v : Sight N O) : Type 0 where
   pub seat : i ≡ 0
   pub turns_each : t ≡ turns
@@ -58,13 +58,13 @@ pub record Knows {V N O : Type 0} (author : N → ℕ) (passes turns : ℕ) (o :
   pub maker : (t : ℕ) → v.stage ≡ Maker t → IsMakers passes turns c.given i t v
   pub opened : IsLive v.stage → v.opened ≡ Some o
   pub parts : IsPass v.stage → All (Fits author c.history c.given c.owner i) (v.own ∷ v.joined)
-  -- a ticket of its own, from serving to ticket less one
+  -- it has a ticket of its own, at least the one that is served and below the next one
   pub ticket : HasTicket v.stage → (c.serving ≤ v.at) × (v.at < c.ticket) × (c.queue v.at ≡ i)
   pub served : IsServed v.stage → v.at ≡ c.serving
   pub whole : HasSlot v.stage → v.own.seen ≡ c.history
   pub away : HasSlot v.stage → homes ≡ none ∷ []
 
--- the slot has a value that stands for the history, and there are at most as many notes as turns that have ended
+-- the slot has a value whose notes are the history, and there are at most as many notes as turns that have ended
 pub record AtHome {V N O : Type 0} (opening : V → O) (notes : V → List N) (o : O) (history : List N)
     (serving : ℕ) (homes : List (maybe.Option (Option V))) (x : V) : Type 0 where
   pub here : homes ≡ some (Some x) ∷ []
@@ -72,7 +72,7 @@ pub record AtHome {V N O : Type 0} (opening : V → O) (notes : V → List N) (o
   pub opened : opening x ≡ o
   pub few : length history ≤ serving
 
--- the slot is out with the seat j, whose ticket is served. It may have counted one note more
+-- the seat j, whose ticket is served, has the value of the slot. It may have counted one note more
 pub record OutWith {V N O : Type 0} (history : List N) (serving : ℕ)
     (homes : List (maybe.Option (Option V))) (views : List (Sight N O)) (j : ℕ) (v : Sight N O) :
     Type 0 where
@@ -88,21 +88,21 @@ module _ {V N O : Type 0} (opening : V → O) (notes : V → List N) (author : N
       ((x : V) × AtHome opening notes o history serving homes x)
       ⊎ ((j : ℕ) × (v : Sight N O) × OutWith history serving homes views j v)
 
-  -- The words stand for the scene, and behind them are the guards' words
+  -- The words are those of the scene, and after them come the guards' words
   pub record Kept (c : Scene N) (guard_words : List ℕ) (s : State (Option V) (Sight N O)) : Type 0
     where
       pub words : s.words ≡ c.ticket ∷ c.serving ∷ length c.history ∷ guard_words
       pub order : c.serving ≤ c.ticket
       pub turns_left : c.ticket + sum_by left_of s.views ≤ passes * turns
-      -- each ticket from the serving word to the ticket word less one stands in the view of its seat, so no ticket is
-      -- lost before the next one is served
+      -- each ticket from the one that is served to the last one drawn is in the view of its seat, so no ticket is lost
+      -- before the next one is served
       pub waits : (t : ℕ) → c.serving ≤ t → t < c.ticket
           → (v : Sight N O) × AtTicket t v × (get_elem? s.views (c.queue t) ≡ some v)
       pub numbers : c.given ≤ passes
-      -- each number that was given stands in the view of its seat
+      -- each number that was given out is in the view of its seat
       pub given_out : (n : ℕ) → n < c.given
           → (v : Sight N O) × HasNumber n v × (get_elem? s.views (c.owner n) ≡ some v)
-      -- no note by a number that wasn't given
+      -- there is no note by a number that wasn't given out
       pub unheard : (n : ℕ) → c.given ≤ n → by author n c.history ≡ []
       pub slot : Slot c.history c.serving s.homes s.views
       pub each : (i : ℕ) (v : Sight N O) → get_elem? s.views i ≡ some v
@@ -110,7 +110,7 @@ module _ {V N O : Type 0} (opening : V → O) (notes : V → List N) (author : N
 
 module _ {V N O : Type 0} (opening : V → O) (notes : V → List N) (author : N → ℕ)
     (touches : O → N → ℕ → Bool) (passes turns guards : ℕ) (o : O) where
-  -- The rule: there is one history, and the guards' words stand for it
+  -- The rule: there is one history, and the guards' words agree with it
   pub record Ruled (s : State (Option V) (Sight N O)) : Type 0 where
     pub scene : Scene N
     pub guard_words : List ℕ

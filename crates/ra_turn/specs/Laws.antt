@@ -1,4 +1,4 @@
--- What holds of guards' versions in every history, and of a pass that holds a guard.
+-- What holds of guards' versions in every history, and of a pass that has locked a guard.
 use Rattle.std.specs.Prelude.{◌≡◌, ℕ, Bool, List}
 use mathlib.Core.List.{IsPrefix}
 use Rattle.ra_turn.specs.declared.story.Story.{Ghosts}
@@ -13,7 +13,7 @@ VersionIsOne {N} touched =
     (xs : List N) (v w : ℕ) → IsVersion touched xs v → IsVersion touched xs w → v ≡ w
 
 module _ {V N O : Type 0} {g : Ghosts V N O} where
-  -- the pass p has become q by a take
+  -- a take turns the pass p into q
   pub record IsTake (t : Turn V N O) (p q : Pass V N O g) : Type 0 where
     pub number : q.number ≡ p.number
     pub seen : IsPrefix (seen_by p) (seen_by q)
@@ -23,7 +23,7 @@ module _ {V N O : Type 0} {g : Ghosts V N O} where
     pub shut : Shut t q
     pub news : SeesNews t q
 
--- at the take after Held, the version told is the guard's in the whole history as it is then
+-- at the take after Held, the version that was told is the guard's version in the whole history of that moment
 abbrev pub VersionAtTake : {V N O : Type 0} → Ghosts V N O → Turn V N O → Type 0
 VersionAtTake {V} {N} {O} g t =
     (p q r : Pass V N O g) (guard asked at : ℕ) → IsGripped t p q guard asked at → IsTake t q r

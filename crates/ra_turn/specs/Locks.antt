@@ -6,25 +6,25 @@ use Rattle.ra_turn.specs.declared.sight.Sight.{Sight}
 use Rattle.ra_turn.specs.Stages.{IsLive}
 use Rattle.ra_turn.specs.Notes.{grip, touching, OnlyBy, IsVersion, IsNews}
 
--- how a guard stands: free at a version, or taken by a seat, for a pass's number, at a version
+-- the state of a guard: free at a version, or locked by a seat, for a pass's number, at a version
 pub data Latch : Type 0 where
   free : (version : ℕ) → Latch
   taken : (seat : ℕ) → (number : ℕ) → (version : ℕ) → Latch
 
--- a view that holds the guard at the version
+-- a view that has locked the guard at the version
 abbrev pub HasGrip : {N O : Type 0} → ℕ → ℕ → Sight N O → Type 0
 HasGrip guard version v = IsLive v.stage × Contains v.grips (grip guard version)
 
 module _ {N : Type 0} (touched : N → Bool) (author : N → ℕ) (history : List N) (word : ℕ) where
-  -- The word of a free guard is twice its version, and that of a taken one is one more than twice the version at which
-  -- it was taken. Each later note that touches a taken guard is by the number that has it
+  -- The word of a free guard is twice its version, and that of a locked one is one more than twice the version at which
+  -- it was locked. Each later note that touches a locked guard is by the number that has locked it
   abbrev pub Latched : Latch → Type 0
   Latched (free v) = (word ≡ 2 * v) × IsVersion touched history v
   Latched (taken seat number v) = (word ≡ 2 * v + 1) × OnlyBy touched author number history v
 
 module _ {N O : Type 0} (author : N → ℕ) (touches : O → N → ℕ → Bool) (o : O) (guards : ℕ) where
-  -- Each guard has one latch. A guard that a view holds is taken by its seat, a guard that is taken is held by the view
-  -- of its seat, and what a view was told is true
+  -- Each guard has one latch. A guard that a view has locked is locked by its seat, a guard that is locked is locked in
+  -- the view of its seat, and what a view was told is true
   pub record Locks (history : List N) (words : List ℕ) (views : List (Sight N O)) : Type 0 where
     pub latch : ℕ → Latch
     pub count : length words ≡ guards

@@ -9,16 +9,16 @@ use Rattle.ra_turn.specs.declared.sight.Part.{Part}
 abbrev pub by : {N : Type 0} → (N → ℕ) → ℕ → List N → List N
 by author number xs = filter (λ x. author x == number) xs
 
--- what a pass has seen begins the notes xs, and its own notes are just those of xs by its number
+-- what a pass has seen is a prefix of the notes xs, and its own notes are exactly those of xs by its number
 pub record Stands {N : Type 0} (author : N → ℕ) (xs : List N) (p : Part N) : Type 0 where
   pub seen : IsPrefix p.seen xs
   pub mine : by author p.number xs ≡ p.mine
 
--- a guard at a version
+-- a guard with a version
 abbrev pub grip : ℕ → ℕ → Grip
 grip guard version = record { guard = guard; version = version }
 
--- the grips but those of a guard
+-- the grips without those of one guard
 abbrev pub without : ℕ → List Grip → List Grip
 without guard ks = filter (λ k. not (k.guard == guard)) ks
 
@@ -51,13 +51,13 @@ module _ {N O : Type 0} (touches : O → N → ℕ → Bool) (o : O) where
   abbrev pub IsNews : List N → Grip → Type 0
   IsNews xs k = (0 < k.version) × TouchedAt (touching touches o k.guard) xs (k.version - 1)
 
-  -- each guard that the note touches is held
+  -- each guard that the note touches is locked
   abbrev pub HoldsAll : List Grip → N → Type 0
   HoldsAll grips n =
       (guard : ℕ) → touches o n guard ≡ true → (v : ℕ) × Contains grips (grip guard v)
 
-  -- while a pass of the number holds these guards, no note of another touches one of them from the version on at which
-  -- it was taken
+  -- while a pass of the number has these guards locked, no note of another pass touches one of them from the version on
+  -- at which it was locked
   abbrev pub ShutBy : (N → ℕ) → ℕ → List N → List Grip → Type 0
   ShutBy author number xs grips =
       All (λ k. OnlyBy (touching touches o k.guard) author number xs k.version) grips

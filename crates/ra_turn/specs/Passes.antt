@@ -15,11 +15,11 @@ use Rattle.ra_turn.specs.Views.{view, slots}
 use Rattle.ra_turn.specs.Holds.{IsLastTold}
 use Rattle.ra_turn.specs.Notes.{by, grip, touching, IsVersion, IsNews, HoldsAll, ShutBy}
 
--- P holds of each element, with its place
+-- P holds of each element and its place
 abbrev pub EachAt : {X : Type 0} → (ℕ → X → Type 0) → List X → Type 0
 EachAt {X} P xs = (n : ℕ) (d : X) → n < length xs → P n (slice_index_or xs n d)
 
--- the opening of the value behind the lock
+-- the opening of the value that the lock protects
 abbrev pub opening_of : {V N O : Type 0} → (V → O) → Turn V N O → O
 opening_of opening t = opening t.table.shared.key.start.value
 
@@ -35,7 +35,7 @@ turns_of_each t = t.table.shared.key.turns
 abbrev pub guards_of : {V N O : Type 0} → Turn V N O → ℕ
 guards_of t = t.table.shared.key.guards
 
--- the seat from which n passes were cut
+-- the seat off which n passes were split
 abbrev pub IsMaker : {V N O : Type 0} → (V → O) → Turn V N O → ℕ → ℕ → Seat (Option V) (Sight N O)
     → Type 0
 IsMaker opening t turns n s =
@@ -47,15 +47,15 @@ module _ {V N O : Type 0} {g : Ghosts V N O} where
   abbrev pub seen_by : Pass V N O g → List N
   seen_by p = (view p.seat.me).own.seen
 
-  -- the notes that it made
+  -- the notes that the pass has made
   abbrev pub made_by : Pass V N O g → List N
   made_by p = (view p.seat.me).own.mine
 
-  -- the guards that it holds, each with the version at which it was taken, in ascending order
+  -- the guards that the pass has locked, each with the version at which it was locked, in ascending order
   abbrev pub grips_of : Pass V N O g → List Grip
   grips_of p = (view p.seat.me).grips
 
-  -- the guards of whose versions it was told: at its next take it sees the note before each
+  -- the guards whose versions the pass was told: at its next take it sees the note before each version
   abbrev pub news_of : Pass V N O g → List Grip
   news_of p = (view p.seat.me).news
 
@@ -65,19 +65,19 @@ module _ {V N O : Type 0} {g : Ghosts V N O} where
       (p.seat.table_id ≡ t.table.shared.table_id)
       × ((view p.seat.me).opened ≡ Some (opening_of g.opening t))
 
-  -- the pass has no turn
+  -- the pass is outside its turns
   abbrev pub IsIdle : Pass V N O g → Type 0
   IsIdle p = ((view p.seat.me).stage ≡ Idle) × (slots p.seat.me ≡ [])
 
-  -- the pass has taken the value
+  -- the pass is in its critical section, and has taken the value
   abbrev pub IsInTurn : Pass V N O g → Type 0
   IsInTurn p = ((view p.seat.me).stage ≡ InTurn) × (slots p.seat.me ≡ (0, None) ∷ [])
 
-  -- the pass is one of this lock, and has no turn
+  -- the pass is one of this lock, and outside its turns
   abbrev pub IsReady : Turn V N O → Pass V N O g → Type 0
   IsReady t p = IsPassOf t p × IsIdle p
 
-  -- as `Turn::make` gives the pass n
+  -- the pass n as `Turn::make` gives it
   pub record IsFresh (t : Turn V N O) (turns n : ℕ) (p : Pass V N O g) : Type 0 where
     pub of : IsPassOf t p
     pub idle : IsIdle p
@@ -87,16 +87,16 @@ module _ {V N O : Type 0} {g : Ghosts V N O} where
     pub made : made_by p ≡ []
     pub grips : grips_of p ≡ []
 
-  -- The notes xs are those that the pass has seen, or these and one more by its number, of which it holds each guard
-  -- that it touches
+  -- The notes xs are those that the pass has seen, or these and one more by its number, and the pass has locked each
+  -- guard that this note touches
   abbrev pub MayFollow : O → Pass V N O g → List N → Type 0
   MayFollow o p xs =
       (xs ≡ seen_by p)
       ⊎ ((n : N) × (xs ≡ seen_by p ++ n ∷ []) × (g.author n ≡ p.number)
       × HoldsAll g.touches o (grips_of p) n)
 
-  -- Of the guards that the pass holds, no note of another pass that it has seen touches one, from the version on at
-  -- which it was taken
+  -- No other pass's note that the pass has seen touches a guard that it has locked, from the version on at which it was
+  -- locked
   abbrev pub Shut : Turn V N O → Pass V N O g → Type 0
   Shut t p = ShutBy g.touches (opening_of g.opening t) g.author p.number (seen_by p) (grips_of p)
 
@@ -104,7 +104,7 @@ module _ {V N O : Type 0} {g : Ghosts V N O} where
   abbrev pub WillSee : Pass V N O g → ℕ → ℕ → Type 0
   WillSee p guard version = Contains (news_of p) (grip guard version)
 
-  -- what the pass was told that it will see stands in what it has seen
+  -- what the pass was told that it will see is in what it has seen
   abbrev pub SeesNews : Turn V N O → Pass V N O g → Type 0
   SeesNews t p =
       (guard version : ℕ) → WillSee p guard version
@@ -115,7 +115,7 @@ module _ {V N O : Type 0} {g : Ghosts V N O} where
   HasVersion t p guard version =
       IsVersion (touching g.touches (opening_of g.opening t) guard) (seen_by p) version
 
-  -- it holds the same guards, and was told the same
+  -- it has the same guards locked, and was told the same
   abbrev pub HoldsSame : Pass V N O g → Pass V N O g → Type 0
   HoldsSame p q = (grips_of q ≡ grips_of p) × (news_of q ≡ news_of p)
 
@@ -123,20 +123,20 @@ module _ {V N O : Type 0} {g : Ghosts V N O} where
   abbrev pub KnowsSame : Pass V N O g → Pass V N O g → Type 0
   KnowsSame p q = (seen_by q ≡ seen_by p) × (made_by q ≡ made_by p) × (q.left ≡ p.left)
 
-  -- the same pass of the same lock
+  -- two views are of one pass of one lock
   abbrev pub IsSamePass : Pass V N O g → Pass V N O g → Type 0
   IsSamePass p q =
       (q.seat.table_id ≡ p.seat.table_id) × (q.seat.id ≡ p.seat.id) × (q.number ≡ p.number)
       × ((view q.seat.me).opened ≡ (view p.seat.me).opened)
 
-  -- as `Turn::close` wants the pass n
+  -- the pass n as `Turn::close` needs it
   pub record IsDone (t : Turn V N O) (n : ℕ) (p : Pass V N O g) : Type 0 where
     pub of : IsPassOf t p
     pub idle : IsIdle p
     pub number : p.number ≡ n
     pub grips : grips_of p ≡ []
 
-  -- what the pass has seen begins the notes xs, which have of its own just those that it made
+  -- what the pass has seen is a prefix of the notes xs, whose notes by the pass are exactly those that it made
   abbrev pub IsPartOf : List N → Pass V N O g → Type 0
   IsPartOf xs p = IsPrefix (seen_by p) xs × (by g.author p.number xs ≡ made_by p)
 
@@ -152,8 +152,9 @@ module _ {V N O : Type 0} {g : Ghosts V N O} where
         Contains ((view s.me).own ∷ (view s.me).joined) (view p.seat.me).own)
         ps
 
-  -- If `Turn::hold` answers Held: the pass holds the guard besides, at a version of at most the one asked for. It is
-  -- the guard's version in what the pass has seen, if that reaches so far, and the next take shows the note before it
+  -- If `Turn::hold` answers Held: the pass has locked the guard as well, at a version of at most the one asked for.
+  -- This is the guard's version in what the pass has seen, if the pass has seen so much, and the next take shows the
+  -- note before it
   pub record IsGripped (t : Turn V N O) (p q : Pass V N O g) (guard asked at : ℕ) : Type 0 where
     pub within : at ≤ asked
     pub grips : grips_of q ≡ grips_of p ++ grip guard at ∷ []
@@ -161,15 +162,15 @@ module _ {V N O : Type 0} {g : Ghosts V N O} where
     pub version : at ≤ length (seen_by q) → HasVersion t q guard at
     pub news : 0 < at → WillSee q guard at
 
-  -- if it answers Newer: the guard's version was above the one asked for, which is the last that the pass was told; the
-  -- pass holds what it held, and the next take shows the note before the version
+  -- if `Turn::hold` answers Newer: the guard's version, which is the latest news of the pass, is above the one asked
+  -- for; the pass has the same guards locked, and the next take shows the note before the version
   pub record IsNewer (p q : Pass V N O g) (guard asked at : ℕ) : Type 0 where
     pub above : asked < at
     pub grips : grips_of q ≡ grips_of p
     pub news : WillSee q guard at
     pub told : IsLastTold (news_of p) (news_of q) guard at
 
-  -- what `Turn::hold` tells
+  -- what `Turn::hold` answers
   abbrev pub IsAnswer : Turn V N O → Pass V N O g → Pass V N O g → ℕ → ℕ → Hold → Type 0
   IsAnswer t p q guard asked (Held at) = IsGripped t p q guard asked at
   IsAnswer t p q guard asked (Newer at) = IsNewer p q guard asked at

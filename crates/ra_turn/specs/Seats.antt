@@ -6,7 +6,7 @@ use Rattle.ra_turn.specs.declared.law.Key.{Key}
 use Rattle.ra_turn.specs.declared.sight.Part.{Part}
 use Rattle.ra_turn.specs.declared.sight.Sight.{Sight}
 
--- three words and one for each guard, one slot, and turns that no word overflows by
+-- three words and one for each guard, one slot, and so few turns that no word overflows
 abbrev pub IsSized : {V : Type 0} → TableId → Key V → Type 0
 IsSized z key =
     (z.words ≡ 3 + key.guards) × (z.slots ≡ 1) × (key.passes * key.turns < 2 ^ 62)

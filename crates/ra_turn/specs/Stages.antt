@@ -8,7 +8,7 @@ abbrev pub IsLive : Stage → Type 0
 IsLive Spent = ⊥
 IsLive _ = Unit {0}
 
--- the seat is that of a pass
+-- the seat is a pass's
 abbrev pub IsPass : Stage → Type 0
 IsPass (Maker turns) = ⊥
 IsPass Spent = ⊥
@@ -29,7 +29,7 @@ IsServed InTurn = Unit {0}
 IsServed Counted = Unit {0}
 IsServed _ = ⊥
 
--- the pass has the slot
+-- the pass has the value of the slot
 abbrev pub HasSlot : Stage → Type 0
 HasSlot InTurn = Unit {0}
 HasSlot Counted = Unit {0}

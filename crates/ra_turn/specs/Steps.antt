@@ -17,8 +17,8 @@ abbrev pub turns_of : Stage → ℕ
 turns_of (Maker turns) = turns
 turns_of _ = 0
 
--- the versions that a pass was told of, after a look at the guard's word: 0 tells of no note, and an odd word of no
--- version
+-- the versions that a pass was told of, after it read a guard's word: version 0 means that no note touches the guard,
+-- and an odd word tells no version
 abbrev pub at_version : ℕ → ℕ → List Grip → List Grip
 at_version guard zero ks = ks
 at_version guard (suc v) ks = grip guard (suc v) ∷ ks
@@ -38,7 +38,7 @@ module _ {N O : Type 0} where
         own = record { number = v.own.number; seen = xs; mine = by author v.own.number xs };
       }
 
-  -- a ticket of its own, and a turn less
+  -- the pass has a ticket, and a turn less
   abbrev pub with_ticket : Sight N O → ℕ → Sight N O
   with_ticket v n = record v { stage = Drawn; at = n; left = v.left - 1 }
 
@@ -48,28 +48,28 @@ module _ {N O : Type 0} where
   abbrev pub with_news : Sight N O → List Grip → Sight N O
   with_news v ks = record v { news = ks }
 
-  -- the pass is in its turn, no other was joined to it, and it has seen so many notes
+  -- the pass is in its critical section, no other was joined to it, and it has seen this number of notes
   pub record IsInTurnAt (v : Sight N O) (seen : ℕ) : Type 0 where
     pub stage : v.stage ≡ InTurn
     pub alone : length v.joined ≡ 0
     pub count : length v.own.seen ≡ seen
 
-  -- of the guards that the view holds, no other's note that it has seen touches one
+  -- no other's note that the view has seen touches a guard that it has locked
   abbrev pub IsShut : (N → ℕ) → (O → N → ℕ → Bool) → Sight N O → Type 0
   IsShut author touches v =
       (o : O) → v.opened ≡ Some o → ShutBy touches o author v.own.number v.own.seen v.grips
 
-  -- a version within what the view has seen is the guard's version there
+  -- a version within what the view has seen is the guard's version in it
   abbrev pub IsCurrent : (O → N → ℕ → Bool) → Sight N O → ℕ → ℕ → Type 0
   IsCurrent touches v guard version =
       (o : O) → v.opened ≡ Some o → version ≤ length v.own.seen
       → IsVersion (touching touches o guard) v.own.seen version
 
-  -- what the view was told of stands in what it has seen
+  -- what the view was told of is in what it has seen
   abbrev pub IsTold : (O → N → ℕ → Bool) → Sight N O → Type 0
   IsTold touches v = (o : O) → v.opened ≡ Some o → All (IsNews touches o v.own.seen) v.news
 
-  -- the maker's view less one number, and the new pass's view
+  -- the maker's view without one number, and the new pass's view
   abbrev pub cut_left : Sight N O → Sight N O
   cut_left v = record v { at = v.at + 1; left = v.left - turns_of v.stage }
 
@@ -86,7 +86,7 @@ module _ {N O : Type 0} where
         news = [];
       }
 
-  -- two passes as one, and what the second is left with
+  -- two passes as one, and what is left of the second
   abbrev pub joined : Sight N O → Sight N O → Sight N O
   joined v w = record v { left = v.left + w.left; joined = v.joined ++ w.own ∷ w.joined }
 
@@ -104,22 +104,22 @@ module _ {N O : Type 0} where
       }
 
 module _ {V N O : Type 0} where
-  -- the seat is told how far the turns are, and nothing changes
+  -- the seat learns how far the turns are, and nothing changes
   abbrev pub peeked : Step (Option V) → Me (Option V) (Sight N O) → ℕ → Me (Option V) (Sight N O)
       → Type 0
   peeked s m n m' = (m' ≡ m) × (n < 2 ^ 62)
 
-  -- a ticket is drawn exactly if the word was as expected, and is the word that was found
+  -- a ticket is drawn exactly if the word was as expected, and it is the word that was found
   abbrev pub drawn : Step (Option V) → Me (Option V) (Sight N O) → ℕ → Me (Option V) (Sight N O)
       → Type 0
   drawn s m n m' = MatchBool (n == s.first) (m' ≡ (with_ticket (view m) n, slots m)) (m' ≡ m)
 
-  -- a ticket is drawn, and is the word that was found
+  -- a ticket is drawn, and it is the word that was found
   abbrev pub queued : Step (Option V) → Me (Option V) (Sight N O) → ℕ → Me (Option V) (Sight N O)
       → Type 0
   queued s m n m' = m' ≡ (with_ticket (view m) n, slots m)
 
-  -- it is its turn exactly if the word is its ticket
+  -- the pass's turn has come exactly if the word is its ticket
   abbrev pub looked : Step (Option V) → Me (Option V) (Sight N O) → ℕ → Me (Option V) (Sight N O)
       → Type 0
   looked s m n m' =
@@ -137,21 +137,21 @@ module _ {V N O : Type 0} where
       (guard : ℕ) → s.word ≡ 3 + guard
       → m' ≡ (with_news (view m) (heard guard n (view m).news), slots m)
 
-  -- the seat holds the guard at the version besides
+  -- the seat has locked the guard as well, at the version
   abbrev pub Took : (N → ℕ) → (O → N → ℕ → Bool) → Me (Option V) (Sight N O)
       → Me (Option V) (Sight N O) → ℕ → ℕ → Type 0
   Took author touches m m' guard v =
       (m' ≡ (with_grips (view m) ((view m).grips ++ grip guard v ∷ []), slots m))
       × IsShut author touches (view m') × IsCurrent touches (view m') guard v
 
-  -- the guard is taken exactly if the word was as expected, which is twice its version
+  -- the guard is locked exactly if the word was as expected, which is twice its version
   abbrev pub gripped : (N → ℕ) → (O → N → ℕ → Bool) → Step (Option V) → Me (Option V) (Sight N O)
       → ℕ → Me (Option V) (Sight N O) → Type 0
   gripped author touches s m n m' = MatchBool (n == s.first)
       ((guard v : ℕ) → s.word ≡ 3 + guard → s.first ≡ 2 * v → Took author touches m m' guard v)
       (m' ≡ m)
 
-  -- the seat holds the guard no more
+  -- the seat has unlocked the guard
   abbrev pub Gave : (N → ℕ) → (O → N → ℕ → Bool) → Me (Option V) (Sight N O)
       → Me (Option V) (Sight N O) → ℕ → Type 0
   Gave author touches m m' guard =
@@ -164,8 +164,8 @@ module _ {V N O : Type 0} where
       (guard : ℕ) → s.word ≡ 3 + guard → Gave author touches m m' guard
 
 module _ {V N O : Type 0} (opening : V → O) (notes : V → List N) (author : N → ℕ) where
-  -- the value in the slot: its opening, and its notes, which begin with those seen and have of the pass's own just
-  -- those that it made
+  -- the value in the slot: its opening, and its notes, of which those seen are a prefix and of which those by the pass
+  -- are exactly those that it made
   pub record Shows (m : Sight N O) (n : ℕ) (x : V) : Type 0 where
     pub opened : m.opened ≡ Some (opening x)
     pub seen : IsPrefix m.own.seen (notes x)
@@ -175,8 +175,8 @@ module _ {V N O : Type 0} (opening : V → O) (notes : V → List N) (author : N
 
 module _ {V N O : Type 0} (opening : V → O) (notes : V → List N) (author : N → ℕ)
     (touches : O → N → ℕ → Bool) where
-  -- the value has one note more than the pass has seen, which is the pass's own, and the pass holds each guard that it
-  -- touches
+  -- the value has one note more than the pass has seen, this note is the pass's own, and the pass has locked each guard
+  -- that it touches
   pub record HasOneMore (m : Sight N O) (x : V) : Type 0 where
     pub note : N
     pub added : notes x ≡ m.own.seen ++ note ∷ []
@@ -184,7 +184,7 @@ module _ {V N O : Type 0} (opening : V → O) (notes : V → List N) (author : N
     pub opened : m.opened ≡ Some (opening x)
     pub held : HoldsAll touches (opening x) m.grips note
 
-  -- the history is that of the value in the slot, which the pass has then
+  -- the history is that of the value in the slot, which the pass now has
   abbrev pub saw : Step (Option V) → Me (Option V) (Sight N O) → ℕ → Me (Option V) (Sight N O)
       → Type 0
   saw s m n m' =
@@ -193,12 +193,12 @@ module _ {V N O : Type 0} (opening : V → O) (notes : V → List N) (author : N
       × IsShut author touches (view m') × IsTold touches (view m')
 
 module _ {V N O : Type 0} (notes : V → List N) (author : N → ℕ) where
-  -- the seat has seen the value's notes, and counted its own
+  -- the seat has seen the value's notes, and has counted its own
   abbrev pub HasCounted : Me (Option V) (Sight N O) → Me (Option V) (Sight N O) → V → Type 0
   HasCounted m m' x =
       (m' ≡ (with_seen author (view m) Counted (notes x), slots m)) × (length (notes x) < 2 ^ 62)
 
-  -- the announced value's notes are the history, and all notes that the pass had made were among those that it had seen
+  -- the announced value's notes are the history, and the pass had seen all notes that it had made
   abbrev pub noted : Step (Option V) → Me (Option V) (Sight N O) → ℕ → Me (Option V) (Sight N O)
       → Type 0
   noted s m n m' =

@@ -1,4 +1,4 @@
-//! How a lock is closed.
+//! Closing a lock.
 ghost use Rattle.std.specs.Prelude.{◌≡◌, ◌<◌, ◌≤◌, [], ◌∷◌, length, All};
 ghost use Rattle.ra_turn.specs.Views.{view};
 ghost use Rattle.ra_turn.specs.declared.sight.Stage.TheVariants.{Idle};
@@ -13,7 +13,7 @@ use crate::story::Story;
 use crate::turn::Turn;
 
 impl<V: Story> Turn<V> {
-    /// Ends the lock, and gives the value. It takes all passes, in order and idle.
+    /// Ends the lock, and gives the value. It needs all passes, in order and idle.
     pub fn close(self, passes: Vec<Pass<V>>) -> V
         requires passes { (length passes.items ≡ passes_of self) ×
             EachAt (IsDone self) passes.items }
@@ -30,7 +30,7 @@ impl<V: Story> Turn<V> {
     }
 }
 
-/// One seat, which knows what all the passes knew.
+/// One seat that knows what all the passes know.
 fn join_all<V: Story>(turn: &Turn<V>, mut passes: Vec<Pass<V>>) -> Place<V>
     requires passes { (length passes.items ≡ passes_of turn.now) ×
         EachAt (IsDone turn.now) passes.items }
@@ -46,7 +46,7 @@ fn join_all<V: Story>(turn: &Turn<V>, mut passes: Vec<Pass<V>>) -> Place<V>
     seat
 }
 
-/// Joins a pass to the seat.
+/// Joins a pass's seat to the seat.
 fn join<V: Story>(turn: &Turn<V>, seat: &mut Place<V>, pass: Pass<V>)
     requires seat { (seat.old.table_id ≡ turn.now.table.shared.table_id) ×
         ((view seat.old.me).stage ≡ Idle) × ((view seat.old.me).grips ≡ []) }

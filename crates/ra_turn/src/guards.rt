@@ -1,4 +1,4 @@
-//! The steps on the guards' words.
+//! Locking and unlocking guards: the steps on their words.
 ghost use Rattle.std.specs.Prelude.{◌≡◌, ℕ, ◌+◌, ◌*◌, ◌/◌, ◌%◌, ◌<◌, ◌≤◌, ◌^◌, [], length, Contains, MatchBool, IfSome, IfNone};
 ghost use Rattle.ra_turn.specs.Views.{view, slots};
 ghost use Rattle.ra_turn.specs.declared.sight.Stage.TheVariants.{Idle};
@@ -18,19 +18,19 @@ const FIRST_GUARD: usize = 3;
 /// What `Turn::hold` answers.
 #[derive(Clone, Copy, Debug, PartialEq, Eq)]
 pub enum Hold {
-    /// The pass holds the guard.
+    /// The pass has locked the guard.
     Held {
-        /// The guard's version, as it was taken.
+        /// The guard's version, at which the pass locked it.
         version: u64,
     },
-    /// The pass doesn't hold the guard.
+    /// The pass has not locked the guard.
     Newer {
         /// The guard's version, which is above the one that was asked for.
         version: u64,
     },
 }
 
-/// Looks at a guard's word.
+/// Reads a guard's word.
 fn look<V: Story>(desk: &Desk<V>, seat: &mut Place<V>, guard: u32) -> u64
     requires table { (seat.old.table_id ≡ desk.now.table_id) ×
         IsSized desk.now.table_id desk.now.key }
@@ -45,7 +45,7 @@ fn look<V: Story>(desk: &Desk<V>, seat: &mut Place<V>, guard: u32) -> u64
     desk.load::<Glance>(seat, FIRST_GUARD + guard as usize)
 }
 
-/// Takes the guard if its word is still that of a free one, and says whether it did.
+/// Locks the guard if it is free and its word is unchanged, and says whether it did.
 fn grasp<V: Story>(desk: &Desk<V>, seat: &mut Place<V>, guard: u32, word: u64) -> bool
     requires table { (seat.old.table_id ≡ desk.now.table_id) ×
         IsSized desk.now.table_id desk.now.key }
@@ -60,7 +60,8 @@ fn grasp<V: Story>(desk: &Desk<V>, seat: &mut Place<V>, guard: u32, word: u64) -
     desk.compare_exchange::<Grasp>(seat, place, free, free + 1) == free
 }
 
-/// Looks once, and takes the guard if it is free and has at most the version. `None` if another pass has it.
+/// Looks once, and locks the guard if it is free and its version is at most the one given. `None` if another pass has
+/// locked it.
 fn try_hold<V: Story>(desk: &Desk<V>, seat: &mut Place<V>, guard: u32, version: u64) -> Option<Hold>
     requires table { (seat.old.table_id ≡ desk.now.table_id) ×
         IsSized desk.now.table_id desk.now.key }
@@ -85,7 +86,7 @@ fn try_hold<V: Story>(desk: &Desk<V>, seat: &mut Place<V>, guard: u32, version: 
     }
 }
 
-/// Tries until there is an answer.
+/// Tries to lock the guard until there is an answer.
 pub(crate) fn hold_guard<V: Story, R: Wait>(
     rt: &R,
     desk: &Desk<V>,
@@ -110,7 +111,7 @@ pub(crate) fn hold_guard<V: Story, R: Wait>(
     unreachable!()
 }
 
-/// Gives a guard back at its version.
+/// Unlocks a guard, at its version.
 pub(crate) fn release_guard<V: Story>(desk: &Desk<V>, seat: &mut Place<V>, guard: u32, version: u64)
     requires table { (seat.old.table_id ≡ desk.now.table_id) ×
         (3 + guard < desk.now.table_id.words) × ((view seat.old.me).stage ≡ Idle) }

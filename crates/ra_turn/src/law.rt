@@ -1,14 +1,13 @@
-//! The table of the lock and its rule.
-//! Word 0 is the next ticket, word 1 the ticket that is served, word 2 the number of notes.
-//! Word 3 + g is that of the guard g: twice its version while no pass holds it, and else one more than twice the
-//! version at which it was taken. Slot 0 holds the value.
+//! The table of the lock and its rule. Word 0 is the next ticket, word 1 the ticket that is served, word 2 the number
+//! of notes. Word 3 + g belongs to guard g: twice its version while the guard is free, and one more than twice the
+//! version at which a pass locked it while it is locked. Slot 0 holds the value.
 use crate::sight::Sight;
 use crate::story::Story;
 use atomic_table::{Seat, Shared, Table, TableRule};
 use std::alloc::Global;
 use std::snapshot::Snapshot;
 
-/// What the table is told once, when it is made.
+/// What is fixed for the table when it is made.
 #[derive(Drop)]
 pub struct Key<V> {
     /// How many passes there are.
@@ -17,7 +16,7 @@ pub struct Key<V> {
     pub turns: u64,
     /// How many guards there are.
     pub guards: u32,
-    /// The value as it was at the start.
+    /// The value at the start.
     pub start: Snapshot<V>,
 }
 
@@ -42,7 +41,7 @@ pub(crate) type Board<V> = Table<
     Global,
 >;
 
-/// The table as its seats see it.
+/// The table as its seats use it.
 pub(crate) type Desk<V> = Shared<
     Option<V>,
     Sight<<V as Story>::Note, <V as Story>::Opening>,

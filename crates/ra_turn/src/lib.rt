@@ -1,4 +1,5 @@
-//! A ticket lock whose holder knows the history of the value behind it.
+//! A ticket lock. Its holder knows the history of the value that the lock protects, and passes can also lock single
+//! guards.
 #![tactic(auto)]
 
 mod close;

@@ -1,4 +1,4 @@
-//! How a lock is made.
+//! Making a lock.
 ghost use Rattle.std.specs.Prelude.{◌≡◌, ◌+◌, ◌*◌, ◌^◌, ◌<◌, ◌≤◌, [], ◌∷◌, length, vec_capacity, Some, IfOk};
 ghost use Rattle.ra_turn.specs.declared.sight.Stage.TheVariants.{Maker};
 ghost use Rattle.ra_turn.specs.Law.{maker as first_view};
@@ -16,8 +16,8 @@ use std::alloc::Global;
 use std::snapshot::Snapshot;
 
 impl<V: Story> Turn<V> {
-    /// A lock round `value` with these numbers of passes, of turns for each of them, and of guards. At `Err` the value
-    /// was dropped.
+    /// A lock that protects `value`, with these numbers of passes, of turns for each pass, and of guards. At `Err` the
+    /// value was dropped.
     pub fn make(
         alloc: Global,
         value: V,
@@ -50,7 +50,7 @@ impl<V: Story> Turn<V> {
     }
 }
 
-/// The table, and the maker's seat.
+/// Makes the table, and the maker's seat.
 fn lay<V: Story + Drop>(
     alloc: Global,
     value: V,
@@ -76,7 +76,7 @@ fn lay<V: Story + Drop>(
     }
 }
 
-/// Cuts each pass from the maker's seat.
+/// Splits every pass off the maker's seat.
 fn cut_all<V: Story>(
     turn: &Turn<V>,
     maker: &mut Place<V>,
@@ -94,7 +94,7 @@ fn cut_all<V: Story>(
     }
 }
 
-/// Cuts the pass `number` from the maker's seat.
+/// Splits the pass `number` off the maker's seat.
 fn cut<V: Story>(turn: &Turn<V>, maker: &mut Place<V>, number: u32, turns: u64) -> Pass<V>
     requires maker { IsMaker V.opening turn.now turns number maker.old }
     requires counts { (number < passes_of turn.now) × (turns ≡ turns_of_each turn.now) }

@@ -1,4 +1,4 @@
-//! A pass, with which one thread takes turns.
+//! A pass, by which one thread enters the critical section of a lock.
 ghost use Rattle.std.specs.Prelude.{◌≡◌, ◌+◌, ◌<◌, ◌^◌, length, All};
 ghost use Rattle.ra_turn.specs.Views.{view};
 ghost use Rattle.ra_turn.specs.Notes.{by};
@@ -6,7 +6,8 @@ ghost use Rattle.ra_turn.specs.Notes.{by};
 use crate::law::Place;
 use crate::story::Story;
 
-/// The right to take turns at one lock. It knows which notes it has seen and made.
+/// The right to take turns at one lock: a turn is one critical section. The pass knows which notes it has seen and
+/// made.
 pub struct Pass<V: Story> {
     pub(crate) seat: Place<V>,
     pub(crate) number: u32,
@@ -46,7 +47,7 @@ impl<V: Story> Pass<V> {
         self.seen
     }
 
-    /// The seat, when the lock is closed.
+    /// The pass's seat, for closing the lock.
     pub(crate) fn into_seat(self) -> Place<V>
         ensures { result ≡ self.seat }
     {
@@ -71,10 +72,10 @@ impl<V: Story> Drop for Pass<V> {
     }
 }
 
-/// The value, while a pass is in its turn. It has no `Drop` and a field of its own, so it can't be let go: only
-/// `Turn::give` takes it.
+/// The value, while a pass is in its critical section. It has no `Drop`, and a field that only this crate sees, so no
+/// caller can drop it: only `Turn::give` takes it.
 pub struct Held<V> {
-    /// The value behind the lock.
+    /// The value that the lock protects.
     pub value: V,
     pub(crate) taken: (),
 }

@@ -1,8 +1,8 @@
-//! How a pass waits between two looks at a word that another pass has to change.
+//! How a pass waits between two reads of a word that another pass has to change.
 use std::hint::spin_loop;
 use std::thread;
 
-/// The most hints between two looks. Past them the processor is given to other threads.
+/// The most spin hints between two reads. After that many the thread yields the processor to other threads.
 const MOST_HINTS: u32 = 64;
 
 /// How long a pass has waited for one word.
@@ -17,8 +17,8 @@ impl Patience {
         Patience { hints: 1 }
     }
 
-    /// Waits until the next look: 1, 2, 4 and so on up to 64 hints to the processor, and then for as long as the
-    /// system runs other threads.
+    /// Waits until the next read: 1, 2, 4 and so on up to 64 spin hints to the processor, and after that for as long as
+    /// the system runs other threads.
     pub(crate) fn pause(&mut self) {
         if self.hints > MOST_HINTS {
             thread::yield_now();

@@ -5,14 +5,14 @@ use crate::sight::Sight;
 use crate::story::Story;
 use atomic_table::{Join, Play, Split};
 
-/// A look at how far the turns are, before a ticket is drawn.
+/// A read of how far the turns are, before the pass draws a ticket.
 pub(crate) struct Peek;
 
 impl<V: Story> Play<Option<V>, Sight<V::Note, V::Opening>> for Peek {
     ghost then = { peeked };
 }
 
-/// A ticket is drawn.
+/// A ticket is drawn, if it would be served at once.
 pub(crate) struct Draw;
 
 impl<V: Story> Play<Option<V>, Sight<V::Note, V::Opening>> for Draw {
@@ -26,14 +26,14 @@ impl<V: Story> Play<Option<V>, Sight<V::Note, V::Opening>> for Queue {
     ghost then = { queued };
 }
 
-/// A look at whose turn it is.
+/// A read of the ticket that is served.
 pub(crate) struct Look;
 
 impl<V: Story> Play<Option<V>, Sight<V::Note, V::Opening>> for Look {
     ghost then = { looked };
 }
 
-/// The history is seen, and the slot taken.
+/// The pass sees the history, and takes the value from the slot.
 pub(crate) struct See;
 
 impl<V: Story> Play<Option<V>, Sight<V::Note, V::Opening>> for See {
@@ -47,35 +47,35 @@ impl<V: Story> Play<Option<V>, Sight<V::Note, V::Opening>> for Count {
     ghost then = { noted V.notes V.author };
 }
 
-/// The slot is given back, and the next ticket served.
+/// The pass puts the value back, and the next ticket is served.
 pub(crate) struct Serve;
 
 impl<V: Story> Play<Option<V>, Sight<V::Note, V::Opening>> for Serve {
     ghost then = { served V.author V.touches };
 }
 
-/// A look at a guard.
+/// A read of a guard's word.
 pub(crate) struct Glance;
 
 impl<V: Story> Play<Option<V>, Sight<V::Note, V::Opening>> for Glance {
     ghost then = { glanced };
 }
 
-/// A guard is taken.
+/// A guard is locked.
 pub(crate) struct Grasp;
 
 impl<V: Story> Play<Option<V>, Sight<V::Note, V::Opening>> for Grasp {
     ghost then = { gripped V.author V.touches };
 }
 
-/// A guard is given back.
+/// A guard is unlocked.
 pub(crate) struct Release;
 
 impl<V: Story> Play<Option<V>, Sight<V::Note, V::Opening>> for Release {
     ghost then = { released V.author V.touches };
 }
 
-/// A pass is cut from the maker's seat.
+/// A pass is split off the maker's seat.
 pub(crate) struct Cut;
 
 impl<N, O> Split<Sight<N, O>> for Cut {

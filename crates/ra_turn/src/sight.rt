@@ -1,17 +1,17 @@
-//! What a seat at the table knows. No value of these types is made: they are for proofs alone.
+//! What a seat at the table knows. No value of these types is made: only proofs use them.
 use std::collections::LinkedList;
 
-/// What is known of one pass's number.
+/// What is known of the notes of one pass's number.
 pub struct Part<N> {
     /// The number of the pass.
     pub number: u32,
-    /// The beginning of the history that it has seen.
+    /// The part of the history, from its start, that the pass has seen.
     pub seen: LinkedList<N>,
     /// The notes that it made.
     pub mine: LinkedList<N>,
 }
 
-/// A guard at a version.
+/// A guard with a version.
 pub struct Grip {
     /// The guard's number.
     pub guard: u32,
@@ -21,7 +21,7 @@ pub struct Grip {
 
 /// How far a seat is in its turn.
 pub enum Stage {
-    /// The first seat, from which the passes are cut, and how many turns each of them gets.
+    /// The first seat, off which the passes are split, and how many turns each of them gets.
     Maker(u64),
     /// A seat that was joined to another one.
     Spent,
@@ -31,9 +31,9 @@ pub enum Stage {
     Drawn,
     /// A pass whose ticket is served.
     Called,
-    /// A pass that has the slot, and has seen the whole history.
+    /// A pass in its critical section: it has the slot, and has seen the whole history.
     InTurn,
-    /// The same, and it has counted a note in this turn.
+    /// A pass in its critical section that has counted a note in this turn.
     Counted,
 }
 
@@ -43,7 +43,7 @@ pub struct Sight<N, O> {
     pub opened: Option<O>,
     /// How far it is in its turn.
     pub stage: Stage,
-    /// Its ticket, or of the maker's seat how many numbers were given.
+    /// Its ticket; for the maker's seat, how many numbers were given out.
     pub at: u64,
     /// How many turns it has left.
     pub left: u64,
@@ -51,7 +51,7 @@ pub struct Sight<N, O> {
     pub own: Part<N>,
     /// The numbers of the seats that were joined to it.
     pub joined: LinkedList<Part<N>>,
-    /// The guards that it holds.
+    /// The guards that it has locked.
     pub grips: LinkedList<Grip>,
     /// The versions that it was told of.
     pub news: LinkedList<Grip>,

@@ -19,7 +19,7 @@ const SERVING: usize = 1;
 
 const COUNT: usize = 2;
 
-/// How often a pass looks for a turn that is free before it queues up.
+/// How often a pass looks for a free lock before it queues up.
 const LOOKS: usize = 1_000;
 
 /// Draws the next ticket if the ticket word is the one given, and says whether it did.
@@ -36,7 +36,7 @@ fn try_draw<V: Story>(desk: &Desk<V>, seat: &mut Place<V>, ticket: u64) -> bool
     desk.compare_exchange::<Draw>(seat, TICKET, ticket, ticket + 1) == ticket
 }
 
-/// Draws the next ticket, behind those that wait.
+/// Draws the next ticket, after those that wait.
 fn queue<V: Story>(desk: &Desk<V>, seat: &mut Place<V>) -> u64
     requires table { (seat.old.table_id ≡ desk.now.table_id) ×
         IsSized desk.now.table_id desk.now.key }
@@ -47,9 +47,9 @@ fn queue<V: Story>(desk: &Desk<V>, seat: &mut Place<V>) -> u64
     desk.fetch_add::<Queue>(seat, TICKET, 1)
 }
 
-/// Draws a ticket, and returns it. It looks first, and draws if the ticket would be served at once: so nobody waits
-/// behind a worker that has drawn one and doesn't run. After `LOOKS` looks that found others in their turns it queues
-/// up, so that its turn comes after those that are before it then.
+/// Draws a ticket, and returns it. It reads first, and draws only if the ticket would be served at once, so that nobody
+/// waits for a worker that has drawn a ticket and doesn't run. If `LOOKS` reads find others in their turns, it queues
+/// up, and its turn comes after all that are in the queue by then.
 pub(crate) fn draw<V: Story>(desk: &Desk<V>, seat: &mut Place<V>) -> u64
     requires table { (seat.old.table_id ≡ desk.now.table_id) ×
         IsSized desk.now.table_id desk.now.key }
@@ -87,7 +87,7 @@ pub(crate) fn wait<V: Story, R: Wait>(rt: &R, desk: &Desk<V>, seat: &mut Place<V
     unreachable!()
 }
 
-/// Sees the whole history, whose length comes first, and takes the value.
+/// Reads the length of the whole history, and then takes the value, so that the pass sees all of the history.
 pub(crate) fn see<V: Story>(desk: &Desk<V>, seat: &mut Place<V>) -> (u64, V)
     requires table { (seat.old.table_id ≡ desk.now.table_id) ×
         IsSized desk.now.table_id desk.now.key }
@@ -106,7 +106,7 @@ pub(crate) fn see<V: Story>(desk: &Desk<V>, seat: &mut Place<V>) -> (u64, V)
     (count, value.unwrap())
 }
 
-/// Counts the note that the value has beyond the `seen` notes that were counted.
+/// Counts the one note that the value has in addition to the `seen` notes that were counted.
 fn note<V: Story>(desk: &Desk<V>, seat: &mut Place<V>, seen: u64, value: &Option<V>)
     requires table { (seat.old.table_id ≡ desk.now.table_id) ×
         IsSized desk.now.table_id desk.now.key }
@@ -139,7 +139,7 @@ fn put_back<V: Story>(desk: &Desk<V>, seat: &mut Place<V>, value: Option<V>)
     desk.fetch_add::<Serve>(seat, SERVING, 1);
 }
 
-/// Gives back a value whose notes are those that were seen.
+/// Puts back a value whose notes are those that were seen.
 pub(crate) fn hand_back<V: Story>(desk: &Desk<V>, seat: &mut Place<V>, value: V)
     requires table { (seat.old.table_id ≡ desk.now.table_id) ×
         IsSized desk.now.table_id desk.now.key }
@@ -153,7 +153,7 @@ pub(crate) fn hand_back<V: Story>(desk: &Desk<V>, seat: &mut Place<V>, value: V)
     put_back(desk, seat, Some(value));
 }
 
-/// Gives back a value that has one note more than the `seen` ones.
+/// Puts back a value that has one note more than the `seen` ones.
 pub(crate) fn hand_on<V: Story>(desk: &Desk<V>, seat: &mut Place<V>, seen: u64, value: V)
     requires table { (seat.old.table_id ≡ desk.now.table_id) ×
         IsSized desk.now.table_id desk.now.key }

@@ -1,4 +1,4 @@
-//! What the value behind the lock tells of itself.
+//! What the protected value tells of itself.
 ghost use Rattle.std.specs.Prelude.{◌≡◌, ℕ, List, Bool, length};
 
 /// A value that keeps a history: a list of notes under one opening, to which its holder may add.
@@ -6,7 +6,7 @@ pub trait Story {
     /// A note of the history.
     type Note;
 
-    /// What stays the same of the value. Clauses alone name it; no value of it is made.
+    /// The part of the value that never changes. Only clauses name this type; no value of it is made.
     type Opening;
 
     /// The opening of a value.

@@ -11,7 +11,7 @@ use atomic_table::Table;
 use std::alloc::Global;
 use std::sync::Wait;
 
-/// A ticket lock round a value whose notes are one history.
+/// A ticket lock that protects a value whose notes form one history.
 #[derive(Drop)]
 pub struct Turn<V: Story> {
     pub(crate) table: Table<Option<V>, Sight<V::Note, V::Opening>, Key<V>, Law, Global>,
@@ -25,7 +25,8 @@ impl<V: Story> Turn<V> {
     ghost use Rattle.ra_turn.specs.Holds.{KeepsNews};
     ghost use Rattle.ra_turn.specs.Passes.{opening_of, guards_of, seen_by, made_by, grips_of, news_of, IsPassOf, IsIdle, IsReady, IsInTurn, IsSamePass, HoldsSame, KnowsSame, MayFollow, Shut, SeesNews, HasVersion, IsAnswer};
 
-    /// Waits for the pass's turn, and takes the value. The pass has then seen the whole history.
+    /// Waits for the pass's turn, enters the critical section and takes the value. The pass has then seen the whole
+    /// history.
     pub fn take<R: Wait>(&self, rt: &R, pass: &mut Pass<V>) -> Held<V>
         requires pass { IsPassOf self.now pass.old × IsIdle pass.old × (0 < pass.old.left) }
         ensures pass { IsInTurn pass.new × IsSamePass pass.old pass.new ×
@@ -47,8 +48,8 @@ impl<V: Story> Turn<V> {
         Held { value, taken: () }
     }
 
-    /// Gives the value back, whose notes are those that the pass has seen, or these and one more of its own, of which
-    /// it holds each guard that it touches.
+    /// Puts the value back and leaves the critical section. The value's notes are those that the pass has seen, or
+    /// these and one more of its own. The pass must have locked each guard that this note touches.
     pub fn give(&self, pass: &mut Pass<V>, held: Held<V>)
         requires pass { IsPassOf self.now pass.old × IsInTurn pass.old }
         requires opening { V.opening held.value ≡ opening_of V.opening self.now }
@@ -71,8 +72,9 @@ impl<V: Story> Turn<V> {
         }
     }
 
-    /// Takes a guard for the pass, if its version is at most the one given; no note of another pass then touches it. If
-    /// the version is above, the guard isn't taken, and the pass's next take shows the note that made it so.
+    /// Locks a guard for the pass if the guard's version is at most the one given. As long as it is locked, no other
+    /// pass's note touches it. If the version is above, the guard isn't locked, and the pass's next take shows the note
+    /// that gave it this version.
     pub fn hold<R: Wait>(&self, rt: &R, pass: &mut Pass<V>, guard: u32, version: u64) -> Hold
         requires pass { IsReady self.now pass.old }
         requires guard { (guard < guards_of self.now) ×
@@ -84,7 +86,7 @@ impl<V: Story> Turn<V> {
         hold_guard(rt, &self.table.shared, &mut pass.seat, guard, version)
     }
 
-    /// Gives a guard back at its version in the notes that the pass has seen.
+    /// Unlocks a guard, at its version in the notes that the pass has seen.
     pub fn release(&self, pass: &mut Pass<V>, guard: u32, version: u64)
         requires pass { IsReady self.now pass.old }
         requires grip { (v : ℕ) × Contains (grips_of pass.old) (grip guard v) ×

@@ -29,7 +29,7 @@ both_same i a0 l bytes h g j one other in_h in_g =
     (entry_then j (entry_at h j) (entry_at g j) [] []
     (ap (λ (t : List ℕ). t ++ []) (same_some _ _ (sym (one.lines j in_h) ∙ other.lines j in_g)))).same
 
--- right entry lines behind which no other line is right
+-- right entry lines after which no other line is right
 record Stops (i : Tables) (a0 : List Machine) (l : Lots) (bytes : List ℕ) (h : List Entry) : Type 0 where
   pub right : AreRight i a0 l bytes h
   pub stop : (e : Entry) → Legal i a0 l (h ++ e ∷ []) → line_at (10 + length h) bytes ≢ Some (entry_line (length h) e)
@@ -66,7 +66,7 @@ all_stop i a0 l bytes h all = record {
       (slice_get_past (lines_of bytes) (10 + length h) all.all);
 }
 
--- what is wrong behind the right entry lines of journal h
+-- what is wrong after the right entry lines of journal h
 record EntryFirst (bytes : List ℕ) (h : List Entry) (answer : Option ℕ) : Type 0 where
   pub there : 10 + length h < length (lines_of bytes)
   pub is : answer ≡ Some (11 + length h)

@@ -24,7 +24,7 @@ use Rattle.ra_verify.specs.Checking.{NoneIsPast, entries_in, core_in, IsOpen, Ma
 use Rattle.ra_verify.specs.Checking.{HasTakenLine, IsSameRun, MayStand, is_recorded}
 use Rattle.ra_verify.proofs.FollowLemmas.{last_legal, one_next_entry, is_taken, none_past, none_past_start}
 
--- what may follow may stand there
+-- an entry that may follow may be at the next place
 pub may_stand : (c : Checker) (e : Entry) (w q : ℕ) → IsOpen c → MayFollow c e → e.worker ≡ w → e.q ≡ q → MayStand c w q
 may_stand c e w q ready legal own at =
     let j = c.journal in

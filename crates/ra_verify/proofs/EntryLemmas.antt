@@ -206,7 +206,7 @@ entry_wrong i a0 l bytes place after room n front h line Last which few read is 
 entry_wrong i a0 l bytes place after room n front h line End which few read is given far checked number =
     absurd (⊎_elim (λ (a : End ≡ Line). (cc)) (λ (a : End ≡ Long). (cc)) which)
 
--- the same if the bytes are told
+-- the line is the text of an entry that may follow, and g has this entry more than h
 pub record IsTakenIn (i : Tables) (a0 : List Machine) (l : Lots) (h g : List Entry) (line : List ℕ) : Type 0 where
   pub entry : Entry
   pub text : line ≡ entry_line (length h) entry

@@ -33,7 +33,7 @@ use Rattle.ra_worker_core.specs.Core.{Core, place_of, Turn, answered, turn}
 use Rattle.ra_worker_core.proofs.TurnLemmas.{turn_skipped, turn_answered}
 use Rattle.ra_verify.specs.Checking.{IsBehind, NoneIsPast, is_recorded}
 
--- the last entry of a legal journal may stand behind the others, which are legal
+-- the last entry of a legal journal may come after the others, which are legal
 pub last_legal : (i : Tables) (a0 : List Machine) (l : Lots) (h : List Entry) (e : Entry) → Legal i a0 l (h ++ e ∷ []) →
     IsLegalAt i a0 l h (length h) e
 last_legal i a0 l h e legal =
@@ -99,7 +99,7 @@ none_newer i a0 l h e start legal next =
     (planned_within i a0 l h e.worker (plan_in i a0 h e) start legal (commits i a0 l h e next))).1
     next.untouched
 
--- none passes behind a number
+-- none passes after a number
 count_cut : (q n : ℕ) (test : ℕ → Bool) → q ≤ n → ((j : ℕ) → q ≤ j → j < n → test j ≡ false) →
     count q test ≡ count n test
 count_cut q zero test few none = let same : q ≡ 0 = omega arith in ap (λ (k : ℕ). count k test) same
@@ -110,7 +110,7 @@ count_cut q (suc n) test few none = ⊎_elim
     (λ (all : suc n ≤ q). let same : q ≡ suc n = omega arith in ap (λ (k : ℕ). count k test) same)
     (cases_lt q (suc n))
 
--- its worker has no entry at its place or behind it
+-- its worker has no entry at its place or after it
 none_from : (h : List Entry) (w q n : ℕ) → q ≤ n → ((j : ℕ) → j < n → (entry_at h j).worker ≡ w → j < q) →
     entries_of h q w ≡ entries_of h n w
 unfolding entries_of
@@ -190,7 +190,7 @@ pub is_taken : (i : Tables) (a0 : List Machine) (l : Lots) (h g : List Entry) (w
     g ≡ h ++ next_entry i a0 l h w q ∷ []
 is_taken i a0 l h g w q reply g_is reply_is is = g_is ∙ turn_recorded i a0 l h w q (sym (ap is_recorded reply_is) ∙ is)
 
--- no replica stands past the next plan of its worker afterwards
+-- afterwards no replica is past the next plan of its worker
 pub none_past : (l : Lots) (h g : List Entry) (c d : Core) (w q : ℕ) (e : Entry) → NoneIsPast l h c → g ≡ h ++ e ∷ [] →
     e.worker ≡ w → w < length c.places → q ≤ length h → d.places ≡ set c.places w q → NoneIsPast l g d
 unfolding place_of

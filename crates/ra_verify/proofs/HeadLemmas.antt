@@ -86,7 +86,7 @@ head_long bytes place n head few before is =
     first_over bytes n few before.short
     (over_at bytes is.line n (line_next bytes is.line is.others place n before.given is.lines) is.long)
 
--- the same if the bytes are told
+-- if the bytes are told, `head` is their head so far, as `IsHeadSoFar` says
 abbrev SoFar : Option (List ℕ) → ℕ → ℕ → List ℕ → Type 0
 SoFar told place n head = IfSome told (λ bytes. IsHeadSoFar bytes place n head)
 

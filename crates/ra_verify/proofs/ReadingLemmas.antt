@@ -13,7 +13,7 @@ use Rattle.ra_verify.specs.Reading.{AreLines}
 use Rattle.ra_verify.specs.WrongLines.{most_bytes, if_over_long, over_long, first_over_long}
 use Rattle.ra_verify.proofs.PlaceLemmas.{got_behind}
 
--- what ends with LF does so behind other bytes
+-- what ends with LF does so after other bytes
 ends_cons : (b : ℕ) (z : List ℕ) → ends_line z ≡ true → ends_line (b ∷ z) ≡ true
 unfolding ends_line
 ends_cons b [] e = absurd (cc)

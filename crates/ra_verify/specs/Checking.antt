@@ -12,11 +12,11 @@ use Rattle.ra_worker_core.specs.Core.{Core, place_of}
 use Rattle.ra_worker_core.specs.Replicas.{core_of}
 use Rattle.ra_verify.specs.declared.checker.Checker.{Checker}
 
--- place q is behind all entries of worker w
+-- place q is after all entries of worker w
 pub record IsBehind (h : List Entry) (w q : ℕ) : Type 0 where
   pub seen : (j : ℕ) → j < length h → (entry_at h j).worker ≡ w → j < q
 
--- no replica stands past a place at which its worker may have planned its next proposal
+-- no replica has gone past a place at which its worker may have planned its next proposal
 pub record NoneIsPast (l : Lots) (h : List Entry) (c : Core) : Type 0 where
   pub each : (w q : ℕ) → w < worker_count l → IsBehind h w q → place_of c w ≤ q
 
@@ -43,24 +43,24 @@ pub record HasTaken (before after : Checker) (e : Entry) : Type 0 where
   pub legal : MayFollow before e
   pub ready : IsOpen after
 
--- it has taken in some entry
+-- a checker has taken in some entry
 pub record HasMore (before after : Checker) : Type 0 where
   pub entry : Entry
   pub taken : HasTaken before after entry
 
--- a checker is of the same instance, initial assignment and lots as another
+-- a checker has the same instance, initial assignment and lots as another
 pub record IsSameRun (before after : Checker) : Type 0 where
   pub instance : after.journal.inst.now ≡ before.journal.inst.now
   pub initial : after.journal.a0.now ≡ before.journal.a0.now
   pub lots : after.journal.lots.now ≡ before.journal.lots.now
 
--- it has taken in an entry whose line this is
+-- a checker has taken in an entry whose line this is
 pub record HasTakenLine (before after : Checker) (line : List ℕ) : Type 0 where
   pub entry : Entry
   pub taken : HasTaken before after entry
   pub text : line ≡ entry_line (length (entries_in before)) entry
 
--- a worker exists, and a place is one of the journal that its replica hasn't passed
+-- a worker exists, and its replica hasn't gone past a place of the journal
 pub record MayStand (c : Checker) (w q : ℕ) : Type 0 where
   pub worker : w < worker_count c.journal.lots.now
   pub place : q ≤ length (entries_in c)

@@ -1,4 +1,4 @@
--- What is judged of a report when all its entry lines are right.
+-- How a report is judged after all its entry lines were found right.
 use Rattle.std.specs.Prelude.{◌≡◌, ℕ, ◌+◌, ◌⊎◌, List, length}
 use Rattle.ra_report_lines.specs.Lines.{FirstUnlike}
 use Rattle.ra_journal.specs.declared.journal.Journal.{Journal}
@@ -11,7 +11,7 @@ pub record IsAccepted (journal : Journal) (head : List ℕ) (n : ℕ) : Type 0 w
   pub text : head ≡ head_of journal
   pub number : n ≡ length journal.book.entries.items
 
--- a journal isn't whole, and n is the number behind those of the head's lines and its entries
+-- a journal isn't whole, and n is the number of the line after the head's lines and its entries
 pub record IsUnfinished (journal : Journal) (lines n : ℕ) : Type 0 where
   pub not_whole : Whole journal.lots.now journal.book.entries.items → ⊥
   pub number : n ≡ lines + length journal.book.entries.items + 1
@@ -23,6 +23,6 @@ pub record HasUnlike (journal : Journal) (head : List ℕ) (n : ℕ) : Type 0 wh
   pub unlike : FirstUnlike head (head_of journal) place
   pub number : n ≡ place + 1
 
--- line n is told to be wrong
+-- line n is told as the wrong one
 abbrev pub IsMisjudged : Journal → List ℕ → ℕ → ℕ → Type 0
 IsMisjudged journal head lines n = IsUnfinished journal lines n ⊎ HasUnlike journal head n

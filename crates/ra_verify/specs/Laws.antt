@@ -14,7 +14,7 @@ OneWrongLine =
     (i : Tables) (a0 : List Machine) (l : Lots) (bytes : List ℕ) (one other : Option ℕ)
     → IsWrongLine i a0 l bytes one → IsWrongLine i a0 l bytes other → one ≡ other
 
--- and in such a report no line is wrong
+-- in such a report no line is wrong
 abbrev pub ReportHasNoneWrong : Type 0
 ReportHasNoneWrong =
     (i : Tables) (a0 : List Machine) (l : Lots) (bytes : List ℕ) (n : ℕ) → WellFormed i → Small i

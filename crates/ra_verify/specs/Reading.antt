@@ -14,13 +14,13 @@ pub record AreLines (bytes : List ℕ) (place n : ℕ) : Type 0 where
   pub lines : lines_of bytes ≡ lines_of (take place bytes) ++ lines_of (drop place bytes)
   pub number : length (lines_of (take place bytes)) ≡ n
 
--- they are the first ten, or all if there are fewer
+-- the bytes up to a place are the first ten lines, or all if there are fewer
 pub record AreFirst (bytes : List ℕ) (place n : ℕ) : Type 0 where
   pub given : AreLines bytes place n
   pub few : n ≤ 10
   pub all : n < 10 → drop place bytes ≡ []
 
--- these are their bytes, and none of the first ten lines is over long
+-- these are the bytes of the first lines, and none of the first ten lines is over long
 pub record IsHead (bytes : List ℕ) (place n : ℕ) (head : List ℕ) : Type 0 where
   pub first : AreFirst bytes place n
   pub text : head ≡ take place bytes
@@ -32,7 +32,7 @@ pub record AreRead (i : Tables) (a0 : List Machine) (l : Lots) (bytes : List ℕ
   pub given : AreLines bytes place (10 + length h)
   pub right : AreRight i a0 l bytes h
 
--- behind the lines of a journal's entries, line n is there and is the line of no entry that may follow
+-- after the lines of a journal's entries, line n is there and is the line of no entry that may follow
 pub record IsWrongNext (i : Tables) (a0 : List Machine) (l : Lots) (bytes : List ℕ) (h : List Entry)
     (n : ℕ) : Type 0 where
   pub right : AreRight i a0 l bytes h

@@ -20,7 +20,7 @@ use Rattle.ra_verify.specs.Reading.{AreRead, IsHead, IsWrongNext}
 use Rattle.ra_verify.specs.WrongLines.{AreAllRight, IsWrongLine, IsReport, first_over_long}
 
 -- the report of a run of these lots was checked: it is accepted if no line is wrong, and then it is the report of a
--- legal whole journal with so many entries; and else its wrong line is told
+-- legal whole journal with this number of entries; else its wrong line is told
 pub record TellsVerdict (i : Tables) (a0 : List Machine) (l : Lots) (files : Reading)
     (name : List ℕ) (told : Result ℕ VerifyFault) : Type 0 where
   pub none_wrong :
@@ -32,12 +32,12 @@ pub record TellsVerdict (i : Tables) (a0 : List Machine) (l : Lots) (files : Rea
   pub fault : told ≡ Err why.ReadFault → ReadFailed files name
   pub leaves : LeavesFiles files
 
--- so it is with the run of a checker
+-- this holds of the run of a checker
 abbrev pub TellsOf : Checker → Reading → List ℕ → Result ℕ VerifyFault → Type 0
 TellsOf c files name told =
     TellsVerdict c.journal.inst.now.tables c.journal.a0.now.items c.journal.lots.now files name told
 
--- a checker has taken no entry in, and a world stands at the start of its run, which has this bound
+-- a checker has taken in no entry, and a world is at the start of its run, which has this bound
 pub record AreAtStart (checker : Checker) (world : Situation) (bound : Bound) : Type 0 where
   pub ready : IsOpen checker
   pub none : entries_in checker ≡ []
@@ -47,8 +47,8 @@ pub record AreAtStart (checker : Checker) (world : Situation) (bound : Bound) : 
   pub bounded :
       bound ≡ pinned_bound_of checker.journal.inst.now.tables checker.journal.a0.now.items
 
--- the first ten lines of a report were read, or all if it has fewer, and their number is told; or the first that is
--- over long
+-- the first ten lines of a report were read, or all if it has fewer, and their number is told; or the first one that is
+-- over long is told
 pub record ReadsHead (files : Reading) (old new : Standing) (head : List ℕ)
     (told : Result ℕ VerifyFault) : Type 0 where
   pub reads : Reads (files.held_after new.name) new
@@ -63,8 +63,8 @@ pub record ReadsHead (files : Reading) (old new : Standing) (head : List ℕ)
   pub called : new.name ≡ old.name
   pub leaves : LeavesFiles files
 
--- the lines behind these were read: they are the entry lines of a legal journal, whose entries a checker has taken in;
--- or the first is told that is the line of no entry that may follow
+-- the lines after these were read: they are the entry lines of a legal journal, whose entries a checker has taken in;
+-- or the first line is told that is the line of no entry that may follow
 pub record ReadsEntries (files : Reading) (name : List ℕ) (lines : ℕ) (before after : Checker)
     (told : Result (Unit {0}) VerifyFault) : Type 0 where
   pub right :
@@ -89,7 +89,7 @@ AreReadBy before bytes place after =
     AreRead before.journal.inst.now.tables before.journal.a0.now.items before.journal.lots.now bytes
     place (entries_in after)
 
--- the next entry line was read, if there is one, and its entry was taken in; or it is the line of no entry that may
+-- the next entry line was read, if there is one, and its entry was taken in; or the line is that of no entry that may
 -- follow
 pub record ReadsEntry (files : Reading) (old new : Standing) (before after : Checker)
     (told : Result Bool VerifyFault) : Type 0 where

@@ -1,6 +1,6 @@
--- Which line of a report is told to be wrong. Four rules are tried in turn, and the first that a report breaks names
--- the line; so it needn't be the lowest that differs. Lines count from 1; lines 1 to 10 are the head of a report, and
--- those from the eleventh on are its entry lines. (`line_at` counts from 0.)
+-- Which line of a report is told to be wrong. Four rules are tried in turn, and the first rule that a report breaks
+-- names the line; so this needn't be the first line that differs. Lines count from 1; lines 1 to 10 are the head of a
+-- report, and those from the eleventh on are its entry lines. (`line_at` counts from 0.)
 use Rattle.std.specs.Prelude.{◌≡◌, ◌≢◌, ◌⊎◌, ℕ, ◌+◌, ◌<◌, ◌≤◌, ◌==◌, nat_lt, if◌then◌else◌, List, [], ◌∷◌, ◌++◌, length}
 use Rattle.std.specs.Prelude.{Option, Some, None}
 use Rattle.ra_base.specs.Searches.{first}
@@ -13,7 +13,7 @@ use Rattle.ra_journal.specs.Entries.{entry_at}
 use Rattle.ra_journal.specs.Legal.{Legal, Whole}
 use Rattle.ra_report.specs.JournalTexts.{entry_line, report_text}
 
--- how many bytes of line n + 1 may stand before its LF or its end: many of the line that tells an assignment
+-- how many bytes may come before the LF or the end of line n + 1: many for the line that tells an assignment
 unfoldable pub most_bytes : ℕ → ℕ
 most_bytes n = if n == 8 then 600000 else 64
 
@@ -36,13 +36,13 @@ pub record AreRight (i : Tables) (a0 : List Machine) (l : Lots) (bytes : List �
   pub legal : Legal i a0 l h
   pub lines : (j : ℕ) → j < length h → line_at (10 + j) bytes ≡ Some (entry_line j (entry_at h j))
 
--- they are all entry lines
+-- the first entry lines are right, and there are no others
 pub record AreAllRight (i : Tables) (a0 : List Machine) (l : Lots) (bytes : List ℕ) (h : List Entry)
     : Type 0 where
   pub right : AreRight i a0 l bytes h
   pub all : length (lines_of bytes) ≤ 10 + length h
 
--- behind right entry lines, line n is there and isn't right: it is the line of no entry that may follow their entries
+-- after right entry lines, line n is there and isn't right: it is the line of no entry that may follow their entries
 pub record IsWrongEntry (i : Tables) (a0 : List Machine) (l : Lots) (bytes : List ℕ) (n : ℕ) : Type
     0 where
   pub short : first_over_long bytes ≡ None
@@ -53,7 +53,7 @@ pub record IsWrongEntry (i : Tables) (a0 : List Machine) (l : Lots) (bytes : Lis
       → line_at (10 + length journal) bytes ≢ Some (entry_line (length journal) e)
   pub number : n ≡ 11 + length journal
 
--- all entry lines are right, and their journal isn't whole: an entry is missing behind the last line
+-- all entry lines are right, and their journal isn't whole: an entry is missing after the last line
 pub record IsCutOff (i : Tables) (a0 : List Machine) (l : Lots) (bytes : List ℕ) (n : ℕ) : Type 0
   where
     pub short : first_over_long bytes ≡ None
@@ -84,8 +84,9 @@ pub record NoneIsWrong (i : Tables) (a0 : List Machine) (l : Lots) (bytes : List
   pub whole : Whole l journal
   pub head : (n : ℕ) → n < 10 → line_at n bytes ≡ line_at n (report_text i a0 l journal)
 
--- the wrong line of a report's bytes, by the first of these that applies: an over long line among lines 1 to 10, an
--- entry line that isn't right, the line behind the last if the journal isn't whole, a line of the head; and None else
+-- the wrong line of a report's bytes, by the first of these rules that applies: an over long line among lines 1 to 10,
+-- an entry line that isn't right, the line after the last if the journal isn't whole, a line of the head; None
+-- otherwise
 abbrev pub IsWrongLine : Tables → List Machine → Lots → List ℕ → Option ℕ → Type 0
 IsWrongLine i a0 l bytes (Some n) =
     (first_over_long bytes ≡ Some n)

@@ -3,8 +3,8 @@ ghost use Rattle.ra_worker_core.specs.Replicas.{AreAt};
 use ra_journal::Journal;
 use ra_worker::Replica;
 
-/// The entries of a report so far, as a journal, and a replica for each worker, which goes forward to each place at which
-/// a plan of the worker was made. Its memory is taken when it is made.
+/// The entries of a report so far, as a journal, and a replica for each worker, which advances to each place at which a
+/// plan of the worker was made. It takes its memory when it is made.
 pub(crate) struct Checker<'a> {
     pub(crate) journal: Journal<'a>,
     pub(crate) replicas: Vec<Replica<'a>>,
@@ -12,7 +12,7 @@ pub(crate) struct Checker<'a> {
         journal.book.entries.items replicas.items },
 }
 
-/// Lets all parts go in one call, so that the end of an owner is short to prove.
+/// Frees all parts in one call, so that the end of an owner is short to prove.
 impl Drop for Checker<'_> {
     fn drop(self) {
         let Checker {

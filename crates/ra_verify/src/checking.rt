@@ -16,8 +16,8 @@ use ra_report::LONGEST_LINE;
 use ra_report_lines::LineReader;
 use ra_world::World;
 
-/// Reads a report and judges it, in the memory that was taken for it: its first lines and each further one are kept in
-/// `head` and in `line`.
+/// Reads a report and judges it, in the memory that was taken for it: `head` keeps its first lines, and `line` each
+/// further one.
 pub(crate) fn check<'a, F: Files>(
     files: &mut F,
     reader: &mut LineReader,
@@ -50,7 +50,7 @@ pub(crate) fn check<'a, F: Files>(
     }
 }
 
-/// The same if the first lines of the report were read.
+/// Judges a report whose first lines were read already.
 fn check_rest<'a, F: Files>(
     files: &mut F,
     reader: &mut LineReader,

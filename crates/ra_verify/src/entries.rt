@@ -16,7 +16,7 @@ use ra_io::Files;
 use ra_report::{LONGEST_FRONT, LONGEST_LINE};
 use ra_report_lines::{LineReader, Next};
 
-/// Reads what follows the first lines of a report, if those are ten, and takes the entries of its lines in.
+/// Reads what follows the first lines of a report, if there are ten of them, and takes in the entries of these lines.
 pub(crate) fn read_rest<F: Files>(
     files: &mut F,
     reader: &mut LineReader,
@@ -42,7 +42,7 @@ pub(crate) fn read_rest<F: Files>(
     }
 }
 
-/// Reads the entry lines of a report, behind its first ten lines, and takes their entries in.
+/// Reads the entry lines of a report, after its first ten lines, and takes in their entries.
 fn read_entries<F: Files>(
     files: &mut F,
     reader: &mut LineReader,
@@ -111,7 +111,7 @@ fn take_entry(line: &[u8], checker: &mut Checker<'_>) -> Result<bool, VerifyFaul
     }
 }
 
-/// The line behind those of the entries so far is wrong.
+/// The refusal of the line after those of the entries so far.
 fn wrong_entry(checker: &Checker<'_>) -> VerifyFault
     ensures { result ≡ fault.Wrong (11 + length (entries_in checker.now)) }
 {

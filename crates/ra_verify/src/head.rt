@@ -12,7 +12,7 @@ use ra_report_lines::{LineReader, Next};
 /// The most bytes of ten lines of which none is over long, with their LF: nine of 64, and one of 600,000.
 pub(crate) const HEAD_BYTES: usize = 600_586;
 
-/// Reads the first ten lines of a report, or all if it has fewer, and tells their number.
+/// Reads the first ten lines of a report, or all if it has fewer, and gives their number.
 pub(crate) fn read_head<F: Files>(
     files: &mut F,
     reader: &mut LineReader,
@@ -37,7 +37,7 @@ pub(crate) fn read_head<F: Files>(
     Ok(10)
 }
 
-/// How many bytes of a line of the head, counted from 0, may stand before its LF or its end.
+/// How many bytes may come before the LF or the end of a line of the head, counted from 0.
 #[tactic(auto, unfolding(crate::specs::WrongLines::most_bytes))]
 fn most_bytes(n: u64) -> usize
     ensures value { result ≡ most_bytes n }

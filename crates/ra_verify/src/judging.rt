@@ -18,7 +18,7 @@ use std::marker::Brand;
 use std::sync::ledger::{Blank, Ledger};
 
 /// Judges a report whose entry lines are all right: whether their journal is whole, and whether the first lines are the
-/// head of its report. `head` is the bytes of so many first lines, ten or all, and the world stands at the initial
+/// head of its report. `head` is the bytes of this number of first lines, ten or all. The world is at the initial
 /// assignment, whose bound is given.
 pub(crate) fn judge<'a>(
     head: &[u8],

@@ -1,6 +1,6 @@
-//! The check of a report that need not be believed: whether it is the report of a legal whole journal, or which of its
-//! lines is wrong. Given the entries so far, the worker and the place of an entry tell the one entry that may
-//! follow, so each line is compared with the one that could stand there.
+//! The check of a report that nobody needs to trust: whether it is the report of a legal whole journal, or which of its
+//! lines is wrong. Given the entries so far, the worker and the place of an entry determine the one entry that may
+//! follow, so each line is compared with the only one that could be there.
 #![tactic(auto)]
 
 mod checker;

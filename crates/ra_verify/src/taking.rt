@@ -16,7 +16,7 @@ use ra_worker_core::{CoreReply, make_replicas, take_turn_at};
 use std::alloc::Global;
 
 impl<'a> Checker<'a> {
-    /// No entry was read yet.
+    /// A checker that has read no entry yet.
     pub(crate) fn make(
         alloc: Global,
         inst: &'a Instance,
@@ -57,7 +57,8 @@ impl<'a> Checker<'a> {
         }
     }
 
-    /// The same if the worker of the line and the place of its plan are read.
+    /// Takes in the entry that this line of a report tells, if it may follow, after the line's worker and the place of
+    /// its plan were read, and says whether it may.
     fn take_fronted(&mut self, line: &[u8], front: &Front) -> bool
         requires ready { IsOpen self.old }
         ensures right { result ≡ true → HasTakenLine self.old self.new line.now }
@@ -94,7 +95,7 @@ impl<'a> Checker<'a> {
         is_recorded(&reply)
     }
 
-    /// Whether a worker exists and a place is one of the journal that its replica hasn't passed.
+    /// Whether a worker exists and its replica hasn't gone past a place of the journal.
     fn may_stand(&self, worker: u32, q: u64) -> bool
         ensures { (result ≡ true) ↔ MayStand self.now worker q }
     {

@@ -137,7 +137,7 @@ some_left i b s label left n count some = record {
   each = λ empty u below needs. absurd (omega (arith, empty, near_is i b s label left count));
 }
 
--- none before one that stands behind those so far
+-- none comes before one that is after those so far
 pub none_before : (i : Tables) (b : List Machine) (s label m k : ℕ) (list : List Service) → AreDependantsOf i s list →
     m ≤ service_count i → k < length list → m ≤ service_at list k → NoneNear i b label list k →
     LeavesBelow i b s label m

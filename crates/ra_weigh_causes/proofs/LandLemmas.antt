@@ -13,7 +13,7 @@ use Rattle.ra_moves.specs.Moving.{IsMove}
 use Rattle.ra_moves.proofs.StayLemmas.{applied_of, process_stays}
 use Rattle.ra_weigh_causes.proofs.StepLemmas.{process_read, to_read}
 
--- where its step leads
+-- the machine to which its step leads
 pub lands_read : (i : Tables) (a : List Machine) (steps : List Step) (j p : ℕ) (s : Step) → IsMove i a steps →
     s ≡ step_at steps j → j < length steps → s.process.0 ≡ p → s.to.0 ≡ machine_at (applied a steps) p
 lands_read i a steps j p s move is within same =

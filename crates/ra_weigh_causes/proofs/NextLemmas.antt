@@ -52,7 +52,7 @@ ascends i s j k list are before within = ⊎_elim
     (λ (same : k ≤ j). let here : j ≡ k = omega arith in omega (arith, ap (service_at list) here))
     (cases_lt j k)
 
--- each dependant stands at a place
+-- each dependant is at a place
 pub dependant_place : (i : Tables) (s u : ℕ) (list : List Service) → AreDependantsOf i s list → u < service_count i →
     is_dependant i s u ≡ true → (k : ℕ) × (k < length list) × (service_at list k ≡ u)
 dependant_place i s u list are within needs =

@@ -12,17 +12,17 @@ use Rattle.ra_moves.specs.Values.{gone, come}
 pub record AreSteps (steps all : List Step) : Type 0 where
   pub each : (j : ℕ) → j < length steps → step_at all j ≡ step_at steps j
 
--- nothing of each
+-- zero of each resource
 pub record AreNone (amounts : List ℕ) : Type 0 where
   pub each : (r : ℕ) → r < length amounts → slice_index amounts r ≡ 0
 
--- each amount is more by another one, if that comes as well
+-- each amount is increased by another one, if that one comes as well
 pub record HasAlso (also : Bool) (more old new : List ℕ) : Type 0 where
   pub one_each : length new ≡ length old
   pub each : (r : ℕ) → r < length old
       → slice_index new r ≡ slice_index old r + (if also then slice_index more r else 0)
 
--- what comes and what goes of each resource is as much apart as what the first n steps add to shares of it and take
+-- for each resource, what comes minus what goes is what the first n steps add to shares of it minus what they take
 pub record HasFlow (i : Tables) (share : ℕ → ℕ → ℕ → ℕ) (steps : List Step) (n : ℕ)
     (coming going : List ℕ) : Type 0 where
   pub come_width : length coming ≡ resource_count i
@@ -31,6 +31,6 @@ pub record HasFlow (i : Tables) (share : ℕ → ℕ → ℕ → ℕ) (steps : L
       → slice_index coming r + total n (gone (share r) steps)
       ≡ slice_index going r + total n (come (share r) steps)
 
--- no one of the first n steps but step j moves a process of service s
+-- of the first n steps only step j moves a process of service s
 pub record MoveAlone (i : Tables) (steps : List Step) (j s n : ℕ) : Type 0 where
   pub others : (k : ℕ) → k < n → k ≢ j → service_in i steps k ≢ s

@@ -10,12 +10,12 @@ pub record FitsAt (i : Tables) (a0 b : List Machine) (m r : ℕ) : Type 0 where
   pub capacity : capacity_test i b m r ≡ None
   pub transient : transient_test i a0 b m r ≡ None
 
--- nor of any of the first n resources
+-- neither use is above capacity for any of the first n resources of machine m
 pub record FitsBelow (i : Tables) (a0 b : List Machine) (m n : ℕ) : Type 0 where
   pub capacity : first n (capacity_test i b m) ≡ None
   pub transient : first n (transient_test i a0 b m) ≡ None
 
--- nor of any resource of any machine
+-- neither use is above capacity for any resource of any machine
 pub record FitsAll (i : Tables) (a0 b : List Machine) : Type 0 where
   pub capacity : broken_capacity i b ≡ None
   pub transient : broken_transient i a0 b ≡ None

@@ -1,5 +1,5 @@
--- The marks of a machine: its number, and the labels of its location and of its neighbourhood. What is counted of a
--- service is how many of its processes are on machines with a mark.
+-- The marks of a machine: its number, and the labels of its location and of its neighbourhood. A count of a service
+-- says how many of its processes are on machines with a mark.
 use Rattle.std.specs.Prelude.{ℕ, Bool, ◌==◌, nat_lt, List}
 use Rattle.ra_base.specs.Sums.{one_if}
 use Rattle.ra_base.specs.declared.ids.Machine.{Machine}

@@ -44,18 +44,18 @@ pub record KeepNear (i : Tables) (b : List Machine) (steps : List Step) (n : ℕ
 pub record FindsOne (i : Tables) (b : List Machine) (s u t label : ℕ) : Type 0 where
   pub each : t ≡ s → 0 < in_neighbourhood i b u label
 
--- a process of service t that leaves a neighbourhood leaves another one of t or none of s there, if t is u
+-- a process of service t that leaves a neighbourhood leaves another one of t there or none of s, if t is u
 pub record LeavesOne (i : Tables) (b : List Machine) (s u t label : ℕ) : Type 0 where
   pub each : t ≡ u → in_neighbourhood i b u label ≡ 0 → in_neighbourhood i b s label ≡ 0
 
 -- after the first n of a move's steps service s stays near service u: a process of s finds one of u where it goes, and
--- the last of u leaves none of s behind
+-- the last of u leaves none of s in its neighbourhood
 pub record StaysNear (i : Tables) (b : List Machine) (steps : List Step) (s u n : ℕ) : Type 0 where
   pub finds : (j : ℕ) → j < n
       → FindsOne i b s u (service_in i steps j) (neighbourhood_of i (to_in steps j))
   pub leaves : (j : ℕ) → j < n
       → LeavesOne i b s u (service_in i steps j) (neighbourhood_of i (from_in steps j))
 
--- member x of some, which are of service s, is far from what dependency k needs
+-- member x of a list of processes of service s is far from what dependency k needs
 unfoldable pub far_member : Tables → List Machine → ℕ → ℕ → List Process → ℕ → Option Cause
 far_member i b s k members x = far_test i b s k (member_at members x)

@@ -1,4 +1,5 @@
--- What a trial is of: an instance, an initial assignment, an assignment, the steps of a move, and what they make of it.
+-- What a trial consists of: an instance, an initial assignment, an assignment, the steps of a move, and the assignment
+-- after them.
 use Rattle.std.specs.Prelude.{List}
 use Rattle.ra_base.specs.declared.ids.Machine.{Machine}
 use Rattle.ra_model.specs.declared.raw.Tables.{Tables}
@@ -15,10 +16,10 @@ initial_of t = t.start.now.items
 abbrev pub steps_of : Trial → List Step
 steps_of t = t.mv.now.steps
 
--- before the move
+-- the assignment before the move
 abbrev pub before_of : Trial → List Machine
 before_of t = t.at.now.items
 
--- after it
+-- the assignment after the move
 abbrev pub after_of : Trial → List Machine
 after_of t = applied t.at.now.items t.mv.now.steps

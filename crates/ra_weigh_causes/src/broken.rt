@@ -11,9 +11,9 @@ use ra_base::Cause;
 use ra_moves::Move;
 use ra_world::World;
 
-/// The first constraint that is broken after a move, from what its processes require. The time is that of
-/// `is_unbroken`. If the first constraint that is broken is a dependency, the time grows besides with the number of
-/// dependencies and processes of one service.
+/// The first constraint that is broken after a move, from what its processes require. It takes the time of
+/// `is_unbroken`. If the first broken constraint is a dependency, the time also grows with the number of dependencies
+/// and processes of one service.
 pub fn first_broken(world: &World<'_>, mv: &Move, required: &[u32; 60]) -> Option<Cause>
     requires moves { MayMove world.now mv.now.steps }
     requires required { AreRequired world.now.tables mv.now.steps
@@ -23,10 +23,10 @@ pub fn first_broken(world: &World<'_>, mv: &Move, required: &[u32; 60]) -> Optio
     Trial::of(world, mv, required).first_broken()
 }
 
-/// Whether no constraint is broken after a move, from what its processes require: the same test in the cheapest order,
-/// which names no cause. The time grows with the number of resources, and with that of the services that a service moved
-/// needs or that need it, each counted once however often a dependency is listed; not with the size of a service but for
-/// the halvings that find a count.
+/// Whether no constraint is broken after a move, from what its processes require. It tests in the cheapest order, and
+/// names no cause. The time grows with the number of resources, and with the number of services that a moved service
+/// needs or that need it, each counted once however often a dependency is listed. It doesn't grow with the size of a
+/// service, except for the binary searches for a count.
 pub fn is_unbroken(world: &World<'_>, mv: &Move, required: &[u32; 60]) -> bool
     requires moves { MayMove world.now mv.now.steps }
     requires required { AreRequired world.now.tables mv.now.steps
@@ -37,8 +37,8 @@ pub fn is_unbroken(world: &World<'_>, mv: &Move, required: &[u32; 60]) -> bool
 }
 
 impl<'a, 'b> Trial<'a, 'b> {
-    /// The first constraint that is broken after the move. Most moves break a capacity, so the rows are gone over in the
-    /// order of their causes at once. The place of a conflict is looked for only if there is one.
+    /// The first constraint that is broken after the move. Most moves break a capacity, so the rows are tested first,
+    /// in the order of their causes. The place of a conflict is searched for only if there is one.
     fn first_broken(&self) -> Option<Cause>
         ensures { result ≡
             first_broken (tables_of self.now) (initial_of self.now) (after_of self.now) }

@@ -185,7 +185,7 @@ impl<'a, 'b> Trial<'a, 'b> {
         }
     }
 
-    /// Whether the use of each resource of a machine is within its capacity, after the move and in between.
+    /// Whether the use of each resource of a machine is within its capacity, after the move and in transition.
     pub(crate) fn row_fits(&self, m: Machine) -> bool
         requires { m.0 < machine_count (tables_of self.now) }
         ensures { (result ≡ true) ↔
@@ -202,8 +202,8 @@ impl<'a, 'b> Trial<'a, 'b> {
         true
     }
 
-    /// Whether the use of a resource of a machine is within its capacity, after the move and in between. A transient
-    /// resource is used no more than in between.
+    /// Whether the use of a resource of a machine is within its capacity, after the move and in transition. A transient
+    /// resource is used at least as much in transition.
     #[inline(always)]
     fn fits_at(&self, m: Machine, r: Resource, used: u64, between: u64) -> bool
         requires machine { m.0 < machine_count (tables_of self.now) }

@@ -33,7 +33,7 @@ impl<'a, 'b> Trial<'a, 'b> {
         self.closed_there(p, self.machine_after(p))
     }
 
-    /// A process on a closed machine that isn't its initial one after the move, if it is known on which machine it then is.
+    /// A process on a closed machine that isn't its initial one after the move, given its machine after the move.
     #[inline(always)]
     #[tactic(auto, using(crate::proofs::TestLemmas::closes))]
     pub(crate) fn closed_there(&self, p: Process, machine: Machine) -> Option<Cause>

@@ -9,9 +9,10 @@ use crate::trial::Trial;
 use ra_base::{Cause, Machine, Process, Service};
 
 impl<'a, 'b> Trial<'a, 'b> {
-    /// The first process in whose neighbourhood a service that its service needs has none after the move, by service,
-    /// its dependency in file order, then process. The time grows with the number of services that a service moved
-    /// needs or that need it, and if a dependency is broken with the dependencies and processes of one service.
+    /// The first process that has no process of a service that its service needs in its neighbourhood after the move,
+    /// by service, its dependency in file order, then process. The time grows with the number of services that a moved
+    /// service needs or that need it, and if a dependency is broken also with the dependencies and processes of one
+    /// service.
     pub(crate) fn broken_dependency(&self) -> Option<Cause>
         ensures { result ≡ broken_dependency (tables_of self.now) (after_of self.now) }
     {
@@ -23,7 +24,7 @@ impl<'a, 'b> Trial<'a, 'b> {
         }
     }
 
-    /// The first such dependency of a service.
+    /// The first such process of a service.
     fn service_dependency(&self, s: Service) -> Option<Cause>
         requires { s.0 < service_count (tables_of self.now) }
         ensures { result ≡ service_dependency (tables_of self.now) (after_of self.now) s.0 }
@@ -38,7 +39,7 @@ impl<'a, 'b> Trial<'a, 'b> {
     }
 
     /// The first process of a service with none of a service that it needs in its neighbourhood after the move. The
-    /// processes are gone through only if there is one.
+    /// processes are searched only if there is one.
     fn pair_dependency(&self, s: Service, k: usize, need: Service) -> Option<Cause>
         requires service { s.0 < service_count (tables_of self.now) }
         requires dependency { k < dependency_count (tables_of self.now) s.0 }
@@ -97,7 +98,8 @@ impl<'a, 'b> Trial<'a, 'b> {
         true
     }
 
-    /// Whether a process that enters a machine finds one of the service needed there, if it is of the service that needs.
+    /// Whether a process that enters a machine finds one of the needed service there, if it is of the service that
+    /// needs it.
     #[inline(always)]
     fn finds_one(&self, s: Service, need: Service, own: Service, to: Machine) -> bool
         requires need { need.0 < service_count (tables_of self.now) }
@@ -116,8 +118,8 @@ impl<'a, 'b> Trial<'a, 'b> {
         true
     }
 
-    /// Whether a process that leaves a machine leaves another one of its service or none that needs it there, if it is of
-    /// the service needed.
+    /// Whether a process that leaves a machine leaves another one of its service there, or none that needs it, if it is
+    /// of the needed service.
     #[inline(always)]
     fn leaves_one(&self, s: Service, need: Service, own: Service, from: Machine) -> bool
         requires service { s.0 < service_count (tables_of self.now) }

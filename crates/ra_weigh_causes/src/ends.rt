@@ -8,7 +8,7 @@ ghost use Rattle.ra_weigh_causes.specs.Trials.{tables_of, steps_of};
 
 use crate::trial::Trial;
 
-/// A place if it is at or behind the lowest and before the next one so far, else that one.
+/// A place, if it is not before the lowest and is before the next one so far, else the next one so far.
 #[inline(always)]
 fn nearer(low: u32, next: u32, place: u32) -> u32
     requires { low ≤ next }

@@ -29,8 +29,8 @@ impl<'a, 'b> Trial<'a, 'b> {
         next
     }
 
-    /// A service if it doesn't find all that it needs in the neighbourhood of a machine that its process enters, and is
-    /// before the first one so far; else that one.
+    /// A service, if it doesn't find all that it needs in the neighbourhood of a machine that its process enters, and
+    /// if it is before the first one so far; else the first one so far.
     fn far_mover(&self, s: Service, to: Machine, next: u32) -> u32
         requires service { s.0 < service_count (tables_of self.now) }
         requires to { to.0 < machine_count (tables_of self.now) }
@@ -51,7 +51,7 @@ impl<'a, 'b> Trial<'a, 'b> {
     }
 
     /// The first service that needs this one and has a process in the neighbourhood of a machine, if this one has none
-    /// there and that one is before the first one so far; else that one so far.
+    /// there and if that one is before the first one so far; else the first one so far.
     #[tactic(auto, using(crate::proofs::StepLemmas::known))]
     fn far_dependant(&self, s: Service, from: Machine, next: u32) -> u32
         requires service { s.0 < service_count (tables_of self.now) }

@@ -8,7 +8,7 @@ ghost use Rattle.ra_weigh_causes.specs.Trials.{tables_of, initial_of, steps_of};
 use crate::trial::Trial;
 use ra_base::Machine;
 
-/// What comes to a machine, or what goes from it: an amount for each resource, of one process at most.
+/// What comes to a machine or what goes from it: an amount for each resource, for at most one process.
 #[derive(Clone, Copy)]
 struct Side<'t> {
     amounts: &'t [u32],
@@ -17,7 +17,7 @@ struct Side<'t> {
 }
 
 impl<'t> Side<'t> {
-    /// These amounts, or in their place those of one process more, if that comes as well. `None` if there are some already.
+    /// These amounts, or instead those of one more process, if it comes as well. `None` if there are some already.
     #[inline(always)]
     fn with(self, also: bool, more: &'t [u32]) -> Option<Side<'t>>
         requires { length more.now ≡ length self.amounts.now }
@@ -57,7 +57,7 @@ fn is_guest(home: Machine, at: Machine, m: Machine) -> bool
 }
 
 impl<'a, 'b> Trial<'a, 'b> {
-    /// What comes to a machine by the steps and what goes from it, if that is one process each at most.
+    /// What comes to a machine by the steps and what goes from it, if that is at most one process each.
     #[inline(always)]
     pub(crate) fn flow<'t>(&'t self, m: Machine) -> Option<Flow<'t>>
         requires { m.0 < machine_count (tables_of self.now) }
@@ -87,8 +87,8 @@ impl<'a, 'b> Trial<'a, 'b> {
         })
     }
 
-    /// What comes to the transient use of a machine and what goes from it, if that is one process each at most: a process
-    /// neither comes to its initial machine nor goes from it.
+    /// What comes to the transient use of a machine and what goes from it, if that is at most one process each: a
+    /// process neither comes to its initial machine nor goes from it.
     #[inline(always)]
     pub(crate) fn flow_between<'t>(&'t self, m: Machine) -> Option<Flow<'t>>
         requires { m.0 < machine_count (tables_of self.now) }
@@ -121,7 +121,7 @@ impl<'a, 'b> Trial<'a, 'b> {
         })
     }
 
-    /// Nothing of each resource.
+    /// Zero of each resource.
     #[inline(always)]
     fn no_side<'t>(&'t self) -> Side<'t>
         ensures none { AreNone result.amounts.now }

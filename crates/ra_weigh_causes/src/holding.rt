@@ -30,7 +30,7 @@ impl<'a, 'b> Trial<'a, 'b> {
         self.keeps_closed()
     }
 
-    /// Whether each machine that is entered has the capacity, after the move and in between.
+    /// Whether each machine that the move enters has the capacity, after the move and in transition.
     #[tactic(auto, using(crate::proofs::StepLemmas::known))]
     pub(crate) fn keeps_rows(&self) -> bool
         ensures { (result ≡ true) ↔
@@ -71,7 +71,7 @@ impl<'a, 'b> Trial<'a, 'b> {
         true
     }
 
-    /// Whether each process is near what its service needs.
+    /// Whether each process is near all that its service needs.
     pub(crate) fn keeps_near(&self) -> bool
         ensures { (result ≡ true) ↔
             (broken_dependency (tables_of self.now) (after_of self.now) ≡ None) }

@@ -1,4 +1,4 @@
-/// Which of its marks a machine is asked for.
+/// Which of its marks is read of a machine.
 #[derive(Clone, Copy)]
 pub(crate) enum Mark {
     /// Its number.

@@ -57,7 +57,7 @@ impl<'a, 'b> Trial<'a, 'b> {
         }
     }
 
-    /// The first service in fewer locations than it wants after the move.
+    /// The first service in fewer locations than its spread asks for after the move.
     pub(crate) fn broken_spread(&self) -> Option<Cause>
         ensures { result ≡ broken_spread (tables_of self.now) (after_of self.now) }
     {
@@ -71,7 +71,8 @@ impl<'a, 'b> Trial<'a, 'b> {
         None
     }
 
-    /// A service in fewer locations than it wants after the move, which leaves no more of them than it has steps.
+    /// A service in fewer locations than its spread asks for after the move. It loses at most as many locations as it
+    /// has steps.
     #[tactic(auto, using(crate::proofs::TestLemmas::spreads))]
     pub(crate) fn spread_test(&self, s: Service) -> Option<Cause>
         requires { s.0 < service_count (tables_of self.now) }
@@ -94,7 +95,7 @@ impl<'a, 'b> Trial<'a, 'b> {
         }
     }
 
-    /// The spread test of the service of a step, which mostly is plain from where its process goes.
+    /// The spread test of the service of a step, which in most cases follows from where its process goes.
     #[inline(always)]
     pub(crate) fn spread_after_step(&self, j: u32) -> Option<Cause>
         requires { j < length (steps_of self.now) }
@@ -109,8 +110,8 @@ impl<'a, 'b> Trial<'a, 'b> {
         self.spread_test(s)
     }
 
-    /// Whether it is plain that a service of which one process moves is in as many locations after the move: others of it
-    /// stay where that leaves, or none are where it comes.
+    /// Whether it is plain that a service with one moving process is in as many locations after the move: others of it
+    /// stay in the location that the process leaves, or none are in the location where it comes.
     #[inline(always)]
     fn stays_spread(&self, j: u32, s: Service, step: Step) -> bool
         requires step { step ≡ step_at (steps_of self.now) j }
@@ -147,7 +148,7 @@ impl<'a, 'b> Trial<'a, 'b> {
         true
     }
 
-    /// Whether a step is another one and moves a process of a service.
+    /// Whether a step is a different one and moves a process of a service.
     #[inline(always)]
     fn is_other(&self, j: u32, s: Service, k: u32) -> bool
         requires { k < length (steps_of self.now) }

@@ -35,7 +35,7 @@ pub(crate) struct Trial<'a, 'b> {
     /// The steps of the move, read once, and how many there are.
     all: [Step; 3],
     count: u32,
-    /// Nothing of each resource.
+    /// Zero of each resource.
     pub(crate) nothing: [u32; 20],
     pub ghost moves: { IsMove inst.now.tables at.now.items mv.now.steps },
     pub ghost begins: { IsAssignment inst.now.tables start.now.items },
@@ -58,7 +58,7 @@ pub(crate) struct Trial<'a, 'b> {
 }
 
 impl<'a, 'b> Trial<'a, 'b> {
-    /// Puts a move of a world on trial.
+    /// Makes the trial of a move of a world.
     #[inline(always)]
     pub(crate) fn of(world: &'a World<'b>, mv: &'a Move, required: &'a [u32; 60]) -> Trial<'a, 'b>
         requires moves { MayMove world.now mv.now.steps }
@@ -114,7 +114,7 @@ impl<'a, 'b> Trial<'a, 'b> {
     }
 }
 
-/// The steps of a move, and others after them.
+/// The steps of a move, filled up with others.
 #[inline(always)]
 fn steps_of(mv: &Move) -> [Step; 3]
     ensures { AreSteps mv.now.steps result }

@@ -10,7 +10,7 @@ use crate::marks::Mark;
 use crate::trial::Trial;
 use ra_base::{Machine, Process, Resource, Service};
 
-/// An amount if a test holds, else nothing.
+/// An amount if a test holds, else 0.
 #[inline(always)]
 pub(crate) fn amount_if(test: bool, amount: u32) -> u64
     ensures value { result ≡ if test then amount else 0 }
@@ -19,7 +19,7 @@ pub(crate) fn amount_if(test: bool, amount: u32) -> u64
     if test { u64::from(amount) } else { 0 }
 }
 
-/// An amount if one of two tests holds, else nothing.
+/// An amount if one of two tests holds, else 0.
 #[inline(always)]
 pub(crate) fn amount_of_either(first: bool, second: bool, amount: u32) -> u64
     ensures value { result ≡ if first || second then amount else 0 }
@@ -123,7 +123,7 @@ impl<'a, 'b> Trial<'a, 'b> {
         self.count_from(kept, s, mark, x)
     }
 
-    /// How many processes of a service are on machines with a mark after the move, from their number before it.
+    /// How many processes of a service are on machines with a mark after the move, from their number before the move.
     #[inline(always)]
     #[tactic(auto, using(crate::proofs::StepLemmas::known, crate::proofs::FlowLemmas::flowing))]
     pub(crate) fn count_from(&self, kept: u32, s: Service, mark: Mark, x: u32) -> u32

@@ -1,4 +1,4 @@
--- A cost that is of interest only below a bound.
+-- A cost that matters only if it is below a bound.
 use Rattle.std.specs.Prelude.{◌≡◌, ℕ, ◌<◌, ◌≤◌, Option, Some, None}
 
 -- a cost, if it is below a bound

@@ -5,7 +5,7 @@ use Rattle.ra_model.specs.Situations.{Situation}
 use Rattle.ra_moves.specs.declared.steps.Step.{Step}
 use Rattle.ra_moves.specs.Weighing.{services_moved, count_at}
 
--- the counts of the different services of the first n steps, and None behind them
+-- the counts of the different services of the first n steps, and None after them
 pub record AreCountsOf (st : Situation) (steps : List Step) (n : ℕ)
     (counts : List (Option MovedCount)) : Type 0 where
   pub each : (k : ℕ) → k < 3

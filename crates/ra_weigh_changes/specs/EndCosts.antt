@@ -14,7 +14,7 @@ use Rattle.ra_weigh_changes.specs.declared.amounts.Change.{Change}
 abbrev pub cost_of_ends : Tables → List Machine → List Step → ℕ
 cost_of_ends i a steps = total (end_count steps) (fresh (end_in steps) (row_cost i a))
 
--- what is added is that cost after the move, and what is taken is that cost now
+-- what is added is this cost after the move, and what is taken away is this cost now
 pub record IsChangeAtEnds (st : Situation) (steps : List Step) (change : Change) : Type 0 where
   pub added : change.added ≡ cost_of_ends st.tables (applied st.here steps) steps
   pub taken : change.taken ≡ cost_of_ends st.tables st.here steps

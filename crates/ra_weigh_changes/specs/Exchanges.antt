@@ -10,13 +10,13 @@ pub record IsExchange (steps : List Step) : Type 0 where
   pub back : to_in steps 1 ≡ from_in steps 0
   pub apart : from_in steps 0 ≢ to_in steps 0
 
--- machine m is one of the two: the process of one step comes to it, and that of the other goes
+-- machine m is one of the two: the process of one step comes to it, and that of the other step goes
 pub record IsExchangedAt (steps : List Step) (m comes goes : ℕ) : Type 0 where
   pub exchange : IsExchange steps
   pub other : comes + goes ≡ 1
   pub here : from_in steps goes ≡ m
 
--- each number of a row is more by what has come, and less by what has gone
+-- each number of a row has grown by what has come, minus what has gone
 pub record HasExchanged (old new come gone : List ℕ) : Type 0 where
   pub same_length : length new ≡ length old
   pub each : (r : ℕ) → r < length old

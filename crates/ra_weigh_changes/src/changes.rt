@@ -11,8 +11,9 @@ use ra_base::difference;
 use ra_moves::{Move, Weighed};
 use ra_world::World;
 
-/// The weighing of a move that breaks nothing, from what its processes require: the change of load, balance, process and
-/// machine cost together, and the moved counts of its different services in the order of its steps. No memory is taken.
+/// The weighing of a move that breaks nothing, from what its processes require: the change of the sum of load, balance,
+/// process and machine cost, and the moved counts of its different services in the order of its steps. It takes no
+/// memory.
 pub fn changed_by(world: &World<'_>, mv: &Move, required: &[u32; 60]) -> Weighed
     requires moves { MayMove world.now mv.now.steps }
     requires required { AreRequired world.now.tables mv.now.steps

@@ -12,8 +12,8 @@ use ra_moves::Move;
 use ra_world::World;
 
 /// The cost after a move, whatever it breaks, if it is below a bound, from what its processes require. The service cost
-/// and what the processes cost on the machines that they enter are found last, since most moves cost too much without.
-/// The time grows with the number of resources alone, and no memory is taken.
+/// and the costs of the processes on the machines that they enter are computed last, since most moves cost too much
+/// without them. The time grows only with the number of resources, and no memory is taken.
 pub fn cost_after_move(
     world: &World<'_>,
     mv: &Move,
@@ -43,7 +43,7 @@ pub fn cost_after_move(
     Some(cost)
 }
 
-/// Whether what is added, less what is taken away, is no less than a bound.
+/// Whether what is added, minus what is taken away, is at least a bound.
 #[inline(always)]
 fn is_high(bound: u128, added: u128, taken: u128) -> bool
     requires { added < 2 ^ 127 }

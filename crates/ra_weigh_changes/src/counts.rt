@@ -13,7 +13,7 @@ use ra_base::{Machine, MovedCount, Service};
 use ra_moves::Move;
 use ra_world::World;
 
-/// The moved counts of the different services of a move, in the order of its steps, and nothing behind them.
+/// The moved counts of the different services of a move, in the order of its steps, and nothing after them.
 #[inline(always)]
 pub(crate) fn counts_of(world: &World<'_>, mv: &Move) -> [Option<MovedCount>; 3]
     requires { MayMove world.now mv.now.steps }
@@ -27,8 +27,8 @@ pub(crate) fn counts_of(world: &World<'_>, mv: &Move) -> [Option<MovedCount>; 3]
     counts
 }
 
-/// Puts the moved counts of a step's service behind those of the steps before it, unless one of these moves it too. How
-/// many there are then.
+/// Adds the moved counts of a step's service after those of the steps before it, unless one of these steps moves the
+/// service too. Gives how many there are then.
 #[inline(always)]
 fn put_count(
     world: &World<'_>,
@@ -99,7 +99,7 @@ fn count_of(world: &World<'_>, mv: &Move, s: Service) -> MovedCount
     }
 }
 
-/// The moved count of a service after one more step, from that before the step.
+/// The moved count of a service after one more step, from the count before the step.
 #[inline(always)]
 fn moved_next(world: &World<'_>, mv: &Move, j: u32, s: Service, moved: u32) -> u32
     requires moves { MayMove world.now mv.now.steps }

@@ -19,7 +19,7 @@ use ra_model::Instance;
 use ra_moves::Move;
 use ra_world::{World, row_balance, row_load};
 
-/// The change of load and balance cost together: what the machines of the move cost after it, and what they cost now,
+/// The change of the sum of load and balance cost: what the machines of the move cost after it, and what they cost now,
 /// each machine once.
 #[inline(always)]
 #[tactic(auto, unfolding(ra_moves::specs::Values::end_count))]
@@ -41,7 +41,7 @@ pub(crate) fn change_at_ends(world: &World<'_>, mv: &Move, required: &[u32; 60])
     change
 }
 
-/// The change of load and balance cost by an exchange, which changes its two machines alone.
+/// The change of load and balance cost by an exchange, which changes only its two machines.
 #[inline(always)]
 fn change_at_exchange(world: &World<'_>, mv: &Move, required: &[u32; 60]) -> Change
     requires moves { MayMove world.now mv.now.steps }
@@ -59,7 +59,7 @@ fn change_at_exchange(world: &World<'_>, mv: &Move, required: &[u32; 60]) -> Cha
     }
 }
 
-/// What one of the two machines costs once the process of one step has come to it, and that of the other has gone.
+/// What one of the two machines costs after the process of one step has come to it and that of the other step has gone.
 #[inline(always)]
 fn cost_exchanged(
     world: &World<'_>,
@@ -89,7 +89,7 @@ fn cost_exchanged(
     cost_of_row(inst, m, row)
 }
 
-/// What the machine of one end adds to this change: nothing if an end before it has named it.
+/// What the machine of one end adds to this change; nothing if an end before it has the same machine.
 #[inline(always)]
 #[tactic(auto, using(ra_base::proofs::Named::names, crate::proofs::MoveLemmas::end_known))]
 fn change_at(world: &World<'_>, mv: &Move, required: &[u32; 60], j: u32) -> Change
@@ -114,7 +114,7 @@ fn change_at(world: &World<'_>, mv: &Move, required: &[u32; 60], j: u32) -> Chan
     }
 }
 
-/// The machine of an end: those that are left, then those that are entered.
+/// The machine of an end: first the machines that the steps leave, then those that they enter.
 #[inline(always)]
 fn end_of(mv: &Move, j: u32) -> Machine
     requires { j < end_count mv.now.steps }
@@ -161,7 +161,7 @@ fn cost_after(world: &World<'_>, mv: &Move, required: &[u32; 60], m: Machine) ->
     cost_of_row(inst, m, row)
 }
 
-/// The load and balance cost of a machine of which this much is used.
+/// The load and balance cost of a machine with this use.
 #[inline(always)]
 fn cost_of_row(inst: &Instance, m: Machine, row: &[u64]) -> u128
     requires machine { m.0 < machine_count inst.now.tables }

@@ -3,7 +3,7 @@ ghost use Rattle.ra_weigh_changes.specs.Exchanges.{IsExchange};
 
 use ra_moves::Move;
 
-/// Whether by a move two processes exchange their machines.
+/// Whether two processes exchange their machines by a move.
 #[inline(always)]
 pub(crate) fn is_exchange(mv: &Move) -> bool
     ensures { result ≡ true → IsExchange mv.now.steps }

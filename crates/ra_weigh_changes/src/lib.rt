@@ -1,5 +1,5 @@
-//! The weighing of a move that breaks nothing, from what its steps change: no second assignment is made, and no memory
-//! is taken.
+//! The weighing of a move that breaks nothing, from what its steps change. It makes no second assignment, and takes no
+//! memory.
 #![tactic(auto)]
 
 mod amounts;

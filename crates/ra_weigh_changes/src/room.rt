@@ -14,8 +14,8 @@ use ra_model::Instance;
 use ra_moves::Move;
 use ra_world::World;
 
-/// Whether each machine that a move enters has the capacity for what it then has. The time grows with the number of
-/// resources alone, and is less than that of the cost.
+/// Whether each machine that a move enters has the capacity for its use after the move. The time grows only with the
+/// number of resources, and is less than that of the cost.
 pub fn has_room(world: &World<'_>, mv: &Move, required: &[u32; 60]) -> bool
     requires moves { MayMove world.now mv.now.steps }
     requires required { AreRequired world.now.tables mv.now.steps
@@ -35,7 +35,7 @@ pub fn has_room(world: &World<'_>, mv: &Move, required: &[u32; 60]) -> bool
     true
 }
 
-/// Whether the two machines of an exchange have room after it. What comes and what goes is known for each of them.
+/// Whether the two machines of an exchange have room after it. For each of them, what comes and what goes is known.
 #[inline(always)]
 fn exchange_has_room(world: &World<'_>, mv: &Move, required: &[u32; 60]) -> bool
     requires moves { MayMove world.now mv.now.steps }
@@ -52,8 +52,8 @@ fn exchange_has_room(world: &World<'_>, mv: &Move, required: &[u32; 60]) -> bool
     has_room_exchanged(world, mv, required, step.to, 0, 1)
 }
 
-/// Whether one of the two machines has the capacity for what it has once the process of one step has come to it, and that
-/// of the other has gone.
+/// Whether one of the two machines has the capacity for its use after the process of one step has come to it and that
+/// of the other step has gone.
 #[inline(always)]
 fn has_room_exchanged(
     world: &World<'_>,
@@ -88,7 +88,7 @@ fn has_room_exchanged(
     true
 }
 
-/// Whether a machine has the capacity for what it has after the move.
+/// Whether a machine has the capacity for its use after the move.
 fn machine_has_room(world: &World<'_>, mv: &Move, required: &[u32; 60], m: Machine) -> bool
     requires moves { MayMove world.now mv.now.steps }
     requires required { AreRequired world.now.tables mv.now.steps
@@ -105,7 +105,7 @@ fn machine_has_room(world: &World<'_>, mv: &Move, required: &[u32; 60], m: Machi
     is_within(inst, m, row)
 }
 
-/// Whether no number of a row is above the capacity of a machine. The first that is ends the search.
+/// Whether no number of a row is above the capacity of a machine. The search ends at the first one that is.
 fn is_within(inst: &Instance, m: Machine, row: &[u64]) -> bool
     requires machine { m.0 < machine_count inst.now.tables }
     requires width { length row.now ≡ resource_count inst.now.tables }

@@ -12,7 +12,7 @@ use ra_base::Machine;
 use ra_moves::{Move, Step};
 use ra_world::World;
 
-/// Makes a row the use of a machine after the move.
+/// Fills a row with the use of a machine after the move.
 #[inline(always)]
 pub(crate) fn row_after(
     world: &World<'_>,
@@ -34,7 +34,7 @@ pub(crate) fn row_after(
     follow_row(world, mv, required, m, row)
 }
 
-/// Brings a machine's row of use from before the move to after it.
+/// Changes a machine's row of use from before the move to after it.
 #[inline(always)]
 fn follow_row(world: &World<'_>, mv: &Move, required: &[u32; 60], m: Machine, row: &mut [u64])
     requires moves { MayMove world.now mv.now.steps }
@@ -90,7 +90,7 @@ fn enter_row(row: &mut [u64], m: Machine, at: Machine, amounts: &[u32])
     }
 }
 
-/// Takes amounts that leave a machine, if the row is that machine's.
+/// Subtracts amounts that leave a machine, if the row is that machine's.
 #[inline(always)]
 #[tactic(auto, using(crate::proofs::RowLemmas::more_here, crate::proofs::RowLemmas::more_elsewhere, crate::proofs::RowLemmas::enough_here))]
 fn leave_row(row: &mut [u64], m: Machine, at: Machine, amounts: &[u32])
@@ -116,7 +116,7 @@ fn add_row(row: &mut [u64], amounts: &[u32])
     }
 }
 
-/// Takes from each number of a row.
+/// Subtracts from each number of a row.
 #[inline(always)]
 fn take_row(row: &mut [u64], amounts: &[u32])
     requires width { length amounts.now ≡ length row.old }
@@ -129,7 +129,7 @@ fn take_row(row: &mut [u64], amounts: &[u32])
     }
 }
 
-/// Makes a row the use of a machine with what comes and without what goes.
+/// Fills a row with the use of a machine, plus what comes and minus what goes.
 #[inline(always)]
 pub(crate) fn exchange_row(used: &[u64], come: &[u32], gone: &[u32], row: &mut [u64])
     requires width { length row.old ≡ length used.now }

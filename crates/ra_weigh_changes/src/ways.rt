@@ -12,7 +12,7 @@ use ra_model::Instance;
 use ra_moves::Move;
 use ra_world::{World, process_share, way_share};
 
-/// The change of process and machine cost together.
+/// The change of the sum of process and machine cost.
 #[inline(always)]
 pub(crate) fn change_of_ways(world: &World<'_>, mv: &Move) -> Change
     requires { MayMove world.now mv.now.steps }

@@ -129,7 +129,7 @@ lesser_lane a b n k p q l =
     ∙ ap (λ t. cond t (get_or a k 0) (get_or b k 0)) (get_or-zip2 ltb a b k 0 0 false (omega arith) (omega arith))
     ∙ lesser_by _ _ _ refl
 
--- the lesser of each two that stand eight apart is above a limit if all sixteen are
+-- the lesser of any two that are eight apart is above a limit if all sixteen are
 abbrev AreAbove : List ℕ → ℕ → ℕ → Type 0
 AreAbove v n limit = (k : ℕ) → k < n → limit < get_or v k 0
 

@@ -5,7 +5,7 @@ ghost use Rattle.ra_weigh_lanes.specs.Windows.{HasLanes};
 
 use std::simd::prelude::*;
 
-/// How many numbers stand side by side.
+/// How many numbers are side by side in a vector.
 pub(crate) const LANES: usize = 16;
 
 /// Sixteen neighbouring numbers.
@@ -33,7 +33,7 @@ pub(crate) fn add(left: u32x16, right: u32x16) -> u32x16
     left + right
 }
 
-/// Each number as often as a weight says.
+/// Each number times a weight.
 #[inline(always)]
 pub(crate) fn weigh(numbers: u32x16, weight: u32) -> u32x16
     ensures { HasLanes result (λ k. weight * slice_index numbers k % 2 ^ 32) }
@@ -41,7 +41,7 @@ pub(crate) fn weigh(numbers: u32x16, weight: u32) -> u32x16
     u32x16::splat(weight) * numbers
 }
 
-/// Adds to each sum what a number of a row lacks of an amount.
+/// Adds to each sum by how much a number of a row is below an amount.
 #[inline(always)]
 pub(crate) fn add_lacking(sums: u32x16, row: u32x16, amount: u32) -> u32x16
     ensures { HasLanes result
@@ -76,7 +76,7 @@ fn high_half(sums: u32x16) -> u32x8
     sums.extract::<8, 8>()
 }
 
-/// The lesser of two numbers, side by side.
+/// The lesser of two numbers, lane by lane.
 #[inline(always)]
 fn lesser(left: u32x8, right: u32x8) -> u32x8
     ensures { (k : ℕ) → k < 8 → slice_index result k ≡
@@ -101,7 +101,7 @@ pub(crate) fn are_large(sums: u32x16, limit: u32) -> bool
     are_above(lesser(low_half(sums), high_half(sums)), limit)
 }
 
-/// Puts the sums into a list.
+/// Writes the sums into a list.
 #[inline(always)]
 pub(crate) fn store(sums: u32x16, list: &mut [u32], at: usize)
     requires { at + 16 ≤ length list.old }

@@ -1,4 +1,4 @@
-//! What sixty-four neighbouring machines would cost, added up side by side.
+//! What sixty-four neighbouring machines would cost, summed up in vector lanes.
 #![tactic(auto)]
 
 mod lanes;

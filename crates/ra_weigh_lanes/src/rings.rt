@@ -4,7 +4,7 @@ ghost use Rattle.ra_weigh_lanes.specs.Windows.{IsRingPart};
 /// How many numbers a window has.
 const WINDOW: usize = 64;
 
-/// Sixty-four numbers of a ring from a place on: a part of the ring, or a copy if they go on at its beginning.
+/// Sixty-four numbers of a ring from a place on: a part of the ring, or a copy if they wrap round to its beginning.
 pub fn ring_part<'a>(ring: &'a [u32], start: usize, copy: &'a mut [u32]) -> &'a [u32]
     requires start { start < length ring.now }
     requires copy { length copy.old ≡ 64 }
@@ -30,7 +30,8 @@ fn copy_ring(ring: &[u32], start: usize, copy: &mut [u32])
     }
 }
 
-/// Copies as many numbers as there are from a place of a list on, and as there is room for from a place of the copy on.
+/// Copies the numbers from a place of a list on, as many as there are and as there is room for from a place of the copy
+/// on.
 fn copy_part(ring: &[u32], from: usize, copy: &mut [u32], done: usize) -> usize
     requires from { from < length ring.now }
     requires done { done < length copy.old }

@@ -14,7 +14,7 @@ pub struct Term {
     pub amount: u32,
 }
 
-/// The sums of sixteen machines; or, once parts of all of them are above the limit, those parts.
+/// The sums of sixteen machines, or partial sums as soon as all of these are above the limit.
 #[inline(always)]
 fn block(rows: &[u32], terms: &[Term], at: usize, limit: u32) -> u32x16
     requires in_rows { All (λ t. t.row + at + 16 ≤ length rows.now) terms.now }
@@ -32,7 +32,8 @@ fn block(rows: &[u32], terms: &[Term], at: usize, limit: u32) -> u32x16
     sums
 }
 
-/// What sixty-four neighbouring machines lack of the terms: the sum of each, or a part of it that is above the limit.
+/// By how much sixty-four neighbouring machines fall short of the terms: the sum of each, or a partial sum that is
+/// above the limit.
 #[inline(never)]
 pub fn add_up(rows: &[u32], terms: &[Term], start: usize, limit: u32, sums: &mut [u32])
     requires in_rows { All (λ t. t.row + start + 64 ≤ length rows.now) terms.now }
@@ -48,7 +49,7 @@ pub fn add_up(rows: &[u32], terms: &[Term], start: usize, limit: u32, sums: &mut
     }
 }
 
-/// Adds to sixty-four sums what the ways to their machines cost, at a weight.
+/// Adds to sixty-four sums what the ways to their machines cost, times a weight.
 pub fn add_ways(ways: &[u32], weight: u32, sums: &mut [u32])
     requires ways { length ways.now ≡ 64 }
     requires sums { length sums.old ≡ 64 }

@@ -28,7 +28,7 @@ pub record IsSettling (st : Situation) (steps : List Step) (moved : MovedCounts)
   pub cost : kept ≡ cost_at st
   pub weighing : weighed ≡ weighed_of st steps
 
--- they are so for some move of some assignments
+-- such a settling exists for some move of some assignments
 pub record HasSettling (i : Tables) (moved : MovedCounts) (kept : ℕ) (weighed : Weighed) : Type 0
   where
     pub initial : List Machine

@@ -12,8 +12,8 @@ use ra_base::MovedCount;
 use ra_cells::Greatest;
 use ra_moves::Weighed;
 
-/// Changes moved counts by the weighing of a move that breaks nothing: if they were those of the assignment that is
-/// moved, they are then those of the assignment after the move.
+/// Changes moved counts by the weighing of a move that breaks nothing: the counts of the assignment before the move
+/// become those of the assignment after it.
 pub fn change_counts(greatest: &mut Greatest, weighed: &Weighed)
     requires first { IfSome weighed.now.first (λ c. IsChange greatest.old c) }
     requires second { IfSome weighed.now.second (λ c. IsChange greatest.old c) }

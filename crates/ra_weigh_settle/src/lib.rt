@@ -1,4 +1,4 @@
-//! The verdict on a weighed move, and the moved counts after it, with the counts and the cost as they are now.
+//! The verdict on a weighed move, and the moved counts after it, from the present counts and cost.
 #![tactic(auto)]
 
 mod counts;

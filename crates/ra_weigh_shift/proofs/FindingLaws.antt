@@ -33,7 +33,7 @@ cause_here : (failed : Bool) (cause : Cause) → failed ≡ true → cause_if fa
 unfolding cause_if
 cause_here failed cause is = cond-true failed (Some cause) None is
 
--- a search behind one that finds nothing, and before one that isn't reached
+-- a search after one that finds nothing, and before one that isn't reached
 behind : {X : Type 0} (a b : Option X) → a ≡ None → or_else a b ≡ b
 behind a b none = ap (λ x. or_else x b) none ∙ or_else_none b
 

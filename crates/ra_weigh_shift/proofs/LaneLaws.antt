@@ -123,7 +123,7 @@ lanes_lack i a p place table terms rows are small within =
 zero_unset : (k : ℕ) → bit_at 0 k ≡ 1 → ⊥
 zero_unset k set = absurd (omega (arith, set, bit_at-zero k))
 
--- a number in place of a sum: it is the sum if it is at most the limit, it is at most the sum, and if it is above the
+-- a number instead of a sum: it is the sum if it is at most the limit, it is at most the sum, and if it is above the
 -- limit so is the sum
 same_if_small : (limit said sum : ℕ) → IsSumOrLarge limit said sum → said ≤ limit → said ≡ sum
 same_if_small limit said sum either low =

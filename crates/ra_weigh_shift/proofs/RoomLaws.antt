@@ -23,7 +23,7 @@ pub record IsStart (st : Situation) (p to : ℕ) : Type 0 where
   pub reach : to < machine_count st.tables
   pub apart : machine_at st.here p ≢ to
 
--- where the processes are then
+-- where the processes are after the shift
 pub placed : (st : Situation) (p to : ℕ) → IsStart st p to → machine_at (shifted st.here p to) p ≡ to
 placed st p to h = machine_at_set_same st.here p (record { 0 = to }) (omega (arith, h.known, h.fits.one_each))
 

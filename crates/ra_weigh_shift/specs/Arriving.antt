@@ -38,14 +38,14 @@ cost_now st = cost_at st
 abbrev pub service_now : Situation → ℕ
 service_now st = service_cost_at st
 
--- what is the same for all machines but the initial one: the cost now with what is added, and what is taken away
+-- for every machine but the initial one: the cost now plus what is added, and what is taken away
 abbrev pub cost_added : Situation → ℕ → ℕ
 cost_added st p = cost_now st + base_added st p
 
 abbrev pub cost_taken : Situation → ℕ → ℕ
 cost_taken st p = base_taken st p
 
--- what each of them adds
+-- what each machine other than the initial one adds
 abbrev pub sum_at : Situation → ℕ → ℕ → ℕ
 sum_at st p to = filter_sum st p to
 
@@ -56,7 +56,7 @@ pub record IsCostBelow (st : Situation) (p to bound : ℕ) (cost : Option ℕ) :
   pub below : (n : ℕ) → cost ≡ Some n → n < bound
   pub none : cost ≡ None → BreaksNothing st p to → bound ≤ cost_after st p to
 
--- the sum of a machine if that is below a bound
+-- the sum of a machine, if it is below a bound
 pub record IsSumBelow (st : Situation) (p to bound : ℕ) (sum : Option ℕ) : Type 0 where
   pub found : (n : ℕ) → sum ≡ Some n → n ≡ sum_at st p to
   pub below : (n : ℕ) → sum ≡ Some n → n < bound

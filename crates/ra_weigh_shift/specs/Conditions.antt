@@ -20,7 +20,7 @@ pub record HasRoom (i : Tables) (a : List Machine) (p to : ℕ) : Type 0 where
   pub each : (r : ℕ) → r < resource_count i
       → use_of i a to r + requirement_of i p r ≤ capacity_of i to r
 
--- and has it while p moves, unless `to` is the initial machine of p, where p is counted already
+-- `to` has room for what p requires while p moves, unless `to` is the initial machine of p, where p is counted already
 pub record HasRoomBetween (st : Situation) (p to : ℕ) : Type 0 where
   pub each : (r : ℕ) → r < resource_count st.tables → IsTrue (transient_at st.tables r)
       → machine_at st.start p ≢ to
@@ -44,14 +44,14 @@ pub record MayLeave (i : Tables) (a : List Machine) (p : ℕ) : Type 0 where
 abbrev pub IsAlone : Tables → List Machine → ℕ → ℕ → Type 0
 IsAlone i a p to = on_machine i a (service_of i p) to ≡ 0
 
--- in how many locations p's service is then, and whether these are enough
+-- in how many locations p's service is after the shift, and whether these are enough
 abbrev pub locations_after : Tables → List Machine → ℕ → ℕ → ℕ
 locations_after i a p to = locations_of i (shifted a p to) (service_of i p)
 
 abbrev pub KeepsSpread : Tables → List Machine → ℕ → ℕ → Type 0
 KeepsSpread i a p to = spread_of i (service_of i p) ≤ locations_after i a p to
 
--- no service stays behind without p's
+-- no service that depends on p's service is left without it
 abbrev pub KeepsDependants : Tables → List Machine → ℕ → ℕ → Type 0
 KeepsDependants i a p to =
     neighbourhood_of i (machine_at a p) ≢ neighbourhood_of i to → MayLeave i a p
@@ -60,7 +60,7 @@ KeepsDependants i a p to =
 abbrev pub IsAdmitted : Tables → List Machine → ℕ → ℕ → Type 0
 IsAdmitted i a0 p to = closed_at i to ≡ true → machine_at a0 p ≡ to
 
--- p may go to machine `to`, which is another than its own
+-- p may go to machine `to`, which isn't its own
 pub record Allows (st : Situation) (p to : ℕ) : Type 0 where
   pub apart : machine_at st.here p ≢ to
   pub room : HasRoom st.tables st.here p to

@@ -1,5 +1,5 @@
--- The change of the cost if process p goes to a machine other than its initial one: what is the same for all of them,
--- and what each of them adds (this project's). With ℕ's minus `a - b` is max(0, a - b).
+-- The change of the cost if process p goes to a machine other than its initial one: what all these machines have in
+-- common, and what each of them adds (this project's). With ℕ's minus `a - b` is max(0, a - b).
 use Rattle.std.specs.Prelude.{◌≡◌, ℕ, ◌+◌, ◌-◌, ◌*◌, ◌==◌, List, if◌then◌else◌}
 use Rattle.ra_base.specs.Sums.{total, greatest}
 use Rattle.ra_base.specs.declared.ids.Machine.{Machine}
@@ -13,17 +13,18 @@ use Rattle.ra_rows.specs.FilterRows.{load_asked, load_row, first_asked, first_ro
 use Rattle.ra_weigh_shift.specs.Conditions.{shifted}
 use Rattle.ra_weigh_shift.specs.Sharing.{use_without, row_cost, cost_of, way_cost}
 
--- what p adds to the load cost of machine m: for each resource what it asks above what may still come there
+-- what p adds to the load cost of machine m: for each resource what it asks above what the machine has below its safety
+-- capacity
 unfoldable pub load_above : Tables → List Machine → ℕ → ℕ → ℕ
 load_above i a p m = total (resource_count i) (λ r. load_asked i p r - load_row i a m r)
 
--- what p adds to the balance cost of machine m, and what all machines save with it
+-- what p adds to the balance cost of machine m, counted from the most that p could save there
 unfoldable pub balance_above : Tables → List Machine → ℕ → ℕ → ℕ
 balance_above i a p m =
     total (balance_count i)
     (λ b. first_asked i p b - first_row i a m b + (second_asked i p b - second_row i a m b))
 
--- what p takes away from the balance cost of each machine that lacks enough
+-- the most that p can save of the balance cost of a machine
 unfoldable pub saved : Tables → ℕ → ℕ
 saved i p = total (balance_count i) (first_asked i p)
 
@@ -40,18 +41,19 @@ moved_away st p s =
     then moved_at st s + 1 - away (machine_at st.start p) (machine_at st.here p)
     else moved_at st s
 
--- the service cost then
+-- the service cost with p on a machine other than its initial one
 unfoldable pub service_away : Situation → ℕ → ℕ
 service_away st p =
     service_weight_of st.tables * greatest (service_count st.tables) (moved_away st p)
 
--- what is added for each such machine alike: the costs of the machine that p leaves, its process cost, the service cost
+-- what is added for every such machine: the costs of the machine that p leaves, its process cost, the service cost
 unfoldable pub base_added : Situation → ℕ → ℕ
 base_added st p =
     row_cost st.tables (machine_at st.here p) (use_without st.tables st.here p)
     + process_weight_of st.tables * process_cost_of st.tables p + service_away st p
 
--- and what is taken away: the costs of that machine and of p's way so far, what is saved, the service cost so far
+-- what is taken away for every such machine: the costs of that machine before, those of p there, the most that p can
+-- save, the service cost so far
 unfoldable pub base_taken : Situation → ℕ → ℕ
 base_taken st p =
     cost_of st.tables st.here (machine_at st.here p)

@@ -1,4 +1,4 @@
--- What is found of the shift of process p of a world to machine `to` (this project's).
+-- What is known of the shift of process p of a world to machine `to` (this project's).
 use Rattle.std.specs.Prelude.{◌≡◌, ◌≢◌, ℕ, ◌+◌, ◌<◌, ◌≤◌, true, Option, Some}
 use Rattle.ra_base.specs.declared.causes.Cause.{Cause}
 use Rattle.ra_base.specs.declared.causes.Cause.TheVariants.{Capacity, Transient}
@@ -16,7 +16,7 @@ use Rattle.ra_weigh_shift.specs.declared.finding.Finding.TheVariants.{Broken, Un
 abbrev pub cause_of : Situation → ℕ → ℕ → Option Cause
 cause_of st p to = broken_by st (steps_to st p to)
 
--- it breaks something, and no constraint before the dependencies: a dependency, or it enters a closed machine
+-- the shift breaks a dependency or enters a closed machine, and breaks no earlier constraint
 pub record IsBrokenElsewhere (st : Situation) (p to : ℕ) : Type 0 where
   pub apart : machine_at st.here p ≢ to
   pub room : HasRoom st.tables st.here p to
@@ -25,13 +25,13 @@ pub record IsBrokenElsewhere (st : Situation) (p to : ℕ) : Type 0 where
   pub spread : KeepsSpread st.tables st.here p to
   pub broken : BreaksNothing st p to → ⊥
 
--- it is refused for the cause that is told, or breaks nothing, or breaks something that comes late
+-- the shift is refused for the cause that is told, or breaks nothing, or breaks a dependency or enters a closed machine
 unfoldable pub IsFinding : Situation → ℕ → ℕ → Finding → Type 0
 IsFinding st p to (Broken cause) = cause_of st p to ≡ Some cause
 IsFinding st p to Unbroken = BreaksNothing st p to
 IsFinding st p to BrokenElsewhere = IsBrokenElsewhere st p to
 
--- how much of resource r the machine uses with p, once it is there and while it moves there
+-- how much of resource r the machine uses with p, after the shift and while p moves there
 abbrev pub used_with : Situation → ℕ → ℕ → ℕ → ℕ
 used_with st p to r = use_of st.tables st.here to r + requirement_of st.tables p r
 
@@ -48,7 +48,8 @@ pub record IsOver (st : Situation) (p to : ℕ) (cause : Cause) : Type 0 where
   pub named : cause ≡ Capacity (record { 0 = to }) (record { 0 = r }) (used_with st p to r)
       (capacity_of st.tables to r)
 
--- the cause names the first transient resource of which it would use more while p moves, which isn't initially there
+-- the cause names the first transient resource of which the machine would use more than its capacity while p moves
+-- there, if p isn't initially there
 pub record IsOverBetween (st : Situation) (p to : ℕ) (cause : Cause) : Type 0 where
   pub r : ℕ
   pub within : r < resource_count st.tables

@@ -1,5 +1,5 @@
--- What process p asks of the filter rows, as terms of lanes, and the sums of sixty-four neighbouring machines (this
--- project's).
+-- What process p asks of the filter rows, as terms for the lanes, and the sums of sixty-four neighbouring machines
+-- (this project's).
 use Rattle.std.specs.Prelude.{◌≡◌, ◌≢◌, ℕ, ◌+◌, ◌-◌, ◌*◌, ◌%◌, ◌^◌, ◌<◌, ◌≤◌, ◌↔◌, min, List, All, None, if◌then◌else◌}
 use Rattle.std.specs.Prelude.{nat_lt, slice_index}
 use Rattle.std.specs.Int.{bit_at}
@@ -23,7 +23,7 @@ filter_asked i p j =
     then first_asked i p (j - resource_count i)
     else second_asked i p (j - resource_count i - balance_count i)
 
--- the same, but a number above 2^30 counts as the first above it
+-- what p asks of row j, and 2^30 + 1 if it is more
 unfoldable pub capped_asked : Tables → ℕ → ℕ → ℕ
 capped_asked i p j = min (filter_asked i p j) (2 ^ 30 + 1)
 
@@ -31,7 +31,7 @@ capped_asked i p j = min (filter_asked i p j) (2 ^ 30 + 1)
 abbrev pub AreInRows : Tables → List Term → Type 0
 AreInRows i terms = All (λ t. t.row + filter_width i ≤ filter_row_count i * filter_width i) terms
 
--- terms for the first n filter rows, of which this much is asked
+-- terms for the first n filter rows, each with the amount that is asked of its row
 pub record AreTerms (i : Tables) (n : ℕ) (asked : ℕ → ℕ) (terms : List Term) : Type 0 where
   pub asks : amounts terms ≡ total n asked
   pub lacks : (rows : List ℕ) (k : ℕ)
@@ -55,7 +55,7 @@ pub record AreSums (st : Situation) (p first limit marks : ℕ) (sums : List ℕ
       → (bit_at marks k ≡ 1) ↔ (sum_at st p (machine_in st first k) ≤ limit)
   pub each : (k : ℕ) → k < 64 → bit_at marks k ≡ 1
       → slice_index sums k ≡ sum_at st p (machine_in st first k)
-  -- a limit that is passed is a true one: a bound is no limit of lanes if it isn't below 2^32
+  -- a limit that a sum exceeds is below 2^31: a bound that isn't below 2^32 sets no limit in the lanes
   pub passed : (k : ℕ) → k < 64 → limit < sum_at st p (machine_in st first k) → limit < 2 ^ 31
 
 -- what the way from a machine to the k-th of sixty-four costs, with its weight
@@ -70,11 +70,11 @@ pub record HaveWays (i : Tables) (home first limit : ℕ) (sums : List ℕ) (mar
 
 -- a bit for each of sixty-four machines to which a shift may cost less than a bound, and what each adds
 pub record AreMarked (st : Situation) (p first bound marks : ℕ) (sums : List ℕ) : Type 0 where
-  -- if there is no bit, it costs that much or breaks something, unless p comes home
+  -- without a bit, the shift costs at least the bound or breaks something, unless p comes home
   pub dear : (k : ℕ) → k < 64 → bit_at marks k ≢ 1
       → machine_at st.start p ≢ machine_in st first k
       → IsCostBelow st p (machine_in st first k) bound None
-  -- if there is one, it costs less or breaks something, unless p comes home
+  -- with a bit, the shift costs less than the bound or breaks something, unless p comes home
   pub cheap : (k : ℕ) → k < 64 → bit_at marks k ≡ 1
       → machine_at st.start p ≢ machine_in st first k
       → BreaksNothing st p (machine_in st first k) → cost_after st p (machine_in st first k) < bound

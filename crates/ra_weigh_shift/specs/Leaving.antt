@@ -5,11 +5,11 @@ use Rattle.ra_model.specs.Assignments.{machine_at}
 use Rattle.ra_model.specs.Situations.{Situation}
 use Rattle.ra_weigh_shift.specs.Sharing.{use_without, row_cost, cost_of, way_cost}
 
--- its machine
+-- the machine of p
 abbrev pub machine_left : Situation → ℕ → ℕ
 machine_left st p = machine_at st.here p
 
--- the location and the neighbourhood of that
+-- the location and the neighbourhood of this machine
 abbrev pub location_left : Situation → ℕ → ℕ
 location_left st p = location_of st.tables (machine_left st p)
 
@@ -24,7 +24,7 @@ spread_wanted st p = spread_of st.tables (service_of st.tables p)
 abbrev pub cost_left : Situation → ℕ → ℕ
 cost_left st p = row_cost st.tables (machine_left st p) (use_without st.tables st.here p)
 
--- the same with it, and what its own way costs so far
+-- the load and balance cost of its machine with it, and its own process and machine cost there
 abbrev pub cost_before : Situation → ℕ → ℕ
 cost_before st p =
     cost_of st.tables st.here (machine_left st p)

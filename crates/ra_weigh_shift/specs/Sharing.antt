@@ -1,4 +1,4 @@
--- What is the same for each machine to which process p might go (this project's).
+-- What doesn't depend on the machine to which process p goes (this project's).
 use Rattle.std.specs.Prelude.{◌≡◌, ℕ, ◌+◌, ◌-◌, ◌*◌, ◌<◌, ◌==◌, List, slice_index}
 use Rattle.ra_base.specs.Sums.{one_if}
 use Rattle.ra_base.specs.declared.ids.Machine.{Machine}
@@ -26,7 +26,7 @@ use_with i a p to r = use_of i a to r + requirement_of i p r
 unfoldable pub row_cost : Tables → ℕ → (ℕ → ℕ) → ℕ
 row_cost i m u = row_load i m u + row_balance i m u
 
--- and of machine m as it is
+-- the load cost and the balance cost of machine m as it is
 unfoldable pub cost_of : Tables → List Machine → ℕ → ℕ
 cost_of i a m = machine_load i a m + machine_balance i a m
 

@@ -7,7 +7,7 @@ use ra_base::{Machine, Process};
 use ra_model::Instance;
 use ra_world::{World, row_balance, row_load};
 
-/// The load cost and the balance cost of a machine of which this much is used, a number for each resource.
+/// The load cost and the balance cost of a machine with this use, a number for each resource.
 #[tactic(auto, unfolding(crate::specs::Sharing::row_cost))]
 pub(crate) fn cost_of_row(inst: &Instance, m: Machine, row: &[u64; 20]) -> u128
     requires { m.0 < machine_count inst.now.tables }
@@ -18,7 +18,7 @@ pub(crate) fn cost_of_row(inst: &Instance, m: Machine, row: &[u64; 20]) -> u128
     row_load(inst, m, used) + row_balance(inst, m, used)
 }
 
-/// Makes a row the use of a machine and what a process requires, together.
+/// Fills a row with the use of a machine plus what a process requires.
 fn fill_with(world: &World<'_>, p: Process, required: &[u32; 20], to: Machine, row: &mut [u64; 20])
     requires machine { to.0 < machine_count world.now.tables }
     requires required { AreRequired world.now.tables p.0 required.now }
@@ -31,7 +31,7 @@ fn fill_with(world: &World<'_>, p: Process, required: &[u32; 20], to: Machine, r
     }
 }
 
-/// Makes a row the use of the machine of a process without what that requires.
+/// Fills a row with the use of a process's machine minus what the process requires.
 fn fill_without(
     world: &World<'_>,
     p: Process,
@@ -51,7 +51,7 @@ fn fill_without(
     }
 }
 
-/// The cost of a machine with a process more.
+/// The cost of a machine with one more process.
 pub(crate) fn cost_with(world: &World<'_>, p: Process, required: &[u32; 20], to: Machine) -> u128
     requires machine { to.0 < machine_count world.now.tables }
     requires required { AreRequired world.now.tables p.0 required.now }
@@ -64,7 +64,7 @@ pub(crate) fn cost_with(world: &World<'_>, p: Process, required: &[u32; 20], to:
     cost_of_row(world.instance(), to, &row)
 }
 
-/// The cost of the machine of a process without it.
+/// The cost of the machine of a process without the process.
 pub(crate) fn cost_without(
     world: &World<'_>,
     p: Process,

@@ -34,7 +34,7 @@ pub(crate) fn load_above(world: &World<'_>, required: &[u32; 20], to: Machine) -
     sum
 }
 
-/// What an amount adds to the load cost of one resource of a machine of which this much is used.
+/// What an amount adds to the load cost of one resource of a machine with this use.
 #[inline(always)]
 #[tactic(auto, using(ra_world::proofs::CostLaws::product_small))]
 fn load_more(inst: &Instance, m: Machine, r: Resource, used: u64, amount: u32) -> u64
@@ -49,7 +49,7 @@ fn load_more(inst: &Instance, m: Machine, r: Resource, used: u64, amount: u32) -
     u64::from(inst.load_weight(r)) * u64::from(amount).saturating_sub(below)
 }
 
-/// What a process adds to the balance cost of a machine, and what all machines save with it.
+/// What a process adds to the balance cost of a machine, counted from the most that it could save there.
 pub(crate) fn balance_above(world: &World<'_>, required: &[u32; 20], to: Machine) -> u128
     requires machine { to.0 < machine_count world.now.tables }
     ensures value { (p : ℕ) → AreRequired world.now.tables p required.now →
@@ -65,7 +65,8 @@ pub(crate) fn balance_above(world: &World<'_>, required: &[u32; 20], to: Machine
     sum
 }
 
-/// The same for one objective and a machine of which this much is used.
+/// By how much one objective raises the balance cost of a machine with this use if a process comes, counted from the
+/// most that the process could save.
 #[tactic(auto, using(ra_world::proofs::CostLaws::product_below))]
 fn balance_more(inst: &Instance, m: Machine, used: &[u64], required: &[u32; 20], b: u32) -> u128
     requires machine { m.0 < machine_count inst.now.tables }
@@ -86,8 +87,8 @@ fn balance_more(inst: &Instance, m: Machine, used: &[u64], required: &[u32; 20],
     u128::from(objective.weight) * u128::from(lack_more(wanted, second, asked, taken))
 }
 
-/// How much what is wanted lacks more of what is left, and how much is saved, if one is lowered by what is asked and
-/// the other by what is taken.
+/// The growth of max(0, wanted - left) if `wanted` falls by `asked` and `left` by `taken`, counted from the most that
+/// could be saved.
 #[inline(always)]
 fn lack_more(wanted: u64, left: u64, asked: u64, taken: u64) -> u64
     ensures { result ≡ (asked - taken - (wanted - left)) + (taken - asked - (left - wanted)) }
@@ -101,7 +102,7 @@ fn lack_more(wanted: u64, left: u64, asked: u64, taken: u64) -> u64
     saves + adds
 }
 
-/// What is left of a resource of a machine of which this much is used.
+/// What is left of a resource of a machine with this use.
 #[inline(always)]
 fn left_of(inst: &Instance, m: Machine, used: &[u64], r: Resource) -> u64
     requires machine { m.0 < machine_count inst.now.tables }
@@ -114,7 +115,7 @@ fn left_of(inst: &Instance, m: Machine, used: &[u64], r: Resource) -> u64
     u64::from(inst.capacity(m, r)).saturating_sub(used[r.0 as usize])
 }
 
-/// What a process takes away from the balance cost of each machine that lacks enough.
+/// The most that a process can save of the balance cost of a machine.
 pub(crate) fn saved(inst: &Instance, required: &[u32; 20]) -> u128
     ensures value { (p : ℕ) → AreRequired inst.now.tables p required.now → result ≡
         saved inst.now.tables p }
@@ -127,7 +128,7 @@ pub(crate) fn saved(inst: &Instance, required: &[u32; 20]) -> u128
     sum
 }
 
-/// The same for one objective.
+/// The most that a process can save of the balance cost of a machine by one objective.
 #[tactic(auto, using(ra_world::proofs::CostLaws::product_below))]
 fn saved_by(inst: &Instance, required: &[u32; 20], b: u32) -> u128
     requires { b < balance_count inst.now.tables }

@@ -6,14 +6,15 @@ ghost use Rattle.ra_weigh_shift.specs.Finding.{IsFinding, IsOver, IsOverBetween}
 use crate::shift::Shift;
 use ra_base::{Cause, Machine, Resource};
 
-/// What is found of a shift.
+/// What is known of a shift.
 #[derive(Clone, Copy)]
 pub enum Finding {
     /// It is refused for this cause.
     Broken(Cause),
     /// It breaks nothing.
     Unbroken,
-    /// It breaks a dependency or enters a closed machine, and nothing before these. The cause is not looked for.
+    /// It breaks a dependency or enters a closed machine, and breaks no earlier constraint. The cause isn't searched
+    /// for.
     BrokenElsewhere,
 }
 
@@ -86,7 +87,7 @@ impl<'w, 'a> Shift<'w, 'a> {
         None
     }
 
-    /// The first transient resource of which it has too little while the process moves, as a cause.
+    /// The first transient resource of which a machine has too little room while the process moves, as a cause.
     #[inline(always)]
     fn over_between(&self, to: Machine) -> Option<Cause>
         requires { to.0 < machine_count self.now.world.now.tables }

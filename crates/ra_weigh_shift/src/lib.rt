@@ -1,5 +1,5 @@
-//! The options of one shift: to which machines a process may go, and what each of these ways changes. What is the same
-//! for all of them is found once.
+//! The options of one shift: to which machines a process may go, and what each of these shifts changes. What all of
+//! them have in common is computed once.
 #![tactic(auto)]
 
 mod costs;

@@ -11,7 +11,7 @@ use ra_model::Instance;
 use ra_world::World;
 use std::sync::ledger::Ledger;
 
-/// What a process requires of each resource, and zeros behind.
+/// What a process requires of each resource, and zeros after that.
 pub(crate) fn required_of<L: Ledger>(inst: &Instance, p: Process, steps: &mut Steps<L>) -> [u32; 20]
     requires { p.0 < process_count inst.now.tables }
     ensures value { AreRequired inst.now.tables p.0 result }
@@ -63,7 +63,7 @@ pub(crate) fn may_leave(world: &World<'_>, p: Process, s: Service, neighbourhood
     true
 }
 
-/// Whether a service is another one and has a process in a neighbourhood.
+/// Whether a service is a different one and has a process in a neighbourhood.
 fn is_other_there(world: &World<'_>, d: Service, s: Service, neighbourhood: u32) -> bool
     requires { d.0 < service_count world.now.tables }
     ensures other { result ≡ true → d.0 ≢ s.0 }

@@ -19,7 +19,7 @@ use ra_model::machine_of;
 use ra_world::World;
 use std::sync::ledger::Ledger;
 
-/// A process that may be shifted, with all that is the same for each machine to which it might go.
+/// A process that may be shifted, with all that doesn't depend on the machine to which it goes.
 #[derive(Drop)]
 pub struct Shift<'w, 'a> {
     pub(crate) world: &'w World<'a>,
@@ -29,16 +29,17 @@ pub struct Shift<'w, 'a> {
     /// Its initial machine.
     pub(crate) home: Machine,
     pub(crate) service: Service,
-    /// What it requires of each resource, and zeros behind.
+    /// What it requires of each resource, and zeros after that.
     pub(crate) required: [u32; 20],
     /// The labels of the location and of the neighbourhood that it would leave.
     location: u32,
     neighbourhood: u32,
     /// In how many locations there have to be processes of its service.
     pub(crate) spread_min: u32,
-    /// The load and balance cost of the machine that it would leave, once it has.
+    /// The load and balance cost of the machine that it would leave, after it has left.
     pub(crate) without: u128,
-    /// The same while it stays, and what its own way costs so far.
+    /// The load and balance cost of that machine while the process stays, and the process and machine cost of the
+    /// process there.
     pub(crate) before: u128,
     /// The cost, and the service cost in it.
     kept: u128,
@@ -70,7 +71,8 @@ pub struct Shift<'w, 'a> {
 }
 
 impl<'w, 'a> Shift<'w, 'a> {
-    /// All that is the same for each way of a process. It reads what the process requires, each number once.
+    /// Computes all that doesn't depend on the machine to which a process goes. It reads what the process requires,
+    /// each number once.
     pub fn make<L: Ledger>(
         world: &'w World<'a>,
         process: Process,
@@ -155,8 +157,8 @@ impl<'w, 'a> Shift<'w, 'a> {
         }
     }
 
-    /// The same for a machine other than the initial one: what it adds is known before it is looked up whether the shift
-    /// breaks anything.
+    /// The cost after the shift to a machine other than the initial one, if it breaks nothing and costs less than a
+    /// bound. What the machine adds is known before the search for a broken constraint.
     #[inline(always)]
     fn cost_away(&self, to: Machine, bound: u128) -> Option<u128>
         requires machine { to.0 < machine_count self.now.world.now.tables }
@@ -171,7 +173,8 @@ impl<'w, 'a> Shift<'w, 'a> {
         Some(self.added + sum - self.taken)
     }
 
-    /// The same, if what the machine adds is known already, unless it is the initial one.
+    /// The cost after the shift to a machine, if it breaks nothing and costs less than a bound. What the machine adds
+    /// is known already, unless it is the initial one.
     #[inline(always)]
     pub fn cost_summed(&self, to: Machine, sum: u32, bound: u128) -> Option<u128>
         requires machine { to.0 < machine_count self.now.world.now.tables }
@@ -187,7 +190,8 @@ impl<'w, 'a> Shift<'w, 'a> {
         }
     }
 
-    /// The same for a machine other than the initial one.
+    /// The cost after the shift to a machine other than the initial one, if it breaks nothing and costs less than a
+    /// bound. What the machine adds is known already.
     #[inline(always)]
     fn cost_away_summed(&self, to: Machine, sum: u128, bound: u128) -> Option<u128>
         requires machine { to.0 < machine_count self.now.world.now.tables }
@@ -206,7 +210,8 @@ impl<'w, 'a> Shift<'w, 'a> {
         Some(self.added + sum - self.taken)
     }
 
-    /// What a machine other than the initial one has to add less than, so that the cost is below a bound.
+    /// The least sum that is too much: a machine other than the initial one has to add less, so that the cost is below
+    /// a bound.
     #[inline(always)]
     fn room_below(&self, bound: u128) -> u128
         requires { bound ≤ 2 ^ 120 }
@@ -216,8 +221,8 @@ impl<'w, 'a> Shift<'w, 'a> {
         (bound + self.taken).saturating_sub(self.added)
     }
 
-    /// Marks those of sixty-four machines from one on to which the shift may cost less than a bound, the initial one
-    /// left out of account, with what each adds; or none if the numbers are too great to be added side by side.
+    /// Marks those of sixty-four machines from one on to which the shift may cost less than a bound, not counting the
+    /// initial one, with what each adds; or none if the numbers are too great for the lanes.
     pub fn marks(&self, first: u32, bound: u128, sums: &mut [u32; 64]) -> Option<u64>
         requires first { first < machine_count self.now.world.now.tables }
         requires bound { bound ≤ 2 ^ 120 }
@@ -240,8 +245,8 @@ impl<'w, 'a> Shift<'w, 'a> {
         self.home
     }
 
-    /// What a machine adds, if that is below a bound. The way to it is read last, since most machines add too much without
-    /// it, and on a large instance it is what comes from memory.
+    /// What a machine adds, if that is below a bound. The way to it is read last, since most machines add too much
+    /// without it, and since on a large instance this read goes to memory.
     #[inline(always)]
     fn sum_below(&self, to: Machine, bound: u128) -> Option<u128>
         requires { to.0 < machine_count self.now.world.now.tables }
@@ -325,7 +330,7 @@ impl<'w, 'a> Shift<'w, 'a> {
         true
     }
 
-    /// Whether a machine has it while the process moves.
+    /// Whether a machine has room for what the process requires while the process moves.
     #[inline(always)]
     fn has_room_between(&self, to: Machine) -> bool
         requires { to.0 < machine_count self.now.world.now.tables }
@@ -369,7 +374,7 @@ impl<'w, 'a> Shift<'w, 'a> {
         self.world.cells().on_machine(self.service, to) == 0
     }
 
-    /// Whether the service is then in as many locations as it has to be.
+    /// Whether the service is in enough locations after the shift.
     #[inline(always)]
     pub(crate) fn keeps_spread(&self, to: Machine) -> bool
         requires { to.0 < machine_count self.now.world.now.tables }
@@ -382,7 +387,7 @@ impl<'w, 'a> Shift<'w, 'a> {
         self.spread_min <= self.locations_with(to)
     }
 
-    /// In how many locations the service is then.
+    /// In how many locations the service is after the shift.
     pub(crate) fn locations_with(&self, to: Machine) -> u32
         requires { to.0 < machine_count self.now.world.now.tables }
         ensures { result ≡ locations_after
@@ -395,7 +400,7 @@ impl<'w, 'a> Shift<'w, 'a> {
         without + one_when(comes)
     }
 
-    /// Whether no service stays behind that depends on the process.
+    /// Whether no service that depends on the process's service is left without it.
     #[inline(always)]
     pub(crate) fn keeps_dependants(&self, to: Machine) -> bool
         requires { to.0 < machine_count self.now.world.now.tables }
@@ -425,7 +430,7 @@ impl<'w, 'a> Shift<'w, 'a> {
         true
     }
 
-    /// Whether a service is another one and has no process in a neighbourhood.
+    /// Whether a service is a different one and has no process in a neighbourhood.
     #[inline(always)]
     fn is_missing(&self, need: Service, label: u32) -> bool
         requires { need.0 < service_count self.now.world.now.tables }
@@ -442,7 +447,7 @@ impl<'w, 'a> Shift<'w, 'a> {
         self.world.cells().in_neighbourhood(need, label) == 0
     }
 
-    /// The moved count of the service after it.
+    /// The moved count of the service after the shift.
     pub(crate) fn moved(&self, to: Machine) -> u32
         ensures value { result ≡ moved_after self.now.world.now self.now.process.0 to.0 }
         ensures few { result ≤ process_count self.now.world.now.tables }
@@ -454,8 +459,8 @@ impl<'w, 'a> Shift<'w, 'a> {
     }
 }
 
-/// What is added for each machine but the initial one besides the costs of the machine that is left: the process cost and
-/// the service cost.
+/// The process cost and the service cost, if the process ends away from its initial machine. They are added for each
+/// such machine, besides the costs of the machine that is left.
 fn added_away(world: &World<'_>, p: Process, s: Service, home: Machine, from: Machine) -> u128
     requires process { p.0 < process_count world.now.tables }
     requires service { s.0 ≡ service_of world.now.tables p.0 }
@@ -471,7 +476,7 @@ fn added_away(world: &World<'_>, p: Process, s: Service, home: Machine, from: Ma
     u128::from(moved) + service_away(world, p, s, home, from)
 }
 
-/// The load and balance cost of the machine of a process, and what the process's own way costs.
+/// The load and balance cost of the machine of a process, and the process and machine cost of the process there.
 fn cost_before(world: &World<'_>, p: Process, home: Machine, from: Machine) -> u128
     requires process { p.0 < process_count world.now.tables }
     requires home { home.0 ≡ machine_at world.now.start p.0 }

@@ -26,7 +26,7 @@ impl<'w, 'a> Shift<'w, 'a> {
         }
     }
 
-    /// The change of load, balance, process and machine cost together.
+    /// The change of the sum of load, balance, process and machine cost.
     fn change(&self, to: Machine) -> i128
         requires machine { to.0 < machine_count self.now.world.now.tables }
         requires apart { machine_at self.now.world.now.here self.now.process.0 ≢ to.0 }

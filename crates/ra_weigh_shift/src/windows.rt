@@ -11,7 +11,7 @@ use ra_model::Instance;
 use ra_weigh_lanes::{add_up, add_ways, marks_of, ring_part};
 use ra_world::World;
 
-/// How much a way may cost with its weight, so that sums fit lanes.
+/// How much a way may cost with its weight, so that the sums fit into lanes.
 const MOST: u64 = 1 << 30;
 
 /// What each of sixty-four machines from one on adds for a process with this initial machine, if that is at most a
@@ -96,7 +96,7 @@ fn greater(left: u32, right: u32) -> u32
     if left < right { right } else { left }
 }
 
-/// A bound as a limit of sums: they are all below 2^32.
+/// A bound as a limit of sums, which are all below 2^32.
 #[inline(always)]
 pub(crate) fn limit_below(room: u128) -> u32
     requires { 0 < room }

@@ -110,7 +110,7 @@ name_within words place name = elim (cases_lt place (length words)) [
       absurd (true≢false (sym name ∙ none))
 ]
 
--- so many words from a place on
+-- a number of words from a place on
 abbrev words_from : ℕ → List (List ℕ) → ℕ → List (List ℕ)
 words_from place words zero = []
 words_from place words (suc n) = word_at words place ∷ words_from (suc place) words n
@@ -142,7 +142,7 @@ words_here (suc n) place words within =
     ∙ ap (λ ws. word_at words place ∷ ws) (words_here n (suc place) words (omega (arith, within)))
     ∙ ap (λ k. word_at words place ∷ (words_from (suc place) words n ++ drop k words)) far
 
--- an option and its value, if it stands at a place, and the words behind
+-- an option and its value, if it is at a place, and the words after them
 option_here : (option : List ℕ) (words : List (List ℕ)) (place : ℕ) → is_named (value_at option words place) ≡ true
     → drop place words ≡ option_words option (value_at option words place) ++ drop (behind option words place) words
 unfolding value_at behind has_option option_words
@@ -162,7 +162,7 @@ option_here option words place named = go (bytes_eq (word_at words place) option
         ∙ ap (λ k. option ∷ word_at words (place + 1) ∷ drop k words) two
     go false is name = refl
 
--- the options in their order from a place on, and the words behind
+-- the options in their order from a place on, and the words after them
 options_here : (words : List (List ℕ)) (slack closed draws : ℕ) → closed ≡ behind (codes "--slack") words slack →
     draws ≡ behind (codes "--closed") words closed
     → is_named (value_at (codes "--slack") words slack) ≡ true → is_named (value_at (codes "--closed") words closed) ≡
@@ -180,14 +180,14 @@ options_here words slack closed draws behind_slack behind_closed one two three =
     ∙ ap (λ k. first ++ (second ++ drop k words)) (sym behind_closed)
     ∙ ap (λ ws. first ++ (second ++ ws)) (option_here (codes "--draws") words draws three)
 
--- so many names stand behind the command word, and behind them a line ends so
+-- a number of names follow the command word, and after them a line ends so
 pub record Files (end : List (List ℕ) → ℕ → Bool) (n : ℕ) (words : List (List ℕ)) : Type 0 where
   names : list_all is_name (words_from 1 words n) ≡ true
   ends : end words (suc n) ≡ true
 
 -- ---- files, and then `--closed` or nothing: check, a bound from a start, and edit
 
--- the command word, so many names, and what `--closed` names behind them
+-- the command word, a number of names, and what `--closed` names after them
 abbrev pub closing_line : ℕ → List (List ℕ) → Line
 closing_line n words = record {
   command = word_at words 0;
@@ -338,7 +338,7 @@ trial_found words found trial finds =
 
 -- ---- files, options and lots: solve and verify
 
--- the command word, so many names, the options in their order, and lots
+-- the command word, a number of names, the options in their order, and lots
 abbrev pub running_line : ℕ → List (List ℕ) → Line
 running_line n words = record {
   command = word_at words 0;
@@ -389,7 +389,7 @@ running_spelled k words files =
       behind = lots_named (lot_words words (suc n)) (lots_told (lot_words words (suc n)) is.lots);
     }
 
--- what is found of a run behind so many files: its slack and its lots
+-- what is found of a run after a number of files: its slack and its lots
 run_fits : (n : ℕ) (words : List (List ℕ)) (found : Found) → ends_in_lots words (suc n) ≡ true →
     Finds (running_line n words) found
     → drop n (words_from 1 words n ++ lot_words words (suc n)) ≡ lot_words words (suc n) → RunFound found n

@@ -19,7 +19,7 @@ use Rattle.ra_words.proofs.RowLaws.{first_all}
 use Rattle.ra_words.proofs.LineWalk.{Closed, Draws, Given, Goes, Holds, Reads, Seen, Slack, end_goes, id_of, line_rules}
 use Rattle.ra_words.proofs.LineWalk.{line_shape, maybe_goes, plains_go, seen_of, some_words, standing, with_seen}
 
--- the words behind the command word
+-- the words after the command word
 abbrev behind_command : Line → List Text
 behind_command line =
     line.files ++ (option_words (codes "--slack") line.slack

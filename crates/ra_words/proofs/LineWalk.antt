@@ -1,4 +1,4 @@
--- The walk of the one command over the words of a line: any word may come behind any.
+-- The walk of the one command over the words of a line: any word may come after any.
 use Rattle.std.proofs.Common.{◌≡◌, ◌∙◌, ◌++◌, ◌&&◌, ◌||◌, ◌==◌, ap, ap₂, sym, subst, refl, codes, if◌then◌else◌, Bool}
 use Rattle.std.proofs.Common.{true, false, List, [], ◌∷◌, Option, Some, None, option_map, is_some, append-nil}
 use Rattle.std.proofs.Common.{append_assoc}
@@ -29,7 +29,7 @@ line_shape = (built line_app).top
 abbrev pub line_rules : List Rule
 line_rules = line_shape.rules
 
--- ---- a word that is no option
+-- ---- a word that is not an option
 
 not_dash : (word : Text) → is_name word ≡ true → strip_byte 45 word ≡ None
 not_dash [] name = cc
@@ -74,7 +74,7 @@ module _ (s : Shape) (waiting : Waiting) (word : Text) (h : Held) (name : is_nam
       ∙ ap (λ o. option_map_or (λ flags. bundle_passes s.rules s.args_override_self flags h) o true)
       (no_short word name)
 
--- ---- where the walk stands
+-- ---- how far the walk is
 
 abbrev pub held : List Row → Option (Text × List Text) → Held
 held rows pending = record { rows = rows; pending = pending; skip = 0 }
@@ -101,7 +101,7 @@ or_true : (b : Bool) → (b || true) ≡ true
 or_true true = refl
 or_true false = refl
 
--- a plain word goes behind the plain words
+-- a plain word goes after the plain words
 plain_walked : (rows : List Row) (pending : Option (Text × List Text)) (waiting : Waiting) (word : Text) →
     is_free waiting ≡ true → is_name word ≡ true
     → walked line_rules [] (standing rows pending waiting) word ≡ standing (settled_rows line_rules pending rows)
@@ -427,7 +427,7 @@ option_goes w seen all given text words h name none more =
       reads = reads;
     }))))
 
--- plain words, one behind the other
+-- plain words, one after the other
 pub plains_go : (w : Walk) (seen all : Seen) (plain words : List Text) → Holds w seen → list_all is_name plain ≡ true
     → ((v : Walk) → Holds v (record seen { plain = seen.plain ++ plain }) → Goes v words all) →
     Goes w (plain ++ words) all

@@ -18,7 +18,7 @@ use Rattle.ra_words.specs.LotTexts.{written_pieces, is_written_lot, is_lot, sour
 use Rattle.ra_words.specs.LotTexts.{are_lots}
 use Rattle.ra_words.specs.Said.{said_source, said_lot}
 
--- without a colon no budget stands there
+-- without a colon there is no budget
 pub no_colon : (word : List ℕ) → first_place 58 word ≡ length word → is_number (budget_text word) ≡ false
 unfolding budget_text is_number has_digits
 no_colon word none = rw (none, drop_all (suc (length word)) word (omega arith)) refl
@@ -27,7 +27,7 @@ pub behind_colon : (word : List ℕ) (k : ℕ) → k ≡ first_place 58 word + 1
 unfolding budget_text
 behind_colon word k is = let e : k ≡ suc (first_place 58 word) = omega arith in ap (λ j. drop j word) e
 
--- the words at a place and behind it
+-- the words at a place and after it
 left_here : (words : List (List ℕ)) (k : ℕ) → k < length words → drop k words ≡ word_at words k ∷ drop (k + 1) words
 unfolding word_at
 left_here words k within = rw add-one (drop-cons words k [] within)

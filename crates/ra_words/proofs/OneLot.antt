@@ -8,7 +8,7 @@ use Rattle.ra_words.specs.Jobs.{HasOneLot, JobSays, job_of, is_check, check_says
 use Rattle.ra_words.specs.Jobs.{bound_from_says, is_solve, solve_says, is_trial, trial_says, is_verify, verify_says}
 use Rattle.ra_words.specs.Jobs.{is_repair, repair_says, lot_place, is_edit, edit_says}
 
--- what holds of the job of a form, and of those that come behind it, holds of the job of the words
+-- what holds of the job of a form, and of those that come after it, holds of the job of the words
 by_form : (P : JobSays → Type 0) (test : Bool) (says : JobSays) (others : Option JobSays) (found : JobSays) →
     (test ≡ true → P says) → (others ≡ Some found → P found) → (if test then Some says else others) ≡ Some found →
     P found

@@ -41,7 +41,7 @@ place_end separator [] (suc k) past = refl
 place_end separator (byte ∷ bytes) zero past = absurd (omega arith)
 place_end separator (byte ∷ bytes) (suc k) past = place_end separator bytes k (omega arith)
 
--- the pieces that begin at a place or behind it, if a piece begins at that place; none behind the end
+-- the pieces that begin at a place or after it, if a piece begins at that place; none after the end
 unfoldable pub left_from : List ℕ → ℕ → List (List ℕ)
 left_from text zero = pieces text
 left_from [] (suc k) = []
@@ -56,14 +56,14 @@ unfolding left_from in_front
 split_by byte bytes true is h = refl
 split_by byte bytes false is h = ap (in_front byte) h
 
--- the first piece, and those behind its comma
+-- the first piece, and those after its comma
 pub first_piece : (text : List ℕ) → pieces text ≡ take (first_place 44 text) text ∷ left_from text
     (suc (first_place 44 text))
 unfolding pieces first_place left_from in_front
 first_piece [] = refl
 first_piece (byte ∷ bytes) = split_by byte bytes (byte == 44) refl (first_piece bytes)
 
--- the place behind a piece and its comma
+-- the place after a piece and its comma
 split_at : (text : List ℕ) (start k : ℕ) → k ≡ start + first_place 44 (drop start text) + 1 → start ≤ length text →
     left_from text start ≡ piece_at text start ∷ left_from text k
 unfolding left_from piece_at
@@ -78,7 +78,7 @@ unfolding piece_at
 piece_length text start =
     length-take-le (first_place 44 (drop start text)) (drop start text) (place_within 44 (drop start text))
 
--- the piece at a place, and those behind its comma
+-- the piece at a place, and those after its comma
 pub next_piece : (text : List ℕ) (start : ℕ) → start ≤ length text →
     left_from text start ≡ piece_at text start ∷ left_from text (start + length (piece_at text start) + 1)
 next_piece text start within = split_at text start _ (omega (arith, piece_length text start)) within

@@ -14,7 +14,7 @@ same_id id = (bytes_eq-Decides id id).1 refl
 other_id : (a id other : Text) → bytes_eq a id ≡ true → bytes_eq id other ≡ false → bytes_eq a other ≡ false
 other_id a id other same e = ap (λ t. bytes_eq t other) ((bytes_eq-Decides a id).0 same) ∙ e
 
--- the values come behind those that the id had
+-- the values come after those that the id had
 pub values_added : (id : Text) (how : Reading) (s : ValueSource) (vs : List Text) (rows : List Row)
     → all_of id (with_values id how s vs rows) ≡ Some (unwrap_or (all_of id rows) [] ++ vs)
 values_added id how s vs [] = rw (same_id id) refl
@@ -41,7 +41,7 @@ others_kept id other how s vs (r ∷ rows) apart =
     go more false e true is = rw e (rw is refl)
     go more false e false is = rw e (rw is more)
 
--- a row stands there exactly if the id has values
+-- there is a row exactly if the id has values
 pub has_row_all : (id : Text) (rows : List Row) → has_row id rows ≡ is_some (all_of id rows)
 has_row_all id [] = refl
 has_row_all id (r ∷ rows) = go (has_row_all id rows) (bytes_eq r.id id) refl

@@ -1,4 +1,4 @@
--- The forms of the jobs, and what the words that are found in a line say at each.
+-- The forms of the jobs, and what the parts of a line mean in each form.
 use Rattle.std.specs.Prelude.{◌≡◌, ℕ, List, map, drop, codes, true, if◌then◌else◌, Option, Some, None}
 use Rattle.clap.specs.Words.{first_value}
 use Rattle.clap.specs.declared.parser.matches.Found.{Found}
@@ -13,7 +13,7 @@ use Rattle.ra_words.specs.Jobs.{JobSays, Checks, Bounds, Solves, Trials, Verifie
 use Rattle.ra_words.specs.Jobs.{is_bound_from, is_solve, is_trial, is_verify, is_repair, is_edit, is_slack, slack_says}
 use Rattle.ra_words.specs.Jobs.{drawing_says}
 
--- the form of the words, and none if they are no job
+-- the form of the words, and none if they are not a job
 unfoldable pub form_of : List (List ℕ) → Option Form
 form_of words =
     if is_check words then Some Check
@@ -64,7 +64,7 @@ found_edit found =
     Edits (word_at (plain_of found) 0) (word_at (plain_of found) 1) (word_at (plain_of found) 2)
     (word_at (plain_of found) 3) (first_value found (codes "closed"))
 
--- what is found says, at each form
+-- what the parts of a line say, in each form
 abbrev pub found_says : Form → Found → JobSays
 found_says Check found = found_check found
 found_says Bound found = found_bound found
@@ -75,12 +75,12 @@ found_says Verify found = found_verify found
 found_says Repair found = found_repair found
 found_says Edit found = found_edit found
 
--- what is found of a run: a slack, and lots behind so many files
+-- the parts of a run: a slack, and lots after this number of files
 pub record RunFound (found : Found) (files : ℕ) : Type 0 where
   pub slack : is_slack (first_value found (codes "slack")) ≡ true
   pub lots : are_lots (drop files (plain_of found)) ≡ true
 
--- what is found can be read, at each form
+-- the parts of a line can be read, in each form
 abbrev pub FitsForm : Form → Found → Type 0
 FitsForm Solve found = RunFound found 2
 FitsForm Trial found = is_number (word_at (plain_of found) 0) ≡ true

@@ -76,7 +76,7 @@ abbrev pub is_slack : Option (List ℕ) → Bool
 is_slack None = true
 is_slack (Some text) = is_number text
 
--- the slack is what that number is worth, and 0 if it isn't given
+-- the slack is the value of this number, and 0 if it isn't given
 abbrev pub slack_says : Option (List ℕ) → ℕ
 slack_says None = 0
 slack_says (Some text) = worth text
@@ -86,20 +86,20 @@ abbrev pub is_drawing : Option (List ℕ) → Bool
 is_drawing None = true
 is_drawing (Some text) = bytes_eq text (codes "1") || bytes_eq text (codes "2")
 
--- the drawing is the first at `1`, and the second at `2` and if it isn't given
+-- the drawing is the first for `1`, and the second for `2` and if it isn't given
 abbrev pub drawing_says : Option (List ℕ) → Drawing
 drawing_says None = Two
 drawing_says (Some text) = if bytes_eq text (codes "1") then One else Two
 
--- from a place on `--slack` may stand, and behind it `--closed`
+-- from a place on `--slack` may come, and after it `--closed`
 unfoldable pub closed_place : List (List ℕ) → ℕ → ℕ
 closed_place words place = behind (codes "--slack") words place
 
--- behind these `--draws` may stand
+-- after these `--draws` may come
 unfoldable pub draws_place : List (List ℕ) → ℕ → ℕ
 draws_place words place = behind (codes "--closed") words (closed_place words place)
 
--- behind all options the lots begin
+-- after all options the lots begin
 unfoldable pub lots_place : List (List ℕ) → ℕ → ℕ
 lots_place words place = behind (codes "--draws") words (draws_place words place)
 
@@ -161,7 +161,7 @@ verify_says words =
     (slack_says (slack_text words 4)) (drawing_says (draws_text words 4))
     (map lot_says (lot_words words 4))
 
--- behind `repair` and two file names `--closed` may stand, and behind it the lot
+-- after `repair` and two file names `--closed` may come, and after it the lot
 unfoldable pub lot_place : List (List ℕ) → ℕ
 lot_place words = behind (codes "--closed") words 3
 
@@ -197,7 +197,7 @@ edit_says words =
     Edits (word_at words 1) (word_at words 2) (word_at words 3) (word_at words 4)
     (value_at (codes "--closed") words 5)
 
--- what the words say, and nothing if they are no job
+-- what the words say, and nothing if they are not a job
 unfoldable pub job_of : List (List ℕ) → Option JobSays
 job_of words =
     if is_check words then Some (check_says words)

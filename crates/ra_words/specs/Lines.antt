@@ -1,4 +1,4 @@
--- The lines of words that one command of `clap` takes apart: a line of any job.
+-- The lines of words that one command of `clap` takes apart: a line may be that of any job.
 use Rattle.std.specs.Prelude.{◌≡◌, ℕ, List, [], ◌∷◌, ◌++◌, true, codes, Option, Some, None, option_map, unwrap_or}
 use Rattle.std.specs.List.{list_all}
 use Rattle.std.specs.Option.{option_map_or}
@@ -7,7 +7,7 @@ use Rattle.clap.specs.declared.builder.action.ArgAction.TheVariants.{Append}
 use Rattle.clap.specs.declared.parser.matches.Found.{Found}
 use Rattle.ra_words.specs.Words.{is_name}
 
--- the command word, plain words, the values of the options that are given, and plain words behind them
+-- the command word, plain words, the values of the given options, and plain words after them
 pub record Line : Type 0 where
   pub command : List ℕ
   pub files : List (List ℕ)
@@ -28,7 +28,7 @@ words_of line =
     ++ (option_words (codes "--closed") line.closed
     ++ (option_words (codes "--draws") line.draws ++ line.behind))))
 
--- the words are those of the line, and none behind the command is taken for an option
+-- the words are those of the line, and none after the command looks like an option
 pub record Spells (line : Line) (words : List (List ℕ)) : Type 0 where
   pub is : words ≡ words_of line
   pub files : list_all is_name line.files ≡ true

@@ -25,7 +25,7 @@ first_place separator (byte ∷ bytes) =
 unfoldable pub seed_text : List ℕ → List ℕ
 seed_text word = take (first_place 58 word) word
 
--- the text behind its first colon
+-- the text after its first colon
 unfoldable pub budget_text : List ℕ → List ℕ
 budget_text word = drop (suc (first_place 58 word)) word
 
@@ -45,15 +45,15 @@ unfoldable pub pieces : List ℕ → List (List ℕ)
 pieces [] = [] ∷ []
 pieces (byte ∷ bytes) = if byte == 44 then [] ∷ pieces bytes else in_front byte (pieces bytes)
 
--- the piece that begins at a place: what stands there before the next comma
+-- the piece that begins at a place and ends before the next comma
 unfoldable pub piece_at : List ℕ → ℕ → List ℕ
 piece_at text start = take (first_place 44 (drop start text)) (drop start text)
 
--- the text of the words begins behind `w:`
+-- the text of the words begins after `w:`
 unfoldable pub is_written : List ℕ → Bool
 is_written word = bytes_eq (take 2 word) (codes "w:")
 
--- the pieces behind `w:`
+-- the pieces after `w:`
 unfoldable pub written_pieces : List ℕ → List (List ℕ)
 written_pieces word = pieces (drop 2 word)
 

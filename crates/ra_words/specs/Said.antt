@@ -1,4 +1,4 @@
--- What a job says: the room of its lists is left out.
+-- What a job says. The room of its lists doesn't count.
 use Rattle.std.specs.Prelude.{map}
 use Rattle.ra_draws.specs.declared.sources.Source.{Source}
 use Rattle.ra_draws.specs.declared.sources.Source.TheVariants.{Seed, Written}

@@ -9,7 +9,7 @@ use Rattle.std.specs.declared.alloc.Global.{Global}
 abbrev pub texts : List (String Global) → List (List ℕ)
 texts words = map string_bytes words
 
--- the word at a place, and no bytes behind the last
+-- the word at a place, and no bytes after the last one
 unfoldable pub word_at : List (List ℕ) → ℕ → List ℕ
 word_at words place = slice_index_or words place []
 
@@ -18,15 +18,15 @@ abbrev pub is_name : List ℕ → Bool
 is_name [] = false
 is_name (byte ∷ bytes) = not (byte == 45)
 
--- an option stands at a place
+-- an option is at a place
 unfoldable pub has_option : List ℕ → List (List ℕ) → ℕ → Bool
 has_option option words place = bytes_eq (word_at words place) option
 
--- the value of an option that may stand at a place: the word behind it
+-- the value of an option that may be at a place: the word after it
 unfoldable pub value_at : List ℕ → List (List ℕ) → ℕ → Option (List ℕ)
 value_at option words place =
     if has_option option words place then Some (word_at words (place + 1)) else None
 
--- the place behind an option that may stand at a place, and behind its value
+-- the place after an option that may be at a place, and after its value
 unfoldable pub behind : List ℕ → List (List ℕ) → ℕ → ℕ
 behind option words place = if has_option option words place then place + 2 else place

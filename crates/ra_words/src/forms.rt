@@ -122,7 +122,7 @@ fn is_repair(words: &[String]) -> bool
         && are_lots(words, lot_place(words))
 }
 
-/// Where the lot of a repair stands.
+/// The place of the lot of a repair.
 #[tactic(auto, unfolding(crate::specs::Jobs::lot_place))]
 fn lot_place(words: &[String]) -> usize
     ensures value { result ≡ lot_place (texts words.now) }
@@ -144,7 +144,7 @@ fn is_edit(words: &[String]) -> bool
         && ends_closed(words, 5)
 }
 
-/// Whether from a place on `--closed` and a file name stand, or nothing, and no more words.
+/// Whether `--closed` and a file name come from a place on, or nothing, and no more words.
 #[tactic(auto, unfolding(crate::specs::Jobs::ends_closed))]
 fn ends_closed(words: &[String], place: usize) -> bool
     requires { place ≤ 16 }
@@ -153,7 +153,7 @@ fn ends_closed(words: &[String], place: usize) -> bool
     fits_closed(words, place) && words.len() == behind(words, place, "--closed")
 }
 
-/// Whether from a place on the options stand in their order, and then lots.
+/// Whether the options in their order come from a place on, and then lots.
 #[tactic(auto, unfolding(crate::specs::Jobs::ends_in_lots, crate::specs::Jobs::slack_text, crate::specs::Jobs::closed_text, crate::specs::Jobs::draws_text, crate::specs::Jobs::lot_words))]
 fn ends_in_lots(words: &[String], place: usize) -> bool
     requires { place ≤ 8 }
@@ -165,7 +165,7 @@ fn ends_in_lots(words: &[String], place: usize) -> bool
         && are_lots(words, lots_place(words, place))
 }
 
-/// Where `--closed` may stand: at a place, or behind `--slack` and its value if these stand there.
+/// Where `--closed` may be: at a place, or after `--slack` and its value if they are there.
 #[tactic(auto, unfolding(crate::specs::Jobs::closed_place))]
 fn closed_place(words: &[String], place: usize) -> usize
     requires { place ≤ 8 }
@@ -175,7 +175,7 @@ fn closed_place(words: &[String], place: usize) -> usize
     behind(words, place, "--slack")
 }
 
-/// Where `--draws` may stand, behind these two.
+/// Where `--draws` may be, after these two options.
 #[tactic(auto, unfolding(crate::specs::Jobs::draws_place))]
 fn draws_place(words: &[String], place: usize) -> usize
     requires { place ≤ 8 }
@@ -185,7 +185,7 @@ fn draws_place(words: &[String], place: usize) -> usize
     behind(words, closed_place(words, place), "--closed")
 }
 
-/// Where the lots begin, behind all three options.
+/// Where the lots begin, after all three options.
 #[tactic(auto, unfolding(crate::specs::Jobs::lots_place))]
 fn lots_place(words: &[String], place: usize) -> usize
     requires { place ≤ 8 }
@@ -195,7 +195,7 @@ fn lots_place(words: &[String], place: usize) -> usize
     behind(words, draws_place(words, place), "--draws")
 }
 
-/// Whether a file name stands behind `--closed`, if that option stands at a place.
+/// Whether a file name follows `--closed`, if this option is at a place.
 #[tactic(auto, unfolding(crate::specs::Words::value_at))]
 fn fits_closed(words: &[String], place: usize) -> bool
     requires { place ≤ 16 }
@@ -204,7 +204,7 @@ fn fits_closed(words: &[String], place: usize) -> bool
     !has_option(words, place, "--closed") || names_file(text_at(words, place + 1))
 }
 
-/// Whether a number stands behind `--slack`, if that option stands at a place.
+/// Whether a number follows `--slack`, if this option is at a place.
 #[tactic(auto, unfolding(crate::specs::Words::value_at))]
 fn fits_slack(words: &[String], place: usize) -> bool
     requires { place ≤ 16 }
@@ -213,7 +213,7 @@ fn fits_slack(words: &[String], place: usize) -> bool
     !has_option(words, place, "--slack") || is_number(text_at(words, place + 1).as_bytes())
 }
 
-/// Whether `1` or `2` stands behind `--draws`, if that option stands at a place.
+/// Whether `1` or `2` follows `--draws`, if this option is at a place.
 #[tactic(auto, unfolding(crate::specs::Words::value_at))]
 fn fits_drawing(words: &[String], place: usize) -> bool
     requires { place ≤ 16 }

@@ -27,8 +27,8 @@ pub enum Job {
         changed: Name,
         closed: Option<Name>,
     },
-    /// Print a lower bound on every feasible assignment's cost, of a model with the machines of the list `closed` closed;
-    /// with a list `initial`, on that of every assignment that is feasible from it.
+    /// Print a lower bound on the cost of every feasible assignment of a model, with the machines of the list `closed`
+    /// closed; with a list `initial`, on the cost of every assignment that is feasible from it.
     Bound {
         model: Name,
         initial: Option<Name>,
@@ -77,9 +77,9 @@ pub enum Job {
 /// Why command words are refused.
 #[derive(Clone, Copy, Debug, PartialEq, Eq)]
 pub enum WordsFault {
-    /// The words are no job.
+    /// The words are not a job.
     Usage,
-    /// Memory was refused.
+    /// The system refused memory.
     NoMemory,
 }
 
@@ -131,7 +131,7 @@ fn found_job(alloc: Global, taken: &ArgMatches<'_>, form: Form) -> Result<Job, N
     }
 }
 
-/// The names that stand first in most forms: a model's, its list `initial`'s, and that of the list of machines to close.
+/// The names that come first in most forms: the model, its list `initial`, and the list of machines to close.
 #[derive(Drop)]
 struct Names {
     model: Name,

@@ -1,6 +1,7 @@
 //! The command words: which job a list of words is, with the names of its files and the lots of its workers.
 //!
-//! `read_words` refuses what is no job before it asks for memory; one command of `clap` takes the words of a job apart.
+//! `read_words` refuses words that are not a job before it asks for memory; one command of `clap` takes the words of a
+//! job apart.
 #![tactic(auto)]
 
 mod forms;

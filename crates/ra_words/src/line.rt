@@ -36,7 +36,7 @@ fn line_command<'a>(alloc: Global) -> Result<Command<'a>, AllocError>
     Command::new(alloc, "reassign").args(arguments)
 }
 
-/// The words of a line taken apart. They are judged before, so only memory can be refused.
+/// Takes the words of a line apart. They were judged before, so it can only fail for memory.
 pub(crate) fn take_line<'a>(alloc: Global, words: &'a [String]) -> Result<ArgMatches<'a>, NoMemory>
     requires { (line : Line) × Spells line (texts words.now) }
     ensures { IfOk result (λ taken. (line : Line) → Spells line (texts words.now)
@@ -57,7 +57,7 @@ fn no_memory(error: Error) -> NoMemory
     NoMemory
 }
 
-/// The plain word at a place, and the empty text behind the last.
+/// The plain word at a place, and the empty text after the last one.
 #[tactic(auto, using(crate::proofs::WordLaws::some_plain, crate::proofs::WordLaws::no_plain))]
 pub(crate) fn plain_at<'a>(taken: &ArgMatches<'a>, place: usize) -> &'a str
     ensures { result.now ≡ word_at (plain_of (found_of taken.now)) place }
@@ -79,7 +79,7 @@ pub(crate) fn plain_name(
     Name::make(alloc, plain_at(taken, place))
 }
 
-/// The file that `--closed` names, if it is given.
+/// The file that `--closed` names, if the option is given.
 pub(crate) fn closed_name(alloc: Global, taken: &ArgMatches<'_>) -> Result<Option<Name>, NoMemory>
     ensures { IfOk result (λ name. name ≡ first_value (found_of taken.now) (codes "closed")) }
 {
@@ -89,7 +89,7 @@ pub(crate) fn closed_name(alloc: Global, taken: &ArgMatches<'_>) -> Result<Optio
     }
 }
 
-/// The number that `--slack` gives, and 0 if it isn't given.
+/// The number that `--slack` gives, and 0 if the option isn't given.
 fn slack(taken: &ArgMatches<'_>) -> u64
     requires { is_slack (first_value (found_of taken.now) (codes "slack")) ≡ true }
     ensures { result ≡ slack_says (first_value (found_of taken.now) (codes "slack")) }
@@ -100,7 +100,7 @@ fn slack(taken: &ArgMatches<'_>) -> u64
     }
 }
 
-/// The drawing that `--draws` names, and the second if it isn't given.
+/// The drawing that `--draws` names, and the second one if the option isn't given.
 fn drawing(taken: &ArgMatches<'_>) -> Drawing
     ensures { result ≡ drawing_says (first_value (found_of taken.now) (codes "draws")) }
 {
@@ -110,7 +110,7 @@ fn drawing(taken: &ArgMatches<'_>) -> Drawing
     }
 }
 
-/// The lots that the plain words from a place on say.
+/// The lots in the plain words from a place on.
 pub(crate) fn lots(
     alloc: Global,
     taken: &ArgMatches<'_>,

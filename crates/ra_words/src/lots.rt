@@ -27,7 +27,7 @@ pub(crate) fn are_lots(words: &[String], place: usize) -> bool
     place < words.len() && words.len() - place <= MOST_LOTS && fit_together(words, place)
 }
 
-/// Whether the words from a place on are lots, with budgets that aren't too much together.
+/// Whether the words from a place on are lots whose budgets together aren't too large.
 fn fit_together(words: &[String], place: usize) -> bool
     requires { place ≤ length words.now }
     ensures { result ≡ (list_all is_lot (drop place (texts words.now)) && nat_le
@@ -43,7 +43,7 @@ fn fit_together(words: &[String], place: usize) -> bool
     true
 }
 
-/// How many proposals a lot makes. `None` if a word is no lot.
+/// How many proposals a lot makes. `None` if the word is not a lot.
 #[tactic(auto, unfolding(crate::specs::LotTexts::is_lot, crate::specs::LotTexts::budget_says))]
 fn budget(word: &[u8]) -> Option<u64>
     ensures { result ≡ (if is_lot word.now then Some (budget_says word.now) else None) }
@@ -55,7 +55,7 @@ fn budget(word: &[u8]) -> Option<u64>
     }
 }
 
-/// Whether a lot's words are written out, behind `w:`.
+/// Whether a lot's words are written out, after `w:`.
 #[tactic(auto, unfolding(crate::specs::LotTexts::is_written))]
 fn is_written(word: &[u8]) -> bool
     ensures value { result ≡ is_written word.now }
@@ -64,7 +64,7 @@ fn is_written(word: &[u8]) -> bool
     word.len() >= 2 && word[0] == b'w' && word[1] == b':'
 }
 
-/// How many proposals the written words behind `w:` are for. `None` if they are no lot.
+/// For how many proposals there are words after `w:`. `None` if they are not a lot.
 #[tactic(auto, unfolding(crate::specs::LotTexts::is_written_lot, crate::specs::LotTexts::written_pieces))]
 fn written_budget(word: &[u8]) -> Option<u64>
     requires { 2 ≤ length word.now }
@@ -77,7 +77,7 @@ fn written_budget(word: &[u8]) -> Option<u64>
     }
 }
 
-/// How many proposals stand behind a seed and a colon. `None` if that is no lot.
+/// The number of proposals after a seed and a colon. `None` if the text is not such a lot.
 #[tactic(auto, using(crate::proofs::LotLaws::no_colon, crate::proofs::LotLaws::behind_colon), unfolding(crate::specs::LotTexts::is_seed_lot, crate::specs::LotTexts::seed_text, crate::specs::LotTexts::budget_text))]
 fn seed_budget(word: &[u8]) -> Option<u64>
     ensures { result ≡ (if is_seed_lot word.now then Some
@@ -90,7 +90,7 @@ fn seed_budget(word: &[u8]) -> Option<u64>
     budget_of(text_from(word, colon + 1))
 }
 
-/// The number of proposals that a text gives. `None` if it is no number, or too large.
+/// The number of proposals that a text gives. `None` if it is not a number, or too large.
 fn budget_of(text: &[u8]) -> Option<u64>
     ensures { result ≡ (if is_number text.now && nat_le (worth text.now) 1000000 then Some
         (worth text.now) else None) }
@@ -102,7 +102,7 @@ fn budget_of(text: &[u8]) -> Option<u64>
     }
 }
 
-/// The lots that the words from a place on say.
+/// The lots in the words from a place on.
 pub(crate) fn read_lots(alloc: Global, words: &[&str], place: usize) -> Result<Vec<Lot>, NoMemory>
     requires { are_lots (drop place (map (λ word. word.now) words.now)) ≡ true }
     ensures said { IfOk result (λ lots. map said_lot lots.items ≡
@@ -116,7 +116,7 @@ pub(crate) fn read_lots(alloc: Global, words: &[&str], place: usize) -> Result<V
     Ok(lots)
 }
 
-/// The lot that a word says.
+/// The lot in a word.
 #[tactic(auto, unfolding(crate::specs::LotTexts::lot_says))]
 fn read_lot(alloc: Global, word: &[u8]) -> Result<Lot, NoMemory>
     requires { is_lot word.now ≡ true }
@@ -140,7 +140,7 @@ fn read_source(alloc: Global, word: &[u8]) -> Result<Source, NoMemory>
     Ok(Source::Seed(number(&word[..colon])))
 }
 
-/// The words behind `w:`.
+/// The words after `w:`.
 #[tactic(auto, unfolding(crate::specs::LotTexts::is_written_lot, crate::specs::LotTexts::written_pieces))]
 fn written_words(alloc: Global, word: &[u8]) -> Result<Fixed<u64>, NoMemory>
     requires long { 2 ≤ length word.now }

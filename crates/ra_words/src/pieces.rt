@@ -41,7 +41,7 @@ fn piece_at(text: &[u8], start: usize) -> &[u8]
     &rest[..end]
 }
 
-/// How many numbers a text has, with one comma between two. `None` if another thing stands there.
+/// How many numbers a text has, with one comma between two. `None` if it has anything else.
 #[tactic(auto, using(crate::proofs::PieceLaws::piece_refused, crate::proofs::PieceLaws::piece_accepted, crate::proofs::PieceLaws::piece_counted, crate::proofs::PieceLaws::left_past), unfolding(crate::proofs::PieceLaws::left_from))]
 pub(crate) fn count_numbers(text: &[u8]) -> Option<usize>
     ensures { result ≡ (if list_all is_number (pieces text.now) then Some

@@ -2,7 +2,7 @@ ghost use Rattle.std.specs.Prelude.{◌≡◌, ◌+◌, ◌≤◌, length, map, 
 ghost use Rattle.std.specs.Str.{bytes_eq};
 ghost use Rattle.ra_words.specs.Words.{texts, word_at, is_name, has_option, behind};
 
-/// The word at a place, and the empty text behind the last.
+/// The word at a place, and the empty text after the last one.
 #[tactic(auto, using(crate::proofs::WordLaws::word_read, crate::proofs::WordLaws::word_past), unfolding(crate::specs::Words::word_at))]
 pub(crate) fn text_at(words: &[String], place: usize) -> &str
     ensures { result.now ≡ word_at (texts words.now) place }
@@ -14,7 +14,7 @@ pub(crate) fn text_at(words: &[String], place: usize) -> &str
     }
 }
 
-/// The text at a place, and the empty text behind the last.
+/// The text at a place, and the empty text after the last one.
 #[tactic(auto, using(crate::proofs::WordLaws::str_read, crate::proofs::WordLaws::str_past))]
 pub(crate) fn str_at<'a>(words: &[&'a str], place: usize) -> &'a str
     ensures { result.now ≡ word_at (map (λ word. word.now) words.now) place }
@@ -26,7 +26,7 @@ pub(crate) fn str_at<'a>(words: &[&'a str], place: usize) -> &'a str
     }
 }
 
-/// Whether an option stands at a place.
+/// Whether an option is at a place.
 #[tactic(auto, unfolding(crate::specs::Words::has_option))]
 pub(crate) fn has_option(words: &[String], place: usize, option: &str) -> bool
     ensures { result ≡ has_option option.now (texts words.now) place }
@@ -34,7 +34,7 @@ pub(crate) fn has_option(words: &[String], place: usize, option: &str) -> bool
     text_at(words, place) == option
 }
 
-/// The place behind an option and its value if the option stands at a place, and that place itself if it doesn't.
+/// The place after an option and its value if the option is at a place, and else that place itself.
 #[tactic(auto, unfolding(crate::specs::Words::behind))]
 pub(crate) fn behind(words: &[String], place: usize, option: &str) -> usize
     requires { place ≤ 16 }
@@ -48,7 +48,7 @@ pub(crate) fn behind(words: &[String], place: usize, option: &str) -> usize
     }
 }
 
-/// Whether a word is a file name: not empty, and no option.
+/// Whether a word is a file name: it is not empty, and not an option.
 pub(crate) fn names_file(word: &str) -> bool
     ensures { result ≡ is_name word.now }
 {

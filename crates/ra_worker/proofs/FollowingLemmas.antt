@@ -37,7 +37,7 @@ pub done_unbroken : (st : Situation) (steps : List Step) (cost : ℕ) (verdict :
 done_unbroken st steps cost verdict is done =
     unbroken_if_done st.tables st.start st.here steps is.allowed cost verdict is.judged done
 
--- so what was offered is a move
+-- so what can be weighed is a move
 pub done_moves : (st : Situation) (steps : List Step) (cost : ℕ) (verdict : Verdict) →
     IsJudged st steps verdict → verdict ≡ Done cost → MayMove st steps
 unfolding broken_by

@@ -5,8 +5,8 @@ use Rattle.ra_draws.specs.Drawn.{Drawn}
 use Rattle.ra_draws.specs.Lots.{lot_at}
 use Rattle.ra_journal.specs.Entries.{worker_count, budget, words}
 
--- worker w has made k proposals; the words of the next sixteen are drawn as far as its budget goes, and no later ones:
--- those of proposal n are in place n % 16 of a ring
+-- worker w has made k proposals; the words of the next sixteen are drawn, or fewer if the budget ends before, and no
+-- later ones: those of proposal n are in place n % 16 of a ring
 pub record AreDrawn (l : Lots) (w : ℕ) (drawn : Drawn) (k : ℕ) (ring : List (List ℕ)) : Type 0 where
   pub worker : w < worker_count l
   pub within : k ≤ budget l w

@@ -1,4 +1,4 @@
--- A replica of a worker, which stands for a state of a journal. It keeps no journal.
+-- A replica of a worker, which represents a state of a journal. It keeps no journal.
 use Rattle.std.specs.Prelude.{◌≡◌, ℕ, ◌+◌, ◌<◌, ◌≤◌, ◌==◌, List, length}
 use Rattle.ra_base.specs.Sums.{one_if}
 use Rattle.ra_base.specs.declared.ids.Machine.{Machine}
@@ -22,11 +22,11 @@ tables_at r = r.world.tables
 abbrev pub start_at : Replica → List Machine
 start_at r = r.world.start
 
--- the assignment for which it stands
+-- the assignment that the replica represents
 abbrev pub here_at : Replica → List Machine
 here_at r = r.world.here
 
--- the lots of the workers, and which of them its own is
+-- the lots of the workers, and the number of the replica's worker
 abbrev pub lots_at : Replica → Lots
 lots_at r = r.proposals.lots.now
 
@@ -44,7 +44,7 @@ budget_at r = budget r.proposals.lots.now r.proposals.worker
 abbrev pub place_at : Replica → ℕ
 place_at r = r.place
 
--- the plan of a proposal of its worker, made at its place for the words and the allowance of that
+-- the plan of a proposal of its worker, made at its place for the words and the allowance of this proposal
 pub record IsPlanAt (r : Replica) (k : ℕ) (plan : Plan) : Type 0 where
   pub place : plan.q ≡ place_at r
   pub number : plan.k ≡ k
@@ -53,11 +53,12 @@ pub record IsPlanAt (r : Replica) (k : ℕ) (plan : Plan) : Type 0 where
       (allowed (lots_at r) (worker_at r) k)
   pub weighed : plan.weighed ≡ weighed_of r.world plan.mv.steps
 
--- that of the next one
+-- the plan of its worker's next proposal
 abbrev pub IsNextPlan : Replica → Plan → Type 0
 IsNextPlan r = IsPlanAt r (next_at r)
 
--- a replica has taken in one entry: its place has grown by one, and its worker's number if the entry is that worker's
+-- a replica has taken in one entry: its place has grown by one, and so has its worker's number if the entry is that
+-- worker's
 pub record HasFollowed (before after : Replica) (e : Entry) : Type 0 where
   pub assignment : here_at after ≡ after_made (here_at before) (made_by e)
   pub instance : tables_at after ≡ tables_at before
@@ -78,7 +79,7 @@ pub record IsAt (i : Tables) (a0 : List Machine) (l : Lots) (h : List Entry) (r 
     pub state : here_at r ≡ state a0 h (place_at r)
     pub number : next_at r ≡ entries_of h (place_at r) (worker_at r)
 
--- entries are those of a journal from a place on, one after another
+-- entries are consecutive entries of a journal from a place on
 pub record ArePartOf (h : List Entry) (at : ℕ) (entries : List Entry) : Type 0 where
   pub within : at + length entries ≤ length h
   pub each : (j : ℕ) → j < length entries → entry_at entries j ≡ entry_at h (at + j)
@@ -89,13 +90,13 @@ pub record AreNext (r : Replica) (entries h : List Entry) : Type 0 where
   pub here : IsAt (tables_at r) (start_at r) (lots_at r) h r
   pub part : ArePartOf h (place_at r) entries
 
--- they are so of some journal
+-- they are the next entries of some journal
 pub record AreTold (r : Replica) (entries : List Entry) : Type 0 where
   pub journal : List Entry
   pub next : AreNext r entries journal
 
 -- a replica has taken in the first n of these entries: its place has grown by n, and it is at a state of each legal
--- journal that they are next of
+-- journal whose next entries they are
 pub record HasTaken (before after : Replica) (entries : List Entry) (n : ℕ) : Type 0 where
   pub instance : tables_at after ≡ tables_at before
   pub initial : start_at after ≡ start_at before
@@ -105,8 +106,8 @@ pub record HasTaken (before after : Replica) (entries : List Entry) (n : ℕ) : 
   pub at : (h : List Entry) → AreNext before entries h
       → IsAt (tables_at before) (start_at before) (lots_at before) h after
 
--- a replica is at a state of a journal, whose entries from its place on, before another place, are refused; one of
--- these is its worker's
+-- a replica is at a state of a journal; the journal's entries from the replica's place on, before another place, are
+-- refused; one of these is its worker's
 pub record ArePassed (r : Replica) (to : ℕ) (h : List Entry) : Type 0 where
   pub here : IsAt (tables_at r) (start_at r) (lots_at r) h r
   pub from : place_at r ≤ to
@@ -114,8 +115,8 @@ pub record ArePassed (r : Replica) (to : ℕ) (h : List Entry) : Type 0 where
   pub refused : AreRefused h (place_at r) to
   pub own : entries_of h to (worker_at r) ≡ next_at r + 1
 
--- a replica has passed over the entries before a place: it stands for the assignment for which it stood, and is at a
--- state of each journal of which that is so
+-- a replica has skipped the entries before a place: its assignment is unchanged, and it is at a state of each journal
+-- that allowed this
 pub record HasPassed (before after : Replica) (to : ℕ) : Type 0 where
   pub instance : tables_at after ≡ tables_at before
   pub initial : start_at after ≡ start_at before

@@ -13,6 +13,6 @@ has_used l h w = nat_le (budget l w) (next_number h w)
 unfoldable pub is_behind : List Entry → ℕ → ℕ → Bool
 is_behind h w q = nat_lt (entries_of h q w) (next_number h w)
 
--- such a worker is skipped
+-- worker w hands nothing in: it has used its budget, or has an entry at place q or later
 unfoldable pub is_skipped : Lots → List Entry → ℕ → ℕ → Bool
 is_skipped l h w q = has_used l h w || is_behind h w q

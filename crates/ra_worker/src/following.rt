@@ -8,7 +8,7 @@ use ra_moves::{Move, Verdict};
 use ra_world::World;
 use std::sync::ledger::Ledger;
 
-/// Takes an entry into a world: its move is applied if it is done.
+/// Takes an entry into a world: follows its move if it is done.
 pub(crate) fn follow<L: Ledger>(
     world: &mut World<'_>,
     mv: &Move,

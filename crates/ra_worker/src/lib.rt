@@ -1,5 +1,5 @@
-//! A worker's replica, on which it plans its proposals and into which it takes the entries of the journal. It knows of the
-//! journal what it is told.
+//! A worker's replica, on which it plans its proposals and into which it takes the entries of the journal. It knows
+//! only those entries of the journal that it was given.
 #![tactic(auto)]
 
 mod following;

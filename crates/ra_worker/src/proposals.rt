@@ -36,7 +36,7 @@ impl<'a> Proposals<'a> {
         }
     }
 
-    /// The next proposal is made.
+    /// Goes on to the next proposal.
     pub(crate) fn advance(&mut self)
         requires { self.old.number < budget self.old.lots.now self.old.worker }
         ensures lots { self.new.lots.now ≡ self.old.lots.now }
@@ -70,7 +70,7 @@ impl<'a> Proposals<'a> {
     }
 }
 
-/// The words of the first sixteen proposals, as far as the budget goes.
+/// The words of the first sixteen proposals, or of fewer if the budget is smaller.
 fn draw_first(draws: &mut Draws<'_>, lot: &Lot) -> [[u64; 8]; 16]
     requires lot { draws.old.lot ≡ lot.now }
     requires made { draws.old.made ≡ 0 }
@@ -87,7 +87,7 @@ fn draw_first(draws: &mut Draws<'_>, lot: &Lot) -> [[u64; 8]; 16]
     ring
 }
 
-/// The words of a proposal, if it is one of the budget; the words before it are drawn already.
+/// The words of a proposal, if the budget includes it; the words before it are drawn already.
 fn draw(draws: &mut Draws<'_>, lot: &Lot, number: u64) -> [u64; 8]
     requires lot { draws.old.lot ≡ lot.now }
     requires drawn { number < lot.now.budget → draws.old.made ≡ number }

@@ -9,7 +9,7 @@ use ra_journal::Journal;
 use ra_world::World;
 use std::sync::ledger::Ledger;
 
-/// Brings a world that stands at the initial assignment of a journal to the state at a place of the journal.
+/// Brings a world of the initial assignment of a journal to the state at a place of the journal.
 pub fn replay<'a, L: Ledger>(
     journal: &Journal<'a>,
     upto: u64,
@@ -28,7 +28,7 @@ pub fn replay<'a, L: Ledger>(
     }
 }
 
-/// Brings the state at a place to the next.
+/// Brings the state at a place to the next place.
 fn replay_entry<L: Ledger>(
     journal: &Journal<'_>,
     at: u64,

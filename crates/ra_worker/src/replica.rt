@@ -22,15 +22,15 @@ use ra_world::World;
 use std::alloc::Global;
 use std::sync::ledger::Ledger;
 
-/// What a worker has of its own: the world, which it brings from one state of the journal to the next, and its
-/// proposals. It knows of the journal what it was told in batches.
+/// A worker's own data: the world, which it brings from one state of the journal to the next, and its proposals. It
+/// knows only those entries of the journal that it was given in batches.
 pub struct Replica<'a> {
     world: World<'a>,
     proposals: Proposals<'a>,
     place: u64,
 }
 
-/// Lets all lists go in one call, so that the end of an owner is short to prove.
+/// Frees all lists in one call, so that the end of an owner is short to prove.
 impl Drop for Replica<'_> {
     fn drop(self) {
         let Replica {
@@ -42,7 +42,7 @@ impl Drop for Replica<'_> {
 }
 
 impl<'a> Replica<'a> {
-    /// The replica of a worker at place 0, over an initial assignment that is feasible, whose cost has these parts.
+    /// The replica of a worker at place 0, over a feasible initial assignment whose cost has these parts.
     pub fn make(
         alloc: Global,
         inst: &'a Instance,
@@ -68,7 +68,7 @@ impl<'a> Replica<'a> {
         })
     }
 
-    /// How many entries it has taken in.
+    /// How many entries the replica has taken in.
     pub fn place(&self) -> u64
         ensures { result ≡ place_at self.now }
     {
@@ -111,7 +111,8 @@ impl<'a> Replica<'a> {
         self.proposals.lots
     }
 
-    /// Plans its worker's next proposal, with its number and with how many entries it has taken in.
+    /// Plans its worker's next proposal. The plan has the proposal's number, and how many entries the replica has taken
+    /// in.
     pub fn offer<L: Ledger>(&self, steps: &mut Steps<L>) -> Plan
         requires left { next_at self.now < budget_at self.now }
         ensures next { IsNextPlan self.now result }
@@ -123,8 +124,8 @@ impl<'a> Replica<'a> {
         self.offer_at(self.proposals.number, steps)
     }
 
-    /// Plans one of its worker's next sixteen proposals, as if no move were done before it: with its number and with how
-    /// many entries it has taken in.
+    /// Plans one of its worker's next sixteen proposals, as if no move were done before it. The plan has the proposal's
+    /// number, and how many entries the replica has taken in.
     pub fn offer_at<L: Ledger>(&self, number: u64, steps: &mut Steps<L>) -> Plan
         requires from { next_at self.now ≤ number }
         requires near { number < next_at self.now + 16 }
@@ -148,8 +149,8 @@ impl<'a> Replica<'a> {
         )
     }
 
-    /// Whether it is known at once that one of its worker's plans is refused wherever it is recorded while its guards are
-    /// untouched.
+    /// Whether it is known at once that one of its worker's plans is refused wherever it is recorded, as long as its
+    /// guards are untouched.
     pub fn is_refused(&self, plan: &Plan) -> bool
         requires { plan.now.k < budget_at self.now }
         ensures { result ≡ true → IsRefused (tables_at self.now)
@@ -163,7 +164,7 @@ impl<'a> Replica<'a> {
         )
     }
 
-    /// Takes in the next entries of the journal. It stands for the state behind them afterwards.
+    /// Takes in the next entries of the journal. After that it represents the state after them.
     pub fn take_in<L: Ledger>(&mut self, batch: &Batch, steps: &mut Steps<L>)
         requires told { AreTold self.old batch.now }
         ensures { HasTaken self.old self.new batch.now (length batch.now) }
@@ -176,7 +177,7 @@ impl<'a> Replica<'a> {
         }
     }
 
-    /// Passes over entries of the journal up to a place. They are refused, so they change nothing, and one of them is its
+    /// Skips entries of the journal up to a place. They are refused, so they change nothing, and one of them is its
     /// worker's next proposal.
     pub fn pass_over(&mut self, to: u64)
         requires left { next_at self.old < budget_at self.old }
@@ -186,7 +187,7 @@ impl<'a> Replica<'a> {
         self.place = to;
     }
 
-    /// Takes in one entry, which was judged at the state for which it stands.
+    /// Takes in one entry, which was judged at the state that the replica represents.
     pub fn take_entry<L: Ledger>(&mut self, entry: &Entry, steps: &mut Steps<L>)
         requires judged { IsJudged self.old.world entry.now.mv.steps entry.now.verdict }
         requires left { entry.now.worker ≡ worker_at self.old →
@@ -200,7 +201,7 @@ impl<'a> Replica<'a> {
     }
 }
 
-/// Counts an entry of a worker, if that is the worker of these proposals.
+/// Counts an entry, if its worker is the one of these proposals.
 fn count_own(proposals: &mut Proposals<'_>, worker: u32)
     requires left { worker ≡ proposals.old.worker →
         proposals.old.number < budget proposals.old.lots.now proposals.old.worker }

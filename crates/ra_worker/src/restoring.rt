@@ -6,7 +6,8 @@ use ra_base::Assignment;
 use ra_journal::Journal;
 use ra_moves::{Verdict, apply};
 
-/// Brings an assignment from the initial one of a journal to the state at a place of the journal: `replay` without a world.
+/// Brings an assignment from the initial one of a journal to the state at a place of the journal. It does what `replay`
+/// does, without a world.
 pub fn restore(journal: &Journal<'_>, upto: u64, best: &mut Assignment)
     requires at_start { best.old.items ≡ start_in journal.now }
     requires within { upto ≤ length (entries_in journal.now) }
@@ -19,7 +20,7 @@ pub fn restore(journal: &Journal<'_>, upto: u64, best: &mut Assignment)
     }
 }
 
-/// Brings the state at a place to the next.
+/// Brings the state at a place to the next place.
 fn restore_entry(journal: &Journal<'_>, at: u64, best: &mut Assignment)
     requires here { best.old.items ≡
         state (start_in journal.now) (entries_in journal.now) at }

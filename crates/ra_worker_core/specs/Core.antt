@@ -32,7 +32,7 @@ pub record Turn : Type 0 where
   pub journal : List Entry
   pub reply : CoreReply
 
--- a worker is answered
+-- the turn after an answer to a worker
 unfoldable pub answered : Committed → Turn
 answered done = record { journal = done.journal; reply = Answer done.reply }
 
@@ -42,7 +42,7 @@ turn i a0 l h w q =
     if is_skipped l h w q then record { journal = h; reply = Skipped }
     else answered (committed i a0 l h w q)
 
--- a core after an event, and the reply
+-- the core after an event, and the reply
 pub record Stepped : Type 0 where
   pub after : Core
   pub reply : CoreReply
@@ -62,7 +62,7 @@ handed_in i a0 l c w =
     let t = turn i a0 l c.journal w (place_of c w) in
     record { after = record { journal = t.journal; places = c.places }; reply = t.reply }
 
--- one event
+-- the core and the reply after one event
 unfoldable pub step : Tables → List Machine → Lots → Core → CoreEvent → Stepped
 step i a0 l c (CatchUp w) = caught_up c w
 step i a0 l c (Commit w) = handed_in i a0 l c w
@@ -77,7 +77,7 @@ core_after i a0 l c events zero = c
 core_after i a0 l c events (suc n) =
     (step i a0 l (core_after i a0 l c events n) (event_at events n)).after
 
--- the replies to them
+-- the replies to the first n events
 unfoldable pub replies_to : Tables → List Machine → Lots → Core → List CoreEvent → ℕ
     → List CoreReply
 replies_to i a0 l c events zero = []

@@ -1,4 +1,4 @@
--- The replicas of all workers, in order, which with a journal are the core of a run.
+-- The replicas of all workers, in order. With a journal they are the core of a run.
 use Rattle.std.specs.Prelude.{◌≡◌, ℕ, ◌<◌, List, length, map, slice_index_or}
 use Rattle.ra_base.specs.declared.ids.Machine.{Machine}
 use Rattle.ra_draws.specs.declared.budgets.Lots.{Lots}
@@ -22,6 +22,6 @@ pub record AreAt (i : Tables) (a0 : List Machine) (l : Lots) (h : List Entry)
   pub each : (w : ℕ) (r : Replica) → w < length replicas → slice_index_or replicas w r ≡ r
       → IsAtOf i a0 l h w r
 
--- the core that a journal and the replicas are
+-- the core that consists of a journal and the replicas' places
 unfoldable pub core_of : List Entry → List Replica → Core
 core_of h replicas = record { journal = h; places = map (λ (r : Replica). r.place) replicas }

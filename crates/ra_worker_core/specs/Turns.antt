@@ -15,7 +15,7 @@ StandsIn j r = IsAt (tables_in j) (start_in j) (lots_in j) (entries_in j) r
 abbrev pub StandIn : Journal → List Replica → Type 0
 StandIn j rs = AreAt (tables_in j) (start_in j) (lots_in j) (entries_in j) rs
 
--- the core that a journal and the replicas are
+-- the core that consists of a journal and the replicas' places
 abbrev pub core_in : Journal → List Replica → Core
 core_in j rs = core_of (entries_in j) rs
 
@@ -23,7 +23,7 @@ core_in j rs = core_of (entries_in j) rs
 abbrev pub turn_in : Journal → ℕ → ℕ → Turn
 turn_in j w q = turn (tables_in j) (start_in j) (lots_in j) (entries_in j) w q
 
--- a journal is over the same instance with its topology, the same initial assignment and the same lots as another
+-- a journal has the same instance with its topology, the same initial assignment and the same lots as another
 pub record IsOverSame (old new : Journal) : Type 0 where
   pub instance : instance_in new ≡ instance_in old
   pub topology : topology_in new ≡ topology_in old

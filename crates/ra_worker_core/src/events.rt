@@ -3,10 +3,10 @@ ghost use Rattle.ra_worker_core.specs.Core.{worker_of};
 
 use ra_journal::Reply;
 
-/// What happens to the core of a run: a worker takes its turn with the journal.
+/// An event of the core of a run: a worker takes its turn with the journal.
 #[derive(Clone, Copy, Debug, PartialEq, Eq)]
 pub enum CoreEvent {
-    /// A worker takes in the entries that it has not taken in, 1,024 of them at most.
+    /// A worker takes in the entries that are new to it, at most 1,024 of them.
     CatchUp { worker: u32 },
     /// A worker plans its next proposal and hands it in.
     Commit { worker: u32 },
@@ -25,10 +25,10 @@ impl CoreEvent {
     }
 }
 
-/// What a worker is answered.
+/// The answer to a worker.
 #[derive(Clone, Copy, Debug, PartialEq, Eq)]
 pub enum CoreReply {
-    /// It has taken in so many entries.
+    /// It has taken in this number of entries.
     Took { count: u64 },
     /// The answer to its plan.
     Answer { reply: Reply },

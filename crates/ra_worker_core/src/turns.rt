@@ -14,7 +14,7 @@ use std::marker::Brand;
 use std::sync::ledger::{Blank, Ledger};
 
 /// A worker takes in the entries up to a place of the journal, plans its next proposal there and hands it in, unless it
-/// has used its budget or has an entry at that place or behind it. The place is not before the one where it stands.
+/// has used its budget or has an entry at that place or after it. The place is not before the worker's present one.
 pub fn take_turn_at<'a>(
     journal: &mut Journal<'a>,
     replicas: &mut Vec<Replica<'a>>,
@@ -59,7 +59,7 @@ fn follow_to<'a, L: Ledger>(
     }
 }
 
-/// A replica takes in the entries that it has not taken in, 1,024 of them at most. Their number is told.
+/// A replica takes in the entries that are new to it, at most 1,024 of them. Gives their number.
 pub fn catch_up<'a, L: Ledger>(
     journal: &Journal<'a>,
     replica: &mut Replica<'a>,

@@ -1,4 +1,5 @@
--- The plans that a worker makes ahead: they stand as long as nothing is done, and are handed in at the replica's place.
+-- The plans that a worker makes ahead: they are right as long as no move is done, and are handed in at the replica's
+-- place.
 use Rattle.std.proofs.Common.{◌≡◌, ℕ, zero, suc, ◌+◌, ◌<◌, ◌≤◌, Bool, true, false, List, slice_index_or, refl, sym, ap}
 use Rattle.std.proofs.Common.{◌∙◌, subst, arith, ⊎_elim}
 use Rattle.std.proofs.lemmas.Bool.{cases_lt}
@@ -35,7 +36,7 @@ ahead_placed r n before after place are placed =
           subst (λ (p : Plan). IsPlanAt r (n + j) p) (sym (kept j d)) (are.each j d (omega (arith, there, placed.made)));
     }
 
--- they stand after entries were passed over
+-- they are right after entries were skipped
 plan_passed : (r s : Replica) (to k : ℕ) (plan : Plan) → HasPassed r s to → IsPlanAt r k (moved_to (place_at r) plan) →
     IsPlanAt s k (moved_to (place_at s) plan)
 plan_passed r s to k plan passed is =
@@ -70,7 +71,7 @@ ahead_same r n a b are plans made = record {
       (are.each j d (omega (arith, there, made)));
 }
 
--- the next plan of a round that stands is the plan of the next proposal
+-- the next plan of a round that is right is the plan of the next proposal
 next_at_place : (r : Replica) (n i : ℕ) (a b : Ahead) (first plan : Plan) → Stands r n first a → a.at ≡ i →
     a.at ≤ a.made → HasPlaced a b (place_at r) → (b.at ≡ 0 → plan ≡ first) →
     ((j : ℕ) → j + 1 ≡ b.at → plan ≡ ahead_at b j plan) → IsNextPlan r plan
@@ -95,7 +96,7 @@ pub round_left : (r : Replica) (n : ℕ) (first : Plan) (a : Ahead) → Stands r
     next_at r < budget_at r
 round_left r n first a stands within = omega (arith, stands.next, stands.later.within, within)
 
--- after a quiet turn the round stands
+-- after a quiet turn the rest of the round is right
 round_stands : (r s : Replica) (n place to : ℕ) (first : Plan) (a b c : Ahead) → Stands r n first a →
     HasPlaced a b place → HasPassed r s to → c.plans ≡ b.plans → c.made ≡ b.made → c.at ≡ b.at + 1 → Stands s n first c
 round_stands r s n place to first a b c stands placed passed plans made at = record {
@@ -105,7 +106,7 @@ round_stands r s n place to first a b c stands placed passed plans made at = rec
       (ahead_same r (n + 1) b c (ahead_placed r (n + 1) a b place stands.later placed) plans made);
 }
 
--- and after any turn, if a plan of it is left
+-- the round is right after any turn, if a plan of it is left
 pub round_handed : (r s : Replica) (n place : ℕ) (quiet : Bool) (first : Plan) (a b c : Ahead) → Stands r n first a →
     HasPlaced a b place → (quiet ≡ true → HasPassed r s (place_at s)) → c.plans ≡ b.plans → c.made ≡ b.made →
     (quiet ≡ true → c.at ≡ b.at + 1) → (quiet ≡ false → c.made < c.at) → c.at ≤ c.made → Stands s n first c

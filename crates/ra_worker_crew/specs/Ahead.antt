@@ -1,15 +1,15 @@
--- What a worker plans ahead: the plans of the proposals after its next one, which stand as long as nothing is done.
+-- What a worker plans ahead: the plans of the proposals after its next one, which are right as long as no move is done.
 use Rattle.std.specs.Prelude.{◌≡◌, ℕ, ◌+◌, ◌<◌, ◌≤◌, slice_index_or}
 use Rattle.ra_moves.specs.declared.verdicts.Plan.{Plan}
 use Rattle.ra_worker.specs.declared.replica.Replica.{Replica}
 use Rattle.ra_worker.specs.Replicas.{place_at, next_at, budget_at, IsPlanAt, IsNextPlan}
 use Rattle.ra_worker_crew.specs.declared.ahead.Ahead.{Ahead}
 
--- the same plan, handed in at a place
+-- a plan, handed in at a later place
 abbrev pub moved_to : ℕ → Plan → Plan
 moved_to place plan = record plan { q = place }
 
--- plan j of those that were made ahead, or another one past their end
+-- plan j of those that were made ahead, and past their end another one
 abbrev pub ahead_at : Ahead → ℕ → Plan → Plan
 ahead_at ahead j other = slice_index_or ahead.plans j other
 
@@ -39,7 +39,7 @@ pub record AreAhead (r : Replica) (n : ℕ) (ahead : Ahead) : Type 0 where
       (j : ℕ) (d : Plan) → j < ahead.made
       → IsPlanAt r (n + j) (moved_to (place_at r) (ahead_at ahead j d))
 
--- the plans of a round, whose plan 0 is of proposal n, stand: the next of them is of the replica's next proposal
+-- the plans of a round, whose plan 0 is of proposal n, are right: the next of them is of the replica's next proposal
 pub record Stands (r : Replica) (n : ℕ) (first : Plan) (ahead : Ahead) : Type 0 where
   pub next : next_at r ≡ n + ahead.at
   pub fresh : ahead.at ≡ 0 → IsNextPlan r first

@@ -1,4 +1,4 @@
--- The run of 1 to 16 workers, when it has ended.
+-- The run of 1 to 16 workers, after it has ended.
 use Rattle.std.specs.Prelude.{◌≡◌, List}
 use Rattle.ra_base.specs.declared.ids.Machine.{Machine}
 use Rattle.ra_draws.specs.declared.budgets.Lots.{Lots}

@@ -10,8 +10,8 @@ use Rattle.ra_shared.specs.Shares.{start_of, IsAtRest}
 use Rattle.ra_worker.specs.Replicas.{IsAt, ArePassed}
 use Rattle.ra_worker_crew.specs.declared.worker.Worker.{Worker}
 
--- a worker that has no turn: its pass is at rest, and its replica is the same worker's, at a state of what that has
--- seen
+-- a worker outside its turns: its pass is at rest, and its replica is the same worker's, at a state of what the pass
+-- has seen
 pub record IsAtWork (s : Shared) (w : Worker) : Type 0 where
   pub rest : IsAtRest s w.pass
   pub same : w.replica.proposals.worker ≡ w.pass.number
@@ -19,26 +19,26 @@ pub record IsAtWork (s : Shared) (w : Worker) : Type 0 where
       IsAt (start_of s).inst.tables (start_of s).a0.items (start_of s).lots (seen_by w.pass)
       w.replica
 
--- it has taken in all that it has made
+-- it has taken in all entries that it has made
 pub record HasOwn (w : Worker) : Type 0 where
   pub number : w.replica.proposals.number ≡ length (made_by w.pass)
 
--- an entry that it has seen: all that it has made stands there or before
+-- an entry that it has seen: no entry of its own comes after that place
 pub record IsBehind (shown : ℕ) (w : Worker) : Type 0 where
   pub within : shown < length (seen_by w.pass)
   pub own : entries_of (seen_by w.pass) (shown + 1) w.pass.number ≡ length (made_by w.pass)
 
--- it has so many turns to spare, and one for each proposal of the run that it has not taken in
+-- it has this number of turns to spare, and one for each proposal of the run that it has not taken in
 pub record HasRoom (s : Shared) (spare : ℕ) (w : Worker) : Type 0 where
   pub turns : proposal_count (start_of s).lots + spare ≤ w.pass.left + w.replica.place
 
--- of the same worker: each turn that it has taken brought its place on by one at least
+-- for the same worker: each turn that it has taken advanced its place by at least one
 pub record HasTurned (before after : Worker) : Type 0 where
   pub number : after.pass.number ≡ before.pass.number
   pub turns : before.pass.left + before.replica.place ≤ after.pass.left + after.replica.place
   pub fewer : after.pass.left ≤ before.pass.left
 
--- of the same worker: it has taken a turn, and as many turns at most as its place was brought on
+-- for the same worker: it has taken a turn, and at most as many turns as its place advanced
 pub record HasMoved (before after : Worker) : Type 0 where
   pub number : after.pass.number ≡ before.pass.number
   pub turns : before.pass.left + before.replica.place ≤ after.pass.left + after.replica.place
@@ -54,7 +54,7 @@ pub record MayGoOn (s : Shared) (w : Worker) : Type 0 where
 pub record HasNext (w : Worker) : Type 0 where
   pub next : w.batch ≡ batch_from (seen_by w.pass) w.replica.place
 
--- what it has seen and not taken in is refused, and one entry of that is its own
+-- what it has seen and not taken in is refused, and one entry of it is its own
 abbrev pub IsQuiet : Worker → Type 0
 IsQuiet w = ArePassed w.replica (length (seen_by w.pass)) (seen_by w.pass)
 

@@ -4,8 +4,8 @@ ghost use Rattle.ra_worker_crew.specs.Ahead.{ahead_at, HasAdded, HasPlaced};
 use ra_base::{Machine, Process};
 use ra_moves::{Move, Plan, Step, Weighed};
 
-/// What a worker has planned ahead. A round is a plan of its next proposal and those that are made ahead with it, of the
-/// proposals after that; once something is done the rest of them is dropped.
+/// What a worker has planned ahead. A round consists of a plan of its next proposal and of the plans of the proposals
+/// after it that are made ahead. As soon as a move is done the rest of the round is dropped.
 #[derive(Drop)]
 pub(crate) struct Ahead {
     pub(crate) plans: [Plan; 15],
@@ -13,13 +13,14 @@ pub(crate) struct Ahead {
     pub(crate) made: u64,
     /// Which plan of this round comes next. Plan 0 is the one that was not made ahead.
     pub(crate) at: u64,
-    /// How many are made ahead in the next round at most, and in any.
+    /// At most how many plans are made ahead in the next round, and in any round.
     most: u64,
     limit: u64,
 }
 
 impl Ahead {
-    /// Room for what one of so many workers plans ahead. A round has at most 16 plans, and one if the worker is alone.
+    /// Room for what one of this number of workers plans ahead. A round has at most 16 plans, and one if the worker is
+    /// alone.
     pub(crate) fn make(workers: u32) -> Ahead {
         let limit = if workers == 1 { 0 } else { 15 };
         Ahead {
@@ -31,7 +32,7 @@ impl Ahead {
         }
     }
 
-    /// Begins a round, and tells how many plans are made ahead in it at most.
+    /// Begins a round, and gives how many plans are made ahead in it at most.
     pub(crate) fn begin(&mut self) -> u64
         ensures few { result ≤ 15 }
         ensures none { self.new.made ≡ 0 }
@@ -59,7 +60,7 @@ impl Ahead {
         self.at <= self.made
     }
 
-    /// The next plan is handed in at a place. Plan 0 has that place.
+    /// Gives the next plan the place at which it is handed in. Plan 0 has this place already.
     pub(crate) fn place_next(&mut self, place: u64)
         requires { self.old.at ≤ 15 }
         ensures { HasPlaced self.old self.new place }
@@ -69,7 +70,7 @@ impl Ahead {
         }
     }
 
-    /// The next plan of this round, whose plan 0 is this.
+    /// The next plan of this round, whose plan 0 is `first`.
     pub(crate) fn next<'p>(&'p self, first: &'p Plan) -> &'p Plan
         requires { self.now.at ≤ 15 }
         ensures first { self.now.at ≡ 0 → result.now ≡ first.now }
@@ -83,8 +84,8 @@ impl Ahead {
         }
     }
 
-    /// The next plan was handed in. If the turn wasn't quiet the rest are dropped. The next round may be half as long if
-    /// some were, and one plan longer if none were.
+    /// Notes that the next plan was handed in. If the turn wasn't quiet, the rest of the round is dropped. The next
+    /// round may be half as long if some plans were dropped, and one plan longer if none were.
     pub(crate) fn move_on(&mut self, quiet: bool)
         requires next { self.old.at ≤ self.old.made }
         requires few { self.old.made ≤ 15 }
@@ -103,7 +104,7 @@ impl Ahead {
     }
 }
 
-/// A plan, for where there is none.
+/// A plan that fills unused places.
 fn blank() -> Plan {
     let step = Step {
         process: Process(0),

@@ -22,8 +22,8 @@ use std::alloc::Global;
 use std::sync::Wait;
 use std::thread::Threads;
 
-/// The workers of a run before they begin, one for each lot, with the journal that they share. No memory is taken once it
-/// is made.
+/// The workers of a run before they begin, one for each lot, with the journal that they share. Once it is made it takes
+/// no memory.
 #[derive(Drop)]
 pub struct Crew<'a> {
     shared: Shared<'a>,
@@ -34,7 +34,7 @@ pub struct Crew<'a> {
 }
 
 impl<'a> Crew<'a> {
-    /// The workers of these lots, over an initial assignment that is feasible, whose cost has these parts.
+    /// The workers of these lots, over a feasible initial assignment whose cost has these parts.
     pub fn make(
         alloc: Global,
         inst: &'a Instance,
@@ -58,8 +58,8 @@ impl<'a> Crew<'a> {
         })
     }
 
-    /// Runs all workers, each in a thread of its own, until each has used its budget, and gives the journal. Each passes
-    /// the gate between making a plan and committing it. It may wait.
+    /// Runs all workers, each in a thread of its own, until each has used its budget, and gives the journal. Each
+    /// worker passes the gate between making a plan and committing it. It may wait for others.
     pub fn run<R: Threads + Wait + Sync, G: Gate>(self, rt: &R, gate: &G) -> Journal<'a>
         ensures opened { opening_of_journal result ≡ start_of self.entry.shared }
         ensures whole { Whole (lots_in result) (entries_in result) }
@@ -75,7 +75,7 @@ impl<'a> Crew<'a> {
     }
 }
 
-/// A worker for each pass, in order, at place 0. It takes all passes, and leaves their room.
+/// A worker for each pass, in order, at place 0. It takes all passes, and keeps the room of their list.
 fn make_workers<'a>(
     alloc: Global,
     inst: &'a Instance,

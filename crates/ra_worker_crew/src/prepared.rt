@@ -22,8 +22,8 @@ use std::marker::Sync;
 use std::sync::Wait;
 use std::thread::Threads;
 
-/// All that a run of 1 to 16 workers needs: the workers with the journal that they share, an assignment that becomes the
-/// best state, and tables in which the parts of its cost are summed. Only `make` takes memory.
+/// All that a run of 1 to 16 workers needs: the workers with the journal that they share, an assignment that becomes
+/// the best state, and tables for summing the parts of its cost. Only `make` takes memory.
 #[derive(Drop)]
 pub struct Prepared<'a> {
     inst: &'a Instance,
@@ -38,8 +38,8 @@ pub struct Prepared<'a> {
 }
 
 impl<'a> Prepared<'a> {
-    /// Takes all memory of a run from an initial assignment that is feasible, whose cost has these parts. It is refused
-    /// if there is too little of it.
+    /// Takes all memory of a run, over a feasible initial assignment whose cost has these parts. It fails if there is
+    /// too little memory.
     pub fn make(
         alloc: Global,
         inst: &'a Instance,
@@ -66,8 +66,8 @@ impl<'a> Prepared<'a> {
         })
     }
 
-    /// Makes all proposals of all workers, each worker in a thread of its own, and finds the first of the states of least
-    /// cost. Each worker passes the gate between making a plan and committing it. It may wait.
+    /// Makes all proposals of all workers, each worker in a thread of its own, and finds the first of the states of
+    /// least cost. Each worker passes the gate between making a plan and committing it. It may wait for others.
     pub fn solve<R: Threads + Wait + Sync, G: Gate>(self, rt: &R, gate: &G) -> Solved<'a>
         ensures { IsRun self.entry.inst.now.tables self.entry.a0.now.items
             self.entry.lots.now result }
@@ -89,7 +89,8 @@ impl<'a> Prepared<'a> {
     }
 }
 
-/// Brings the initial assignment of a journal to the first of its states of least cost, and gives the parts of that.
+/// Brings the initial assignment of a journal to the first of its states of least cost, and gives the parts of this
+/// cost.
 fn bring_to_best(
     journal: &Journal<'_>,
     a0: &Assignment,

@@ -20,8 +20,8 @@ impl<'s, 'a, G: Gate> Labour<Desk<'s, 'a, G>> for Worker<'a> {
 
     ghost done = { λ desk before after. HasRun desk.shared.now before after };
 
-    // Until its budget is used it plans proposals, at one state, and hands each plan in after it has passed the gate. If
-    // one is stale its proposal is still the next one, so it is planned again. No turn is taken while it plans.
+    // Plans proposals, at one state, and hands in each plan after passing the gate, until the budget is used. If a plan
+    // is stale, its proposal remains the next one and is planned again. The worker is outside its turns while it plans.
     fn labour<R: Wait>(&mut self, rt: &R, with: &Desk<'s, 'a, G>) {
         let mut ahead = Ahead::make(self.replica.lots().len());
         'proposals: while self.has_left() {
@@ -39,8 +39,8 @@ impl<'s, 'a, G: Gate> Labour<Desk<'s, 'a, G>> for Worker<'a> {
 }
 
 impl<'a> Worker<'a> {
-    /// Makes all proposals of its budget: it plans each, passes the gate, and hands the plan in, and plans it again if
-    /// that was stale. It may wait.
+    /// Makes all proposals of the worker's budget: plans each, passes the gate and hands the plan in, and plans again
+    /// if the plan was stale. It may wait for others.
     pub fn run<R: Wait, G: Gate>(&mut self, rt: &R, shared: &Shared<'a>, gate: &G)
         requires { MayRun shared.now self.old }
         ensures { HasRun shared.now self.old self.new }

@@ -17,15 +17,15 @@ use std::marker::Brand;
 use std::sync::Wait;
 use std::sync::ledger::{Blank, Ledger};
 
-/// One of the workers of a run: its replica, the pass with which it takes turns at the journal, and room for what it is
-/// told there.
+/// One of the workers of a run: its replica, the pass with which it takes turns at the journal, and room for the
+/// entries that it copies there.
 pub struct Worker<'a> {
     pub(crate) replica: Replica<'a>,
     pub(crate) pass: WorkerPass<'a>,
     pub(crate) batch: Batch,
 }
 
-/// Lets all parts go in one call, so that the end of an owner is short to prove.
+/// Frees all parts in one call, so that the end of an owner is short to prove.
 impl Drop for Worker<'_> {
     fn drop(self) {
         let Worker {
@@ -54,7 +54,7 @@ impl<'a> Worker<'a> {
         })
     }
 
-    /// Its pass, when it has run.
+    /// Its pass, after it has run.
     pub fn into_pass(self) -> WorkerPass<'a>
         ensures { result ≡ self.entry.pass }
     {
@@ -66,7 +66,7 @@ impl<'a> Worker<'a> {
         pass
     }
 
-    /// Whether it has some of its budget left.
+    /// Whether some of its budget is left.
     pub(crate) fn has_left(&self) -> bool
         ensures left { result ≡ true → self.now.replica.proposals.number <
             budget self.now.replica.proposals.lots.now self.now.replica.proposals.worker }
@@ -84,7 +84,8 @@ impl<'a> Worker<'a> {
         self.plan_at(self.replica.next())
     }
 
-    /// Plans ahead after the plan of its next proposal: as many as this round has, up to one that may be done.
+    /// Plans ahead after the plan of its next proposal: as many plans as this round has, up to the first one that may
+    /// be done.
     pub(crate) fn plan_ahead(&self, first: &Plan, ahead: &mut Ahead)
         requires left { next_at self.now.replica < budget_at self.now.replica }
         requires first { IsNextPlan self.now.replica first.now }
@@ -96,7 +97,7 @@ impl<'a> Worker<'a> {
         }
     }
 
-    /// Plans so many proposals after its next one, up to one that may be done.
+    /// Plans a number of proposals after its next one, up to the first one that may be done.
     fn plan_more(&self, more: u64, ahead: &mut Ahead)
         requires few { more ≤ 15 }
         requires left { next_at self.now.replica + more < budget_at self.now.replica }
@@ -126,9 +127,9 @@ impl<'a> Worker<'a> {
         offer_at::<Brand>(&self.replica, number, Blank::new(1))
     }
 
-    /// Hands in a plan of its next proposal, and tells whether the turn was quiet. If the commit copied nothing, all that
-    /// its pass has seen and its replica hasn't taken in is refused, so it passes over that. Else it takes in what was
-    /// copied, and catches up past the entry that the answer shows: its own, or the one that made the plan stale.
+    /// Hands in a plan of its next proposal, and tells whether the turn was quiet. If the commit copied nothing, all
+    /// that its pass has seen and its replica hasn't taken in is refused, so it skips that. Otherwise it takes in what
+    /// was copied, and catches up past the entry that the answer shows: its own, or the one that made the plan stale.
     pub(crate) fn hand_in<R: Wait>(&mut self, rt: &R, shared: &Shared<'a>, plan: &Plan) -> bool
         requires work { IsAtWork shared.now self.old }
         requires own { HasOwn self.old }
@@ -154,7 +155,7 @@ impl<'a> Worker<'a> {
         }
     }
 
-    /// Passes over all that its pass has seen: what its replica hasn't taken in of that is refused.
+    /// Skips all that its pass has seen: the part that its replica hasn't taken in is refused.
     fn pass_over(&mut self, _shared: &Shared<'a>)
         requires work { IsAtWork _shared.now self.old }
         requires left { self.old.replica.proposals.number <
@@ -169,7 +170,7 @@ impl<'a> Worker<'a> {
         self.replica.pass_over(seen);
     }
 
-    /// Takes in the entries that a turn copied into its batch. There is at least one that it hasn't taken in.
+    /// Takes in the entries that a turn copied into its batch. At least one of them is new to it.
     fn take_copied(&mut self, _shared: &Shared<'a>)
         requires work { IsAtWork _shared.now self.old }
         requires next { HasNext self.old }
@@ -181,7 +182,7 @@ impl<'a> Worker<'a> {
         take_in::<Brand>(&mut self.replica, &self.batch, Blank::new(1));
     }
 
-    /// Catches up past an entry that it has seen, if all that it has made stands at that place or before.
+    /// Catches up past an entry that it has seen, if no entry of its own comes after that place.
     fn catch_up_past<R: Wait>(&mut self, rt: &R, shared: &Shared<'a>, shown: u64)
         requires work { IsAtWork shared.now self.old }
         requires behind { IsBehind shown self.old }
@@ -196,7 +197,7 @@ impl<'a> Worker<'a> {
         }
     }
 
-    /// Takes in what comes next in the journal, at most 1,024 entries. There is at least one that it hasn't taken in.
+    /// Takes in what comes next in the journal, at most 1,024 entries. At least one of them is new to it.
     fn catch_up<R: Wait>(&mut self, rt: &R, shared: &Shared<'a>)
         requires work { IsAtWork shared.now self.old }
         requires left { 0 < self.old.pass.left }
@@ -239,7 +240,7 @@ fn offer_at<L: Ledger>(replica: &Replica<'_>, number: u64, blank: Blank) -> Plan
     replica.offer_at(number, &mut steps)
 }
 
-/// A replica takes in what it is told.
+/// Takes the entries of a batch into a replica.
 fn take_in<L: Ledger>(replica: &mut Replica<'_>, batch: &Batch, blank: Blank)
     requires name { blank.name ≡ L.name }
     requires parts { blank.parts ≡ L.parts }

@@ -110,7 +110,7 @@ pub replies_start : (i : Tables) (a0 : List Machine) (l : Lots) (c : Core) (even
 unfolding replies_to
 replies_start i a0 l c events base = sym (append-nil base)
 
--- behind the last one
+-- after the last one
 pub core_end : (i : Tables) (a0 : List Machine) (l : Lots) (c d : Core) (events : List CoreEvent) (n : ℕ) →
     d ≡ core_after i a0 l c events n → n ≡ length events → d ≡ (run i a0 l c events).last
 unfolding run

@@ -1,4 +1,4 @@
--- What some turns make of a core: none of them, one more, and more behind those.
+-- What some turns make of a core: none of them, one more, and more after those.
 use Rattle.std.proofs.Common.{◌≡◌, ℕ, zero, suc, ◌+◌, ◌-◌, ◌<◌, ◌≤◌, min, List, [], ◌∷◌, ◌++◌, set, get_or, map, length}
 use Rattle.std.proofs.Common.{refl, sym, ap, ◌∙◌, subst, ⊎_elim, add-one, arith}
 use Rattle.std.proofs.lemmas.Bool.{cases_lt}
@@ -21,7 +21,7 @@ use Rattle.ra_worker_core.proofs.CoreLemmas.{place_there, over_itself, over_then
 use Rattle.ra_worker_play.specs.Rounds.{IsPlayed, PlaysOn}
 use Rattle.ra_worker_play.proofs.PlayLemmas.{core_suc, step_commit}
 
--- a list of events with one more behind it
+-- a list of events with one more after it
 same_event : (xs : List CoreEvent) (e : CoreEvent) (n : ℕ) → n < length xs → event_at (xs ++ e ∷ []) n ≡ event_at xs n
 unfolding event_at
 same_event xs e n within = get_or_append_left xs (e ∷ []) (CatchUp 0) n within
@@ -82,7 +82,7 @@ played_more i a0 l a b c e played exists c_is = record {
   last = c_is ∙ ap (λ (x : Core). (step i a0 l x e).after) played.last ∙ sym (run_push i a0 l a played.events e);
 }
 
--- the first turns of a list behind others
+-- the first turns of a list after others
 played_on : (i : Tables) (a0 : List Machine) (l : Lots) (a b : Core) (ys : List CoreEvent) (n : ℕ) →
     IsPlayed i a0 l a b → AreNamed l ys → n ≤ length ys → IsPlayed i a0 l a (core_after i a0 l b ys n)
 unfolding core_after

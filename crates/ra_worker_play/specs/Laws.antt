@@ -18,7 +18,7 @@ StepKeepsLegal =
     → IsAssignment i a0 → Feasible i a0 a0 → Legal i a0 l c.journal → AreWithin l c
     → worker_of e < worker_count l → Legal i a0 l (step i a0 l c e).after.journal
 
--- and it keeps the places within the length
+-- a step keeps the places within the length of the journal
 abbrev pub StepKeepsPlaces : Type 0
 StepKeepsPlaces =
     (i : Tables) (a0 : List Machine) (l : Lots) (c : Core) (e : CoreEvent) → AreWithin l c

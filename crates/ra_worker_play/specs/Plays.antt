@@ -7,10 +7,10 @@ use Rattle.ra_worker_core.specs.declared.events.CoreEvent.{CoreEvent}
 use Rattle.ra_worker_core.specs.Core.{Stepped, Ran, step, run}
 use Rattle.ra_worker_core.specs.Turns.{core_in}
 
--- by one event
+-- the core and the reply after one event
 abbrev pub step_in : Journal → List Replica → CoreEvent → Stepped
 step_in j rs event = step (tables_in j) (start_in j) (lots_in j) (core_in j rs) event
 
--- by a list of events
+-- the core and the replies after a list of events
 abbrev pub run_in : Journal → List Replica → List CoreEvent → Ran
 run_in j rs events = run (tables_in j) (start_in j) (lots_in j) (core_in j rs) events

@@ -1,4 +1,4 @@
--- What workers do that take turns.
+-- What workers do that take their turns in rounds.
 use Rattle.std.specs.Prelude.{◌≡◌, ℕ, ◌<◌, ◌≤◌, min, List}
 use Rattle.ra_base.specs.declared.ids.Machine.{Machine}
 use Rattle.ra_draws.specs.declared.budgets.Lots.{Lots}
@@ -17,7 +17,7 @@ use Rattle.ra_worker_core.specs.Turns.{StandIn, core_in, IsOverSame}
 pub record HaveMade (l : Lots) (h : List Entry) (n r : ℕ) : Type 0 where
   pub each : (w : ℕ) → w < n → min r (budget l w) ≤ next_number h w
 
--- so has each worker of a journal
+-- each worker of a journal has r entries, or all of its budget if that is less
 abbrev pub HaveAllMade : Journal → ℕ → Type 0
 HaveAllMade j r = HaveMade (lots_in j) (entries_in j) (worker_count (lots_in j)) r
 

@@ -1,4 +1,4 @@
-//! Laws of the core: each function does nothing, and its contract is a law that was proved.
+//! Laws of the core. Each function does nothing, and its contract is a law that was proved.
 ghost use Rattle.ra_worker_play.specs.Laws.{StepKeepsLegal, StepKeepsPlaces};
 
 /// A step keeps a legal journal legal.

@@ -1,4 +1,4 @@
-//! All workers are played on one thread, in any order: what threads do is a run of the same core.
+//! Plays all workers on one thread, in any order. What threads do is a run of the same core.
 #![tactic(auto)]
 
 pub mod laws;

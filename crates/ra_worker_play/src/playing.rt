@@ -13,7 +13,7 @@ use ra_worker_core::{CoreEvent, CoreReply, catch_up, hand_in};
 use std::marker::Brand;
 use std::sync::ledger::{Blank, Ledger};
 
-/// Plays a list of events, and adds one reply for each. The events name workers of the journal.
+/// Plays a list of events, and adds one reply for each. The events must name workers of the journal.
 pub fn play<'a>(
     journal: &mut Journal<'a>,
     replicas: &mut Vec<Replica<'a>>,

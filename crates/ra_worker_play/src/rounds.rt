@@ -13,8 +13,8 @@ use ra_worker_core::{catch_up, hand_in};
 use std::marker::Brand;
 use std::sync::ledger::Blank;
 
-/// Plays the workers in turn until the journal is whole: each catches up with the journal and hands in one proposal in
-/// each round. The entries that were there stay, since what it does are turns of the workers.
+/// Plays the workers in turn until the journal is whole: in each round each worker catches up with the journal and
+/// hands in one proposal. The entries that were there stay, since all that happens is turns of the workers.
 pub fn round_robin<'a>(
     journal: &mut Journal<'a>,
     replicas: &mut Vec<Replica<'a>>,
@@ -49,7 +49,7 @@ fn larger(a: u64, b: u64) -> u64
     if a < b { b } else { a }
 }
 
-/// Plays each worker once. Each makes one proposal more, unless it has made all of its own.
+/// Plays each worker once. Each makes one more proposal, unless it has used its budget.
 fn play_round<'a>(journal: &mut Journal<'a>, replicas: &mut Vec<Replica<'a>>, batch: &mut Batch)
     requires at { StandIn journal.old replicas.old.items }
     ensures made { (r : ℕ) → HaveAllMade journal.old r → HaveAllMade journal.new (r + 1) }
@@ -78,7 +78,7 @@ fn take_turn<'a>(
     let _reply = hand_in::<Brand>(journal, replica, Blank::new(1));
 }
 
-/// A replica takes in all entries that it has not taken in.
+/// A replica takes in all entries that are new to it.
 fn catch_up_whole<'a>(journal: &Journal<'a>, replica: &mut Replica<'a>, batch: &mut Batch)
     requires at { StandsIn journal.now replica.old }
     ensures place { place_at replica.new ≡ length (entries_in journal.now) }

@@ -190,7 +190,7 @@ all_columns i a n table limits all are = record {
       (omega (arith, all, limits.some_machine, mod-lt k {m = machine_count i} (omega (arith, limits.some_machine))));
 }
 
--- two columns are made anew, and the others are as they were
+-- two columns are computed again, and the others are as they were
 pub renewed_table : (i : Tables) (a b : List Machine) (from to : ℕ) (old mid new : List ℕ) →
     AreAlikeElsewhere i a b from to → IsRowTable i a old
     → IsColumnSet i from (filter_row_count i) (capped_row i b from) old mid →

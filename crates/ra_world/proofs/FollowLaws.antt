@@ -1,4 +1,4 @@
--- What is kept, where one process goes to another machine.
+-- What is kept if one process goes to another machine.
 use Rattle.std.proofs.Common.{◌≡◌, ℕ, ◌+◌, ◌*◌, ◌^◌, ◌<◌, ◌≤◌, List, length, set, slice_index, sym, refl, ap, subst}
 use Rattle.std.proofs.Common.{◌∙◌, arith}
 use Rattle.ra_base.specs.Sums.{total}

@@ -130,7 +130,7 @@ pushed costs new n cost f grown are is = record {
 pub no_costs : (costs : List ℕ) (f : ℕ → ℕ) → costs ≡ [] → AreCosts costs 0 f
 no_costs costs f none = record { one_each = ap length none; each = λ m within. absurd (omega arith) }
 
--- the same, where the rows name the instance in their own words
+-- the load cost of a machine, if the rows name the instance in their own words
 pub load_here : (i j : Tables) (a : List Machine) (m : ℕ) (row : List ℕ) (cost : ℕ) → j ≡ i → IsUsageRow j a m row →
     cost ≡ row_load i m (slice_index row) → cost ≡ machine_load i a m
 load_here i j a m row cost same used is = is ∙ load_from i a m row (rw same at used)

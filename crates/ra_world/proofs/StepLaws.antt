@@ -34,7 +34,7 @@ unfolding broken_by
 unbroken_from st b steps none is = ap (first_broken st.tables st.start) is
     ∙ right_none (same_of steps) (broken_at (after_move st steps)) (right_none (repeat_of steps) _ none)
 
--- what one of the steps needs, where those before it are done
+-- what one of the steps needs after those before it
 pub step_of : (i : Tables) (a b : List Machine) (steps : List Step) (j : ℕ) (s : Step) → IsAssignment i a →
     AreSteps i a steps → j < length steps → b ≡ after_steps a steps j → s ≡ step_at steps j → IsStep i b s
 step_of i a b steps j s fits are within made is =

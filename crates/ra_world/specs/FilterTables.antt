@@ -1,6 +1,6 @@
 -- The filter rows of all machines in one flat list, row after row: those of the resources, then the first ones of the
--- balance objectives, then their second ones. Each row goes on at the first machine after the last one, for 63 numbers
--- more, so that sixty-four neighbouring machines stand side by side wherever they begin.
+-- balance objectives, then their second ones. After the last machine each row repeats the machines from the first on,
+-- for 63 numbers, so that sixty-four neighbouring machines are side by side wherever they begin.
 use Rattle.std.specs.Prelude.{◌≡◌, ◌≢◌, ℕ, ◌+◌, ◌-◌, ◌*◌, ◌%◌, ◌^◌, ◌<◌, ◌≤◌, ◌⊎◌, min, if◌then◌else◌, nat_lt, List}
 use Rattle.std.specs.Prelude.{length}
 use Rattle.ra_base.specs.Tables.{cell}
@@ -24,17 +24,17 @@ filter_row i a m j =
     else if nat_lt j (resource_count i + balance_count i) then first_row i a m (j - resource_count i)
     else second_row i a m (j - resource_count i - balance_count i)
 
--- the same, where a number above 2^30 counts as 2^30
+-- what machine m has in row j, and 2^30 if it is more
 abbrev pub capped_row : Tables → List Machine → ℕ → ℕ → ℕ
 capped_row i a m j = min (filter_row i a m j) (2 ^ 30)
 
--- the table of an assignment: number k of row j is about machine k mod M
+-- the table of an assignment: number k of row j concerns machine k mod M
 pub record IsRowTable (i : Tables) (a : List Machine) (table : List ℕ) : Type 0 where
   pub many : length table ≡ filter_row_count i * filter_width i
   pub each : (j k : ℕ) → j < filter_row_count i → k < filter_width i
       → cell (filter_width i) table j k ≡ capped_row i a (k % machine_count i) j
 
--- all machines but two have the same in each row
+-- all machines but two have equal numbers in each row
 pub record AreAlikeElsewhere (i : Tables) (a b : List Machine) (from to : ℕ) : Type 0 where
   pub each : (m j : ℕ) → from ≢ m → to ≢ m → capped_row i a m j ≡ capped_row i b m j
 

@@ -1,4 +1,4 @@
--- What is kept of an assignment, and that it is what the definitions give.
+-- What is kept for an assignment, and that it is what the definitions give.
 use Rattle.std.specs.Prelude.{◌≡◌, List, None}
 use Rattle.ra_base.specs.declared.ids.Machine.{Machine}
 use Rattle.ra_model.specs.declared.raw.Tables.{Tables}
@@ -15,7 +15,7 @@ use Rattle.ra_world.specs.declared.kept.Kept.{Kept}
 use Rattle.ra_world.specs.Costs.{AreCosts}
 use Rattle.ra_world.specs.FilterTables.{IsRowTable}
 
--- rows and counters of an instance and an initial assignment stand for an assignment
+-- rows and counters of an instance and an initial assignment represent an assignment
 pub record Stand (kept : Kept) (i : Tables) (a0 a : List Machine) : Type 0 where
   pub fits : IsAssignment i a
   pub instance : kept.rows.tables ≡ i
@@ -23,7 +23,7 @@ pub record Stand (kept : Kept) (i : Tables) (a0 a : List Machine) : Type 0 where
   pub rows : rows.StandFor kept.rows a
   pub cells : cells.StandFor kept.cells i a0 a
 
--- all that is kept is that of the kept assignment, reached from a0
+-- all that is kept is right for the kept assignment, reached from a0
 pub record Keeps (kept : Kept) (i : Tables) (a0 : List Machine) : Type 0 where
   pub stand : Stand kept i a0 kept.assignment.items
   pub loads : AreCosts kept.loads.items (machine_count i) (machine_load i kept.assignment.items)
@@ -32,8 +32,8 @@ pub record Keeps (kept : Kept) (i : Tables) (a0 : List Machine) : Type 0 where
   pub filters : IsRowTable i kept.assignment.items kept.filters.items
   pub parts : kept.parts ≡ parts_of i a0 kept.assignment.items
 
--- a world: a0 is an assignment of an instance with this topology, and what is kept of the assignment reached from it
--- is right and breaks nothing
+-- a world: a0 is an assignment of an instance with this topology, and the assignment reached from it breaks nothing,
+-- with all that is kept right
 pub record IsWorld (i : Tables) (a0 : List Machine) (topo : TopologyLists) (kept : Kept) : Type 0 where
   pub fits : IsAssignment i a0
   pub topology : IsTopologyOf topo i

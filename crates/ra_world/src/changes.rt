@@ -51,7 +51,7 @@ pub(crate) fn machine_after(inst: &Instance, start: &Assignment, step: Step, bef
     before - left + entered
 }
 
-/// What a process costs on a machine that isn't its initial one.
+/// What a process costs on a machine other than its initial one.
 #[tactic(auto, unfolding(ra_model::specs::Costs::process_share))]
 pub fn process_share(inst: &Instance, start: &Assignment, p: Process, at: Machine) -> u32
     requires process { p.0 < process_count inst.now.tables }
@@ -87,7 +87,7 @@ fn home_of(start: &Assignment, p: Process) -> Machine
     start.get(p.0 as usize)
 }
 
-/// The service cost, for whatever assignment the counters stand for.
+/// The service cost of the assignment that the counters represent.
 #[tactic(auto, using(crate::proofs::CostLaws::product_small))]
 pub(crate) fn service_cost(inst: &Instance, cells: &Cells<'_>) -> u128
     ensures { (a0 a : List Machine) → StandFor cells.now inst.now.tables a0 a →
@@ -97,7 +97,7 @@ pub(crate) fn service_cost(inst: &Instance, cells: &Cells<'_>) -> u128
     u128::from(inst.service_weight()) * u128::from(most)
 }
 
-/// Five parts with their sum.
+/// The five parts with their sum.
 pub(crate) fn summed(
     load: u128,
     balance: u128,

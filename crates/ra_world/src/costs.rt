@@ -5,7 +5,7 @@ ghost use Rattle.ra_model.specs.MachineCosts.{load_share, row_load, row_left, ba
 use ra_base::{Machine, Resource};
 use ra_model::Instance;
 
-/// The load cost of a machine of which this much is used, a number for each resource.
+/// The load cost of a machine with this use, a number for each resource.
 #[tactic(auto, using(ra_base::proofs::Sums::sums), unfolding(ra_model::specs::MachineCosts::row_load))]
 pub fn row_load(inst: &Instance, m: Machine, row: &[u64]) -> u128
     requires machine { m.0 < machine_count inst.now.tables }
@@ -33,7 +33,7 @@ fn load_share(inst: &Instance, m: Machine, row: &[u64], r: Resource) -> u128
     u128::from(inst.load_weight(r)) * u128::from(excess)
 }
 
-/// The balance cost of a machine of which this much is used, a number for each resource.
+/// The balance cost of a machine with this use, a number for each resource.
 #[tactic(auto, using(ra_base::proofs::Sums::sums), unfolding(ra_model::specs::MachineCosts::row_balance))]
 pub fn row_balance(inst: &Instance, m: Machine, row: &[u64]) -> u128
     requires machine { m.0 < machine_count inst.now.tables }

@@ -12,10 +12,10 @@ use ra_moves::Step;
 use ra_rows::Rows;
 use std::alloc::Global;
 
-/// What a greater number of a row counts as.
+/// A greater number of a filter row counts as this one.
 const CAP: u64 = 1 << 30;
 
-/// A weight times by how much one number exceeds another, capped.
+/// A weight times the amount by which one number exceeds another, capped.
 fn capped_excess(weight: u32, more: u64, less: u64) -> u32
     ensures { result ≡ min (weight * (more - less)) (2 ^ 30) }
 {
@@ -92,7 +92,7 @@ fn number_of(inst: &Instance, m: Machine, row: &[u64], j: u32) -> u32
     second_number(inst, m, row, j - resources - balances)
 }
 
-/// Puts a number at the places of a machine in a row.
+/// Writes a number at the places of a machine in a row.
 fn set_places(inst: &Instance, table: &mut Fixed<u32>, m: Machine, j: u32, number: u32)
     requires machine { m.0 < machine_count inst.now.tables }
     requires row { j < filter_row_count inst.now.tables }
@@ -110,7 +110,7 @@ fn set_places(inst: &Instance, table: &mut Fixed<u32>, m: Machine, j: u32, numbe
     }
 }
 
-/// Makes the numbers of a machine anew in all rows, from its row of use.
+/// Computes the numbers of a machine in all rows again, from its row of use.
 fn set_column(inst: &Instance, table: &mut Fixed<u32>, m: Machine, row: &[u64])
     requires machine { m.0 < machine_count inst.now.tables }
     requires width { length row.now ≡ resource_count inst.now.tables }
@@ -128,7 +128,7 @@ fn set_column(inst: &Instance, table: &mut Fixed<u32>, m: Machine, row: &[u64])
     }
 }
 
-/// Makes the numbers of a machine anew in all rows, for whatever assignment the rows of use stand for.
+/// Computes the numbers of a machine in all rows again, for the assignment that the rows of use represent.
 fn renew_column(inst: &Instance, rows: &Rows<'_>, table: &mut Fixed<u32>, m: Machine)
     requires machine { m.0 < machine_count inst.now.tables }
     requires instance { rows.now.tables ≡ inst.now.tables }
@@ -161,7 +161,7 @@ pub(crate) fn filters_of(
     Ok(table)
 }
 
-/// Makes the filter rows of the two machines of a step anew.
+/// Computes the filter rows of the two machines of a step again.
 pub(crate) fn renew_filters(inst: &Instance, rows: &Rows<'_>, table: &mut Fixed<u32>, step: Step)
     requires from { step.from.0 < machine_count inst.now.tables }
     requires to { step.to.0 < machine_count inst.now.tables }

@@ -36,7 +36,7 @@ pub(crate) fn follow<L: Ledger>(
     }
 }
 
-/// Follows one step: what is kept is then that of the assignment after it.
+/// Follows one step, after which all that is kept is that of the new assignment.
 fn follow_step<L: Ledger>(
     inst: &Instance,
     start: &Assignment,

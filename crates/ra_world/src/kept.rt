@@ -2,9 +2,9 @@ use ra_base::{Assignment, Fixed, Parts};
 use ra_cells::Cells;
 use ra_rows::Rows;
 
-/// An assignment with all that is kept of it.
+/// An assignment with all that is kept for it.
 pub(crate) struct Kept<'a> {
-    /// The assignment, an own copy.
+    /// The assignment, as a copy of its own.
     pub(crate) assignment: Assignment,
     /// Its use and its transient use.
     pub(crate) rows: Rows<'a>,
@@ -20,7 +20,7 @@ pub(crate) struct Kept<'a> {
     pub(crate) parts: Parts,
 }
 
-/// Lets all lists go in one call, so that the end of an owner is short to prove.
+/// Frees all lists in one call, so that the end of an owner is short to prove.
 impl Drop for Kept<'_> {
     fn drop(self) {
         let Kept {

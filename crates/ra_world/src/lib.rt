@@ -1,5 +1,5 @@
-//! The replica of an assignment: its use of the machines, the counts of its services and its costs, all of them kept
-//! while moves change it.
+//! The replica of an assignment: its use of the machines, the counts of its services and its costs. All of them follow
+//! the moves.
 #![tactic(auto)]
 
 mod changes;

@@ -13,7 +13,7 @@ use ra_moves::Step;
 use ra_rows::Rows;
 use std::alloc::Global;
 
-/// The load cost of a machine, for whatever assignment the rows stand for.
+/// The load cost of a machine, for the assignment that the rows represent.
 pub(crate) fn load_of(inst: &Instance, rows: &Rows<'_>, m: Machine) -> u128
     requires machine { m.0 < machine_count inst.now.tables }
     requires instance { rows.now.tables ≡ inst.now.tables }
@@ -24,7 +24,7 @@ pub(crate) fn load_of(inst: &Instance, rows: &Rows<'_>, m: Machine) -> u128
     row_load(inst, m, rows.usage_row(m))
 }
 
-/// The balance cost of a machine, for whatever assignment the rows stand for.
+/// The balance cost of a machine, for the assignment that the rows represent.
 pub(crate) fn balance_of(inst: &Instance, rows: &Rows<'_>, m: Machine) -> u128
     requires machine { m.0 < machine_count inst.now.tables }
     requires instance { rows.now.tables ≡ inst.now.tables }
@@ -69,7 +69,7 @@ pub(crate) fn balances_of(
     Ok(costs)
 }
 
-/// Replaces the cost of one machine, and gives the sum of all costs after it.
+/// Replaces the cost of one machine, and gives the new sum of all costs.
 #[tactic(auto, using(crate::proofs::RenewalLaws::replaced))]
 pub(crate) fn replace_cost(costs: &mut Fixed<u128>, sum: u128, m: Machine, cost: u128) -> u128
     requires machine { m.0 < length costs.old.items }
@@ -85,7 +85,7 @@ pub(crate) fn replace_cost(costs: &mut Fixed<u128>, sum: u128, m: Machine, cost:
     sum - old + cost
 }
 
-/// Computes the load costs of the two machines of a step anew, and gives the sum of all after it.
+/// Computes the load costs of the two machines of a step again, and gives the new sum of all.
 pub(crate) fn renew_loads(
     inst: &Instance,
     rows: &Rows<'_>,
@@ -109,7 +109,7 @@ pub(crate) fn renew_loads(
     replace_cost(loads, load, step.to, load_of(inst, rows, step.to))
 }
 
-/// Computes the balance costs of the two machines of a step anew, and gives the sum of all after it.
+/// Computes the balance costs of the two machines of a step again, and gives the new sum of all.
 pub(crate) fn renew_balances(
     inst: &Instance,
     rows: &Rows<'_>,

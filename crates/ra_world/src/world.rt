@@ -28,9 +28,9 @@ use std::alloc::Global;
 use std::marker::Model;
 use std::sync::ledger::Ledger;
 
-/// The replica of a feasible assignment of an instance, reached from an initial one: the assignment itself, its use
-/// and its counters, the cost of each machine and the parts of its cost. `apply` changes all of them by a move, and
-/// what a world tells is at all times what the definitions give for its situation. Only `make` takes memory.
+/// The replica of a feasible assignment of an instance, reached from an initial one: the assignment itself, its use and
+/// its counters, the cost of each machine and the parts of its cost. `apply` changes all of them by a move. At all
+/// times a world gives what the definitions say of its situation. Only `make` takes memory.
 #[derive(Drop)]
 pub struct World<'a> {
     inst: &'a Instance,
@@ -72,7 +72,7 @@ impl<'a> World<'a> {
         })
     }
 
-    /// The assignment that the world stands for.
+    /// The assignment that the world represents.
     pub fn assignment(&self) -> &Assignment
         ensures value { result.now.items ≡ self.now.here }
         ensures fits { IsAssignment self.now.tables result.now.items }
@@ -150,8 +150,8 @@ impl<'a> World<'a> {
         self.kept.balances.get(m.0 as usize)
     }
 
-    /// The filter rows of all machines, row after row: what a machine has of each resource and for each balance objective
-    /// before a process that comes costs more there.
+    /// The filter rows of all machines, row after row: how much a machine has of each resource and for each balance
+    /// objective before the cost rises with a process that comes.
     pub fn filter_rows(&self) -> &[u32]
         ensures rows { IsRowTable self.now.tables self.now.here result.now }
         ensures sound { IsSound self.now }
@@ -159,8 +159,8 @@ impl<'a> World<'a> {
         self.kept.filters.as_slice()
     }
 
-    /// Follows a move that the judge refuses for no cause other than a rise of the cost. It reads the requirements of
-    /// its processes, each once, whatever the number of all processes is.
+    /// Follows a move that the judge refuses for no cause other than Rise. It reads the requirements of the move's
+    /// processes, each once, and takes no time for the other processes.
     pub fn apply<L: Ledger>(&mut self, mv: &Move, steps: &mut Steps<L>)
         requires at_from { StandsAt from_in mv.now.steps self.old.here }
         requires to { (j : ℕ) → j < length mv.now.steps →
@@ -177,7 +177,7 @@ impl<'a> World<'a> {
     }
 }
 
-/// All that is kept of an initial assignment, whose cost has these parts.
+/// All that is kept for an initial assignment whose cost has these parts.
 fn kept_of<'a>(
     alloc: Global,
     inst: &'a Instance,

@@ -1,7 +1,7 @@
 //! `reassign`: checks and improves assignments of the machine reassignment problem.
 //!
-//! The program is thin: it hands the words of the command line and the files and streams of the
-//! system to the top call.
+//! The program is thin: it passes the words of the command line and the files and streams of the system to the top
+//! call.
 #![tactic(auto)]
 
 use ra_io::{DiskFiles, ErrSink, NoGate, OutSink};

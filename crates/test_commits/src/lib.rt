@@ -1,4 +1,4 @@
-//! Tests of the journal: the answers to two workers that hand in plans made at the start. There is nothing here but
+//! Tests of the journal: the answers to two workers that hand in plans made at the start. The crate has nothing but
 //! tests.
 #![tactic(auto)]
 

@@ -52,7 +52,7 @@ fn first_plans<L: Ledger>(
     (first, second)
 }
 
-/// What the two workers are answered.
+/// The answers to the two workers.
 fn replies_on(
     rt: &impl Abort,
     alloc: Global,
@@ -98,7 +98,7 @@ fn stale(guard: Guard) -> Reply {
 /// constraint nor is its own.
 const AWAY: [u64; 8] = [0, 1, 2, 1, 0, 3, 0, 0];
 
-/// What two workers are answered on the sample.
+/// The answers to two workers on the sample.
 fn replies_on_sample(
     rt: &impl Abort,
     alloc: Global,

@@ -22,7 +22,7 @@ use ra_world::World;
 use std::alloc::Global;
 use std::sync::ledger::Ledger;
 
-/// A world, and its assignment once more with the tables of the checker. Both follow the same moves.
+/// A world, and a copy of its assignment with the tables of the checker. Both follow the same moves.
 #[derive(Drop)]
 pub struct Beside<'a> {
     world: World<'a>,
@@ -33,7 +33,7 @@ pub struct Beside<'a> {
 }
 
 impl<'a> Beside<'a> {
-    /// The world of an initial assignment, if that is feasible, and the checker beside it.
+    /// The world of an initial assignment, if this is feasible, and the checker beside it.
     pub fn make(
         alloc: Global,
         inst: &'a Instance,

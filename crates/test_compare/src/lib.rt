@@ -1,5 +1,5 @@
-//! The replica beside the plain checker: both follow the same moves, so that what the one keeps can be compared with
-//! what the other makes from scratch.
+//! The replica beside the plain checker: both follow the same moves, so that what the replica keeps can be compared
+//! with what the checker computes from scratch.
 #![tactic(auto)]
 
 mod beside;

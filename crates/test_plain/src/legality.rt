@@ -17,7 +17,7 @@ const THREE: [u64; 24] = [
 /// A proposal to shift process 1 to one of the machines 2, 1, 0 and 3.
 const AWAY: [u64; 8] = [0, 1, 2, 1, 0, 3, 0, 0];
 
-/// This is told of a journal on the sample instance, from the start `0 3 0`, which costs 4200.
+/// Demands this answer for a journal on the sample instance, from the start `0 3 0`, which costs 4200.
 fn tells(rt: &impl Abort, alloc: Global, lots: &Lots, entries: &[Entry], want: Option<usize>) {
     let inst = sample(alloc).expect(rt, "no instance");
     let a0 = start_of(rt, alloc, &inst, &[0, 3, 0]);
@@ -25,7 +25,7 @@ fn tells(rt: &impl Abort, alloc: Global, lots: &Lots, entries: &[Entry], want: O
     demand(rt, found == want);
 }
 
-/// This is told of a journal of the one worker with three proposals.
+/// Demands this answer for a journal of the one worker with three proposals.
 fn tells_of_three(
     rt: &impl Abort,
     alloc: Global,
@@ -37,7 +37,7 @@ fn tells_of_three(
     tells(rt, alloc, &lots, entries, want);
 }
 
-/// This is told of a journal of two workers with one proposal each.
+/// Demands this answer for a journal of two workers with one proposal each.
 fn tells_of_two(
     rt: &impl Abort,
     alloc: Global,
@@ -94,17 +94,17 @@ fn other(q: u64, mv: Move, verdict: Verdict) -> Entry {
     }
 }
 
-/// Process 1 goes to 2, from the start.
+/// The entry in which process 1 goes to 2, from the start.
 fn start() -> Entry {
     own(0, 0, shift(1, 3, 2), done(3510))
 }
 
-/// It goes back.
+/// The entry in which it goes back.
 fn back() -> Entry {
     own(1, 1, shift(1, 2, 3), done(4200))
 }
 
-/// It would go back, but the cost rises by 690, and 689 are allowed.
+/// The entry in which it would go back, but the cost rises by 690, and 689 are allowed.
 fn not_back() -> Entry {
     own(
         1,

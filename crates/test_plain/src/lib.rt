@@ -1,5 +1,5 @@
 //! Tests of the plain judge and planner and of the plain test of legality, on the sample and other small instances, by
-//! hand. There is nothing here but tests.
+//! hand. The crate has nothing but tests.
 #![tactic(auto)]
 
 #[cfg(test)]

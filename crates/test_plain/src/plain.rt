@@ -90,7 +90,7 @@ fn a_process_stays(rt: &impl Abort, alloc: Global, inst: &Instance) {
 }
 
 /// The first process requires 12 of the 10 of machine 1. Process 1 would come to where its service is, and to machine
-/// 1, which is in the location of machine 0 while service 0 wants two. Process 2 would stay alone in neighbourhood 0.
+/// 1, which is in the location of machine 0 while service 0 needs two. Process 2 would stay alone in neighbourhood 0.
 fn a_move_breaks_a_constraint(rt: &impl Abort, alloc: Global, inst: &Instance) {
     let capacity = Cause::Capacity {
         machine: Machine(1),

@@ -1,4 +1,4 @@
-//! Assignments at which something is told, and what is demanded of it.
+//! The assignments of the tests, and the demands on them.
 ghost use Rattle.ra_model.specs.Assignments.{IsAssignment};
 
 use ra_base::Assignment;
@@ -21,7 +21,7 @@ pub(super) fn start_of(
     start
 }
 
-/// Demands that two assignments are the same.
+/// Demands that two assignments are equal.
 pub(super) fn same_machines(rt: &impl Abort, found: &Assignment, want: &Assignment) {
     assert!(rt; found.as_slice() == want.as_slice());
 }

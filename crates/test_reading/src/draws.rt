@@ -1,4 +1,4 @@
-//! The words of lots, and what a proposal is allowed.
+//! The words of lots, and by how much a proposal may raise the cost.
 ghost use Rattle.std.specs.Prelude.{◌≡◌};
 ghost use Rattle.ra_draws.specs.Lots.{IsFitting};
 
@@ -31,7 +31,7 @@ fn demand_words(rt: &impl Abort, lot: &Lot, first: &[u64; 8], second: &[u64; 8])
 }
 
 /// Seeds with the words of the first two proposals. The values come from xoshiro256++ with its state filled by
-/// splitmix64, written anew in Python from the reference code in C.
+/// splitmix64, rewritten in Python from the reference code in C.
 const SEEDED: &[(u64, [u64; 8], [u64; 8])] = &[
     (
         0,
@@ -149,7 +149,7 @@ fn a_written_lot_gives_its_words_eight_at_a_time(rt: HostRuntime) {
     drop(lot);
 }
 
-/// Slack, budget and number of a proposal, with what it is allowed.
+/// Slack, budget and number of a proposal, with the rise of cost that it may bring.
 const ALLOWED: &[(u64, u64, u64, u64)] = &[
     (2070, 3, 0, 1380),
     (2070, 3, 1, 690),

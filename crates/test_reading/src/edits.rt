@@ -36,7 +36,7 @@ fn edits_are_read_in_order(rt: HostRuntime) {
     drop(edits);
 }
 
-/// Files that are no edits of the sample, with what is wrong with each first.
+/// Files that have no valid edits of the sample, with the first thing that is wrong with each.
 const REFUSED: &[(&str, EditsFault)] = &[
     (
         "2 0 4 x",

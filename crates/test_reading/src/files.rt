@@ -1,4 +1,4 @@
-//! Files with one name, that the readers are lent.
+//! Files with one name, which the readers borrow.
 ghost use Rattle.std.specs.Prelude.{◌<◌};
 
 use ra_base::NoMemory;

@@ -1,5 +1,5 @@
 //! Tests of all that reads: numbers, lines, models, lists of machines and edits in files, command words, and what they
-//! rest on. There is nothing here but tests, so that no crate that reads is proved a second time for its tests.
+//! use. The crate has nothing but tests, so that no crate that reads is proved a second time for its tests.
 #![tactic(auto)]
 
 #[cfg(test)]

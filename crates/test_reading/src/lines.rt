@@ -1,4 +1,4 @@
-//! The lines of a file, and a text that is compared with what is expected.
+//! The lines of a file, and a text that is compared with an expected one.
 ghost use Rattle.std.specs.Prelude.{◌≡◌};
 ghost use Rattle.ra_report_lines.specs.Reading.{Reads};
 
@@ -57,7 +57,7 @@ fn answers(
     demand(rt, &mut files, &mut reader, &mut line, wants);
 }
 
-/// What is answered of a file of four lines, of which the last has no end.
+/// The answers for a file of four lines, of which the last has no end.
 const LINES: &[(Result<Next, ReadFault>, &[u8])] = &[
     (Ok(Next::Line), b"one\n"),
     (Ok(Next::Line), b"\n"),
@@ -66,10 +66,10 @@ const LINES: &[(Result<Next, ReadFault>, &[u8])] = &[
     (Ok(Next::End), b""),
 ];
 
-/// What is answered of a line that is too long.
+/// The answers for a line that is too long.
 const LONG: &[(Result<Next, ReadFault>, &[u8])] = &[(Ok(Next::Long), b"eight of")];
 
-/// What is answered of a line of which the second fetch fails.
+/// The answers for a line whose second fetch fails.
 const FAILED: &[(Result<Next, ReadFault>, &[u8])] = &[
     (Err(ReadFault), b"seven"),
     (Ok(Next::Line), b"seven 7\n"),

@@ -24,7 +24,7 @@ fn fault(rt: &impl Abort, alloc: Global, bytes: &[u8]) -> Option<ModelFault> {
     read(rt, alloc, bytes).err()
 }
 
-/// Files that mean no instance, with what is wrong with each first.
+/// Files that mean no instance, with the first thing that is wrong with each.
 const REFUSED: &[(&str, ModelFault)] = &[
     (
         "0",
@@ -294,7 +294,7 @@ fn the_file_is_read_to_its_end(rt: HostRuntime) {
     same(&rt, fault(&rt, rt.alloc(), &longer), extra);
 }
 
-/// The sample's file, of which the third fetch fails, read twice: whether the second time it is an instance.
+/// Reads the sample's file twice, if its third fetch fails: whether the second reading gives an instance.
 fn read_again(rt: &impl Abort, alloc: Global, each: usize) -> bool
     requires { 0 < each }
 {

@@ -115,7 +115,7 @@ fn a_failed_fetch_is_tried_again(rt: HostRuntime) {
     );
 }
 
-/// A number that is cut where the buffer ends, and one that passes the largest value behind it.
+/// A number that is cut where the buffer ends, and after it one that exceeds the largest value.
 fn cut_by_the_buffer(rt: &impl Abort, alloc: Global, each: usize)
     requires some { 0 < each }
 {
@@ -142,7 +142,8 @@ fn a_number_may_be_cut_by_the_buffer(rt: HostRuntime) {
     cut_by_the_buffer(&rt, rt.alloc(), 65_536);
 }
 
-/// Demands of a reader, for each row, what `next_values` answers for that many, and the values that the list has then.
+/// Demands, for each row, what `next_values` of a reader answers for that many values, and the values that the list has
+/// then.
 fn demand_values<F: Files>(
     rt: &impl Abort,
     files: &mut F,
@@ -160,14 +161,14 @@ fn demand_values<F: Files>(
     }
 }
 
-/// The first numbers of a text with a fault behind its numbers.
+/// The first numbers of a text with a fault after its numbers.
 const FIRST: &[(usize, Result<usize, TokenFault>, &[u32])] = &[(
     3,
     Ok(3),
     &[5, 7, 40, 123_456_789],
 )];
 
-/// Those behind the next one, up to the fault.
+/// The numbers after the next one, up to the fault.
 const LATER: &[(usize, Result<usize, TokenFault>, &[u32])] = &[
     (0, Ok(0), &[5, 7, 40, 123_456_789]),
     (
@@ -182,7 +183,7 @@ const LATER: &[(usize, Result<usize, TokenFault>, &[u32])] = &[
     ),
 ];
 
-/// What `next_values` answers of that text, however it is fetched.
+/// What `next_values` answers for that text, however it is fetched.
 fn values_until_a_fault(rt: &impl Abort, alloc: Global, each: usize)
     requires some { 0 < each }
 {

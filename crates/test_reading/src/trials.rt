@@ -18,7 +18,7 @@ fn told(text: &[u8]) -> u64 {
 }
 
 /// Numbers of trials, each with the number of its model's bytes and what tells them. The values come from the
-/// definitions written anew in Python, over xoshiro256++ with its state filled by splitmix64.
+/// definitions rewritten in Python, over xoshiro256++ with its state filled by splitmix64.
 const MODELS: &[(u64, usize, u64)] = &[
     (0, 42_192, 0x658a_1ad3_d4cc_ebde),
     (1, 42_208, 0x7c33_b576_8d40_7e18),

@@ -7,7 +7,7 @@ use std::alloc::{AllocError, Global};
 use std::process::Abort;
 use test_samples::strings;
 
-/// Words of each form, with the job told in words of this file. The conformance suite has the words that are none.
+/// Words of each form, with the job told in words of this file. The conformance suite has the words that are not a job.
 const JOBS: &[(&[&str], &str)] = &[
     (
         &["check", "a b", "i-", ":", "--closed", "1"],
@@ -74,7 +74,7 @@ const JOBS: &[(&[&str], &str)] = &[
     ),
 ];
 
-/// Demands that words are a job, which is told like this.
+/// Demands that words are a job that is told like this.
 fn demand(rt: &impl Abort, alloc: Global, words: &[&str], want: &str) {
     let list = strings(alloc, words).expect(rt, "no memory");
     let read = read_words(alloc, list.as_slice());
@@ -110,7 +110,7 @@ fn told(
     Ok(text)
 }
 
-/// The same, with the lots of a run behind it.
+/// A form, the names of its files, the one that is closed, and the lots of a run after it.
 fn told_with(
     alloc: Global,
     form: &str,
@@ -178,7 +178,7 @@ fn tell_bound(
     }
 }
 
-/// The lots of a run behind a text. The last of them is told.
+/// The lots of a run, added after a text. The last lot is told.
 fn tell_lots(alloc: Global, front: &str, lots: &Lots) -> Result<String, AllocError> {
     let last = tell_lot(alloc, lots.lot(lots.len() - 1))?;
     format!(in alloc;

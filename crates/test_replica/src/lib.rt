@@ -1,5 +1,5 @@
 //! Tests of what follows moves by changes: what a world tells beside the plain checker, plans beside those of the plain
-//! planner, and a weighing at a world that has taken in a move. There is nothing here but tests, so that no program is
+//! planner, and a weighing at a world that has taken in a move. The crate has nothing but tests, so that no program is
 //! built over what they compare with.
 #![tactic(auto)]
 

@@ -121,7 +121,7 @@ fn a_world_with_a_closed_machine_tells_it_too(rt: HostRuntime) {
     );
 }
 
-// What processes ask for comes to 2^30 and to one more, and ways cost as much: where sums end that are cut off there.
+// What processes ask for adds up to 2^30 and to one more, and ways cost as much, so that sums reach the cap.
 #[test]
 fn sums_up_to_the_cap_and_above(rt: HostRuntime) {
     let trials = [Trial::Plans {
@@ -165,7 +165,8 @@ fn the_initial_machine_is_closed(rt: HostRuntime) {
     try_on(&rt, rt.alloc(), closed, &[0, 2, 3, 0, 4, 1, 3, 2], &trials);
 }
 
-// With one machine fewer than a window has, as many and one more: it begins anywhere and goes on at machine 0.
+// With one machine fewer than a window has, with as many, and with one more: the window begins anywhere and goes on at
+// machine 0.
 #[test]
 fn a_window_of_machines_goes_round(rt: HostRuntime) {
     let trials = [Trial::Plans {

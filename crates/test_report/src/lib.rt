@@ -1,5 +1,5 @@
 //! Tests of what is printed: reports and summaries of runs, lines of entries, of a bound and of a model, and how much a
-//! check of files in memory prints. There is nothing here but tests.
+//! check of files in memory prints. The crate has nothing but tests.
 #![tactic(auto)]
 
 #[cfg(test)]

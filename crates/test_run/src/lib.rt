@@ -1,4 +1,5 @@
-//! Nothing but tests: command lines through the top call whose output depends on who comes first, and long reports.
+//! Tests of command lines through the top call whose output depends on who comes first, and of long reports. The crate
+//! has nothing else.
 #![tactic(auto)]
 
 #[cfg(test)]

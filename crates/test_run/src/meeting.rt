@@ -1,4 +1,4 @@
-//! Two workers of one run, through the top call: that they run beside each other, and the reports that they may give.
+//! Two workers of one run, through the top call: that they run at the same time, and the reports that they may give.
 use super::running::{files_of, output_of};
 use super::texts::{BETTER_HEAD, PAIR, PAIR_HEAD, PAIR_START, SAMPLE, START, START_HEAD};
 use ra_io::{Gate, NoGate, PairGate};
@@ -37,7 +37,7 @@ fn report_of<R: Abort + Threads + Wait + Sync, G: Gate>(
     found
 }
 
-/// Each of two workers waits at the gate for the other, with a plan that it made at the start. A run that hands over
+/// Each of two workers waits at the gate for the other, with a plan that it made at the start. A run that passes
 /// another gate, or runs its workers one after another, isn't met.
 fn two_workers_meet<R: Abort + Threads + Wait + Sync>(
     rt: &R,
@@ -113,8 +113,8 @@ fn two_workers_meet_on_a_pair_of_machines(rt: HostRuntime) {
     );
 }
 
-/// Worker 0 would put process 1 on machine 2, and worker 1 process 2. The second finds less room if it comes behind the
-/// first; if it comes first, worker 0 has planned before or behind it.
+/// Worker 0 would put process 1 on machine 2, and worker 1 process 2. The second finds less room if it comes after the
+/// first; if it comes first, worker 0 has planned before or after it.
 #[test]
 fn two_workers_go_one_of_three_ways(rt: HostRuntime) {
     let words = [

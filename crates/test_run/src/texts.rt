@@ -18,7 +18,7 @@ pub(super) const PAIR_START: &[u8] = b"0 1\n";
 pub(super) const START_HEAD: &str =
     "cost 4200\nload 1700\nbalance 2500\nprocess 0\nservice 0\nmachine 0\nbound 1300\nbest_at 0\nassignment 0 3 0\ndraws 1\n";
 
-/// The same of the pair.
+/// The head of a report of the pair whose best state is the start.
 pub(super) const PAIR_HEAD: &str =
     "cost 40\nload 40\nbalance 0\nprocess 0\nservice 0\nmachine 0\nbound 0\nbest_at 0\nassignment 0 1\ndraws 1\n";
 

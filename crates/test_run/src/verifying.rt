@@ -9,7 +9,7 @@ use std::process::Abort;
 use std::sync::Wait;
 use std::thread::Threads;
 
-/// Makes a report by these command words behind `solve m i`, and verifies it with the same ones.
+/// Makes a report by these command words after `solve m i`, and verifies it with the same words.
 fn is_accepted<R: Abort + Threads + Wait + Sync>(
     rt: &R,
     alloc: Global,

@@ -1,4 +1,4 @@
--- What the lists that were made have to do with the slices that they were made of.
+-- How the lists that were made relate to the slices that they were made of.
 use Rattle.std.specs.Prelude.{◌≡◌, slice_index}
 use Rattle.ra_model.specs.declared.raw.RawInstance.{RawInstance}
 use Rattle.test_samples.specs.declared.lists.Lists.{Lists}

@@ -66,7 +66,7 @@ pub fn in_neighbourhood(inst: &Instance, a: &Assignment, s: u32, label: u32) -> 
     count
 }
 
-/// In how many locations service `s` is: those of the processes that are in none of an earlier one.
+/// In how many locations service `s` is: it counts the processes whose location has no earlier process of the service.
 pub fn locations(inst: &Instance, a: &Assignment, s: u32) -> u32 {
     let mut count = 0u32;
     for p in 0..inst.processes() {

@@ -12,9 +12,9 @@ use std::alloc::{AllocError, Global};
 /// Why an instance could not be made.
 #[derive(Clone, Copy, Debug, PartialEq, Eq)]
 pub enum NotMade {
-    /// Memory was refused.
+    /// The system refused memory.
     NoMemory,
-    /// The lists are no instance.
+    /// The lists are not an instance.
     NoInstance,
 }
 

@@ -37,7 +37,7 @@ pub fn one_lot(alloc: Global, slack: u64, budget: u64, words: &[u64]) -> Result<
     Ok(Lots::of(slack, Drawing::One, lots))
 }
 
-/// Two workers with as many proposals each, and with these words, eight for each proposal.
+/// Two workers with equally many proposals, and with these words, eight for each proposal.
 pub fn two_lots(
     alloc: Global,
     slack: u64,

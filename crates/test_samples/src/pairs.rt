@@ -1,4 +1,4 @@
-//! Two machines and two processes of other services. The start is `0 1`.
+//! Two machines and two processes of different services. The start is `0 1`.
 use crate::lists::{Lists, NotMade, instance};
 use crate::rows::{balance, machine, process, resource, service};
 use ra_model::{Instance, ResourceRow};
@@ -43,7 +43,7 @@ pub fn crossed_pair(alloc: Global) -> Result<Instance, NotMade> {
     pair(alloc, resource(false, 10), &[4, 8], 1, &[8, 4])
 }
 
-/// Two resources, and the greatest numbers that a file may have; to stay on a machine has a way that costs.
+/// Two resources, and the greatest numbers that a file may have; even the way from a machine to itself costs.
 pub fn pair_at_limits(alloc: Global) -> Result<Instance, NotMade> {
     instance(
         alloc,

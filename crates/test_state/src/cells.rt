@@ -101,7 +101,7 @@ fn walk_from(
     walk(rt, &mut mirror, rounds, each);
 }
 
-/// What the sample's first service and the greatest count are: locations, moved processes, and the greatest.
+/// The locations and moved processes of the sample's first service, and the greatest moved count.
 #[tactic(auto, using(ra_cells::proofs::CellLemmas::standing))]
 fn told(mirror: &Mirror<'_>) -> Option<(u32, u32, u32)> {
     if mirror.inst.services() == 0 {
@@ -116,13 +116,13 @@ fn told(mirror: &Mirror<'_>) -> Option<(u32, u32, u32)> {
     ))
 }
 
-/// What they are after a process went to a machine.
+/// These three numbers after a process went to a machine.
 fn put(mirror: &mut Mirror<'_>, p: u32, to: u32) -> Option<(u32, u32, u32)> {
     mirror.put(p, to);
     told(mirror)
 }
 
-/// What they are at the start, and after process 1 went to machine 2, to machine 1 and home again.
+/// These three numbers at the start, and after process 1 went to machine 2, to machine 1 and home again.
 fn shift_and_back(rt: &impl Abort, mirror: &mut Mirror<'_>) {
     same(rt, told(mirror), Some((2, 0, 0)));
     same(rt, put(mirror, 1, 2), Some((2, 1, 1)));

@@ -1,5 +1,4 @@
-//! The judgement of an assignment beside a start that no command takes. All others are cases of the
-//! conformance suite.
+//! The judgement of an assignment from a start that no command takes. All others are cases of the conformance suite.
 use crate::common::{fitting, same};
 use ra_base::{Cause, Machine, Resource};
 use ra_check::{Scratch, first_broken};
@@ -8,7 +7,7 @@ use std::alloc::Global;
 use std::process::Abort;
 use test_samples::sample;
 
-/// The first constraint that an assignment breaks, beside an initial one.
+/// The first constraint that an assignment breaks, reached from an initial one.
 fn broken(
     rt: &impl Abort,
     alloc: Global,

@@ -10,8 +10,8 @@ use std::fmt::Debug;
 use std::process::Abort;
 use test_samples::{assignment, list};
 
-/// Demands that what was found is what is wanted. An `assert_eq!` here, and not in a function that
-/// owns lists, is no exit of that function, so its proof is short.
+/// Demands that what was found is what is expected. An `assert_eq!` here, and not in a function that owns lists, adds
+/// no exit to that function, so its proof is short.
 pub(crate) fn same<T: Copy + Debug + PartialEq>(rt: &impl Abort, found: T, want: T) {
     assert_eq!(rt; found, want);
 }

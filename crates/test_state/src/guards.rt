@@ -50,7 +50,7 @@ fn from_first(inst: &Instance, other: &Move) -> Option<bool> {
     answer(inst, &shift(0, 0, 1), other)
 }
 
-/// The same the other way round.
+/// Whether that shift is apart from a move, asked the other way round.
 fn to_first(inst: &Instance, mv: &Move) -> Option<bool> {
     answer(inst, mv, &shift(0, 0, 1))
 }

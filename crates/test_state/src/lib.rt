@@ -1,6 +1,5 @@
-//! Tests of what is known of an instance and an assignment: judging, rows, counters, pins, moves and
-//! guards. There is nothing here but tests, so that the crates that they test are proved once,
-//! without them.
+//! Tests of what is known of an instance and an assignment: judging, rows, counters, pins, moves and guards. The crate
+//! has nothing but tests, so that the crates that they test are proved once, without them.
 #![tactic(auto)]
 
 #[cfg(test)]

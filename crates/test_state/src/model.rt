@@ -1,4 +1,4 @@
-//! An instance gives back what it was made of, and lists that don't fit one another are none.
+//! An instance gives back what it was made of, and lists that don't fit one another are not an instance.
 ghost use Rattle.std.specs.Prelude.{◌≡◌, ◌<◌};
 
 use crate::common::{closing, same};
@@ -132,7 +132,7 @@ struct Shape {
     second_resource: u32,
 }
 
-/// Those of the sample.
+/// The shape of the sample.
 const SAMPLE: Shape = Shape {
     capacities: &[0; 8],
     safeties: &[0; 8],
@@ -165,7 +165,7 @@ fn shaped(alloc: Global, shape: &Shape) -> Result<Instance, NotMade> {
     )
 }
 
-/// Why the lists of a shape are no instance, if they are none.
+/// Why the lists of a shape are not an instance, if they aren't.
 fn refusal(alloc: Global, shape: &Shape) -> Option<NotMade> {
     match shaped(alloc, shape) {
         Ok(inst) => {
@@ -243,7 +243,7 @@ fn each_process_has_one_machine_of_the_instance(rt: HostRuntime) {
     drop(inst);
 }
 
-/// The processes of the first service, and how many the third has, which has none.
+/// The processes of the first service, and how many the third has, which is zero.
 fn compare_members(rt: &impl Abort, alloc: Global, inst: &Instance) {
     assert!(rt; inst.services() == 4);
     let members = Members::make(alloc, inst).expect(rt, "no memory");

@@ -50,7 +50,7 @@ fn shift(process: u32, from: u32, to: u32) -> Move {
     Move::shift(step(process, from, to))
 }
 
-/// The move that an option of eight words is, if there is that option.
+/// The move of an option of eight words, if there is such an option.
 fn named(
     rt: &impl Abort,
     a: &Assignment,

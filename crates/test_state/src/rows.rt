@@ -14,7 +14,7 @@ use std::process::Abort;
 use std::sync::ledger::{Blank, Ledger};
 use test_samples::{pair_at_limits, sample};
 
-/// Compares the use of both resources of a machine, and the transient use, with what they are to be.
+/// Compares the use of both resources of a machine, and the transient use, with the expected numbers.
 fn compare_machine(rt: &impl Abort, rows: &Rows<'_>, m: Machine, used: [u64; 2], between: [u64; 2])
     requires machine { m.0 < machine_count rows.now.tables }
     requires resources { resource_count rows.now.tables ≡ 2 }
@@ -30,7 +30,7 @@ fn compare_machine(rt: &impl Abort, rows: &Rows<'_>, m: Machine, used: [u64; 2],
     same(rt, rows.transient_row(m), between.as_slice());
 }
 
-/// Puts a process on another machine, with a counter that no one else has.
+/// Moves a process to another machine, with a counter of its own.
 fn shift_once<L: Ledger>(rows: &mut Rows<'_>, p: Process, from: Machine, to: Machine, blank: Blank)
     requires name { blank.name ≡ L.name }
     requires parts { blank.parts ≡ L.parts }
@@ -46,7 +46,7 @@ fn shift_once<L: Ledger>(rows: &mut Rows<'_>, p: Process, from: Machine, to: Mac
     rows.shift(p, from, to, &mut steps);
 }
 
-/// Process 1 goes from machine 3, where it was at first, to machine 2.
+/// Process 1 goes from machine 3, its initial one, to machine 2.
 fn go(rt: &impl Abort, rows: &mut Rows<'_>)
     requires machines { machine_count rows.old.tables ≡ 4 }
     requires resources { resource_count rows.old.tables ≡ 2 }

@@ -44,7 +44,7 @@ fn compare_needs(rt: &impl Abort, topology: &Topology)
     );
 }
 
-/// Each service that a service needs is listed once, where the first of its dependencies names it.
+/// Each service that a service needs is listed once, at the first dependency that names it.
 fn compare_distinct(rt: &impl Abort, topology: &Topology)
     requires { length topology.now.distinct ≡ 4 }
 {

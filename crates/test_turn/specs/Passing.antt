@@ -6,23 +6,23 @@ use Rattle.ra_turn.specs.declared.turn.Turn.{Turn}
 use Rattle.ra_turn.specs.Passes.{IsReady, grips_of}
 
 module _ {V N O : Type 0} {g : Ghosts V N O} where
-  -- pass n of the lock is ready and holds no guard
+  -- pass n of the lock is ready and has no guard locked
   abbrev pub IsFree : Turn V N O → ℕ → Pass V N O g → Type 0
   IsFree t n p = IsReady t p × (p.number ≡ n) × (grips_of p ≡ [])
 
-  -- a pass is ready, holds no guard, and may take so many turns
+  -- a pass is ready, has no guard locked, and may take this number of turns
   abbrev pub MayTake : Turn V N O → ℕ → Pass V N O g → Type 0
   MayTake t turns p = IsReady t p × (turns ≤ p.left) × (grips_of p ≡ [])
 
-  -- pass n of the lock may take so many turns
+  -- pass n of the lock may take this number of turns
   abbrev pub NumberMayTake : Turn V N O → ℕ → ℕ → Pass V N O g → Type 0
   NumberMayTake t n turns p = IsReady t p × (p.number ≡ n) × (turns ≤ p.left) × (grips_of p ≡ [])
 
-  -- a pass after one turn, in which it neither took nor gave back a guard
+  -- a pass after one turn, in which it neither locked nor unlocked a guard
   abbrev pub HasTakenTurn : Turn V N O → Pass V N O g → Pass V N O g → Type 0
   HasTakenTurn t p q =
       IsReady t q × (q.number ≡ p.number) × (q.left + 1 ≡ p.left) × (grips_of q ≡ grips_of p)
 
-  -- a pass after one turn, behind which it holds no guard
+  -- a pass after one turn, with no guard locked
   abbrev pub HasLetGo : Turn V N O → Pass V N O g → Pass V N O g → Type 0
   HasLetGo t p q = IsReady t q × (q.number ≡ p.number) × (q.left + 1 ≡ p.left) × (grips_of q ≡ [])

@@ -1,5 +1,5 @@
-//! Tests of the lock: what its passes see and write, one after the other and in threads, and workers over it. There is
-//! nothing here but tests.
+//! Tests of the lock: what its passes see and write, one after the other and in threads, and workers that use it. The
+//! crate has nothing but tests.
 #![tactic(auto)]
 
 #[cfg(test)]

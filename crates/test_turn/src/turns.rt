@@ -10,7 +10,7 @@ use ra_turn::{Hold, Pass, Turn};
 use std::alloc::Global;
 use std::test::Fail;
 
-// A lock with two passes of so many turns.
+// A lock with two passes, each with this number of turns.
 fn for_two(alloc: Global, turns: u64, guards: u32) -> Option<(Turn<Pad>, Pass<Pad>, Pass<Pad>)>
     requires { turns < 2 ^ 32 }
     ensures lock { IfSome result (λ r. (passes_of r.0 ≡ 2) × (guards_of r.0 ≡ guards)) }

@@ -47,7 +47,7 @@ fn too_much(resource: u32, used: u64, cap: u32) -> Verdict {
 }
 
 /// Worker 0 would put process 1 on machine 2, and worker 1 process 2. The cost is then 3510, and the second finds less
-/// room if it comes behind the first.
+/// room if it comes after the first.
 const FIRST_TAKES_ROOM: &[&str] = &[
     "solve",
     "m",
@@ -58,8 +58,8 @@ const FIRST_TAKES_ROOM: &[&str] = &[
     "w:0,2,2,2,2,2,0,0",
 ];
 
-/// The ways in which that may go: worker 1 comes second, and was stale or not yet planned; or it comes first, and worker 0
-/// has planned before or behind it.
+/// How this may go: worker 1 comes second, and was stale or not yet planned; or it comes first, and worker 0 has
+/// planned before or after it.
 fn is_one_way(made: &Made) -> bool {
     let cost = Verdict::Done { cost: 3510 };
     let late = [
@@ -154,7 +154,7 @@ fn there_and_back() -> [Entry; 3] {
     [first, second, third]
 }
 
-/// A worker whose run is called by itself makes the same as one that is run as the program runs it.
+/// A worker whose run is called by itself makes the entries that it makes if the program runs it.
 fn one_worker_makes_the_same_alone<R: Abort + Threads + Wait + Sync>(
     rt: &R,
     alloc: Global,

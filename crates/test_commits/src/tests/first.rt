@@ -1,4 +1,4 @@
-//! The plans of first proposals at the start of a journal, and their handing in.
+//! The plans of first proposals at the start of a journal, and how they are handed in.
 ghost use Rattle.std.specs.Prelude.{◌≡◌, ◌<◌, None};
 ghost use Rattle.ra_model.specs.Assignments.{IsAssignment};
 ghost use Rattle.ra_model.specs.Broken.{first_broken};
@@ -50,7 +50,7 @@ pub(super) fn first_plan<L: Ledger>(
     plan(world, &words, lots.drawing(), allowed, 0, 0, steps)
 }
 
-/// Hands in a worker's first plan, if the worker has some budget and no entry is its own so far.
+/// Hands in a worker's first plan, if the worker has some budget and has made no entry so far.
 pub(super) fn hand_in(journal: &mut Journal<'_>, worker: u32, plan: &Plan) -> Option<Reply>
     requires { IsFirstPlan journal.old.inst.now.tables journal.old.a0.now.items
         journal.old.lots.now worker plan.now }

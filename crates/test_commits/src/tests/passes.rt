@@ -1,4 +1,4 @@
-//! What two workers are answered that take turns with a shared journal, each by its pass, one after the other on one
+//! The answers to two workers that take turns with a shared journal, each by its pass, one after the other on one
 //! thread.
 ghost use Rattle.std.specs.Prelude.{◌≡◌, ◌<◌, length, None};
 ghost use Rattle.ra_model.specs.Assignments.{IsAssignment};
@@ -26,8 +26,8 @@ use std::sync::Wait;
 use std::sync::ledger::Blank;
 use test_samples::{assignment, sample, two_lots};
 
-/// What both workers are answered, what each commit copies for its worker, how many entries each has then seen, and
-/// what the second is told of them.
+/// The answers to both workers, what each commit copies for its worker, how many entries each has then seen, and what
+/// the second learns of them.
 #[derive(Clone, Copy, Debug, PartialEq, Eq)]
 struct Answers {
     replies: [Reply; 2],
@@ -55,7 +55,7 @@ fn both<'a>(
     (first, second)
 }
 
-/// A worker hands in its first plan, in the first turn of its pass. Worker 0 has nothing copied.
+/// A worker hands in its first plan, in the first turn of its pass. For worker 0 nothing is copied.
 fn commit_first<'a, R: Abort + Wait>(
     rt: &R,
     shared: &Shared<'a>,
@@ -90,7 +90,7 @@ fn lone_entry(batch: &Batch) -> Option<Entry> {
     }
 }
 
-/// Both workers hand in their first plans, and the second looks what there is.
+/// Both workers hand in their first plans, and the second one looks at the entries.
 fn take_turns<'a, R: Abort + Wait>(
     rt: &R,
     alloc: Global,
@@ -145,7 +145,7 @@ fn close_both<'a>(
     shared.close(passes)
 }
 
-/// What two workers are answered over a start, and how many entries the journal then has.
+/// The answers to two workers over a start, and how many entries the journal then has.
 fn answers_over<R: Abort + Wait>(
     rt: &R,
     alloc: Global,
@@ -170,7 +170,8 @@ fn answers_over<R: Abort + Wait>(
     (answers, journal.len())
 }
 
-/// The same on the sample. Worker 0 brings process 1 to machine 2, where worker 1 has planned to bring process 2.
+/// The answers to two workers on the sample, and how many entries the journal then has. Worker 0 brings process 1 to
+/// machine 2, to which worker 1 has planned to bring process 2.
 fn answers_on_sample<R: Abort + Wait>(rt: &R, alloc: Global, inst: &Instance) -> (Answers, u64) {
     let lots = two_lots(alloc, 0, 1, &AWAY, &shift(2, 2)).expect(rt, "no memory");
     let a0 = assignment(alloc, &[0, 3, 0]).expect(rt, "no memory");
@@ -196,8 +197,8 @@ pub(super) fn away() -> Entry {
     }
 }
 
-/// What worker 1 is answered shows it the entry that made its plan stale, and its commit has copied it; nothing else is
-/// recorded.
+/// The answer to worker 1 shows the entry that made its plan stale, and its commit has copied this entry; nothing else
+/// is recorded.
 fn a_stale_pass_sees_the_entry<R: Abort + Wait>(rt: &R, alloc: Global, inst: &Instance) {
     let (answers, entries) = answers_on_sample(rt, alloc, inst);
     let wanted = Answers {

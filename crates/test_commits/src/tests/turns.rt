@@ -1,4 +1,4 @@
-//! What workers are answered that take turns with the journal.
+//! The answers to workers that take turns with the journal.
 ghost use Rattle.ra_worker_core.specs.Replicas.{AreAt};
 
 use super::first::start_parts;
@@ -36,7 +36,7 @@ fn play_all<'a>(
     replies
 }
 
-/// What the workers of these lots are answered on the sample.
+/// The answers to the workers of these lots on the sample.
 fn answers_on(
     rt: &impl Abort,
     alloc: Global,
@@ -75,8 +75,8 @@ fn answer(reply: Reply) -> CoreReply {
     CoreReply::Answer { reply }
 }
 
-/// What worker 1 is answered at place 1: process 2 would use 16 of resource 0 of machine 2 together with process 1,
-/// where the capacity is 15.
+/// The answer to worker 1 at place 1: process 2 would use 16 of resource 0 of machine 2 together with process 1, but
+/// the capacity is 15.
 fn over_capacity() -> Reply {
     let cause = Cause::Capacity {
         machine: Machine(2),
@@ -88,7 +88,7 @@ fn over_capacity() -> Reply {
     Reply::Recorded { at: 1, verdict }
 }
 
-/// Worker 0 brings process 1 to machine 2, where worker 1 has planned to bring process 2.
+/// Worker 0 brings process 1 to machine 2, to which worker 1 has planned to bring process 2.
 fn a_stale_worker_catches_up(rt: &impl Abort, alloc: Global, inst: &Instance) {
     let lots = two_lots(alloc, 0, 1, &AWAY, &shift(2, 2)).expect(rt, "no memory");
     let first = CoreEvent::Commit { worker: 0 };
@@ -117,7 +117,7 @@ fn a_worker_without_budget_is_skipped(rt: &impl Abort, alloc: Global, inst: &Ins
     expect_answers(rt, &answers, &wanted);
 }
 
-/// Worker 0 brings process 1 to machine 2. Worker 1 plans behind that entry, so its plan isn't stale.
+/// Worker 0 brings process 1 to machine 2. Worker 1 plans after this entry, so its plan isn't stale.
 fn workers_in_turn_make_a_whole_journal(rt: &impl Abort, alloc: Global, inst: &Instance) {
     let lots = two_lots(alloc, 0, 1, &AWAY, &shift(2, 2)).expect(rt, "no memory");
     let [first, second] = entries_of_both(rt, alloc, inst, &lots);

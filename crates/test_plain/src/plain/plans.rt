@@ -1,4 +1,4 @@
-//! What proposals name, judge and choose.
+//! What proposals name, and which move is judged and chosen.
 use super::super::starts::{demand, same_machines, start_of};
 use super::super::verdicts::{done, refused};
 use plain_judge::{Planned, plan_plainly};
@@ -128,8 +128,8 @@ fn plans_on_the_sample(rt: HostRuntime) {
     drop(inst);
 }
 
-/// To be moved costs 1, and 1 for the service. With the way it is 4 at machines 1 and 2, and 7 at machine 3. The last
-/// row is from machine 1, whose cost is 4, back to the start.
+/// A move costs 1, and 1 for the service. With the way it is 4 at machines 1 and 2, and 7 at machine 3. The last row is
+/// from machine 1, whose cost is 4, back to the start.
 fn the_first_option_of_least_cost_is_planned(rt: &impl Abort, alloc: Global, inst: &Instance) {
     let rise = Cause::Rise {
         before: 0,

@@ -13,8 +13,8 @@ const ROUNDS: u32 = 3;
 
 const MOVES: u32 = 30;
 
-/// Compares the plans of each chain and of each swap at the start of a walk and at two more places of it. Whether all are
-/// the same.
+/// Compares the plans of each chain and of each swap at the start of a walk and at two more places of it. Whether all
+/// are equal.
 pub(super) fn each_agrees<L: Ledger>(
     rt: &impl Abort,
     alloc: Global,
@@ -34,7 +34,7 @@ pub(super) fn each_agrees<L: Ledger>(
     true
 }
 
-/// The same at one assignment.
+/// Compares the plans of each chain and of each swap at one assignment. Whether all are equal.
 fn all_agree<L: Ledger>(
     rt: &impl Abort,
     alloc: Global,
@@ -55,7 +55,7 @@ fn all_agree<L: Ledger>(
     true
 }
 
-/// The same of the swap of two processes, with no rise allowed and with any.
+/// Compares the plans of the swap of two processes, with no rise allowed and with any.
 fn swap_agrees<L: Ledger>(
     rt: &impl Abort,
     alloc: Global,
@@ -71,7 +71,8 @@ fn swap_agrees<L: Ledger>(
     compare(rt, alloc, world, &words, Drawing::One, u64::MAX, steps).is_some()
 }
 
-/// The same of the chains that begin with two processes: those that go round, that enter one machine twice, and the others.
+/// Compares the plans of the chains that begin with two processes: those that go round, those that enter one machine
+/// twice, and the others.
 fn chains_agree<L: Ledger>(
     rt: &impl Abort,
     alloc: Global,

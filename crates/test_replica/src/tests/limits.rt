@@ -5,7 +5,7 @@ use ra_model::{Instance, MachineRow};
 use std::alloc::Global;
 use test_samples::{Lists, NotMade, balance, instance, machine, process, resource, service};
 
-/// Up to 2^30 what a process asks of all rows is summed as it is; a number of a row is kept no higher.
+/// What a process asks of all rows is summed exactly up to 2^30; a number of a row is capped there.
 const CAP: u32 = 1073741824;
 
 /// The greatest number that a file may have.

@@ -49,7 +49,7 @@ fn verdict_on(world: &World<'_>, planned: &Plan, allowed: u64) -> Verdict
 }
 
 /// Compares the two plans of a proposal: the moves, and the verdicts on them. Gives whether they are done, if they are
-/// the same.
+/// equal.
 pub(super) fn compare<L: Ledger>(
     rt: &impl Abort,
     alloc: Global,
@@ -77,7 +77,7 @@ pub(super) fn is_done(verdict: &Verdict) -> bool {
     }
 }
 
-/// Whether a move is done, and the cost is then this.
+/// Whether a move is done, and the cost after it is this.
 pub(super) fn is_done_at(verdict: &Verdict, want: u128) -> bool {
     match verdict {
         Verdict::Done { cost } => *cost == want,

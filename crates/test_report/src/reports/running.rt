@@ -28,7 +28,7 @@ use test_samples::{assignment, strings};
 #[derive(Clone, Copy)]
 pub(super) enum Written {
     Report,
-    /// The report, written at so many desks.
+    /// The report, written at a number of desks.
     ReportAt(u32),
     Summary,
 }
@@ -62,7 +62,7 @@ fn bound_from(rt: &impl Abort, alloc: Global, inst: &Instance, a0: &Assignment) 
     pinned_bound(inst, &pins)
 }
 
-/// Writes the report of a run that has ended at so many desks, with the bound of its instance and its start.
+/// Writes the report of a run that has ended at a number of desks, with the bound of its instance and its start.
 fn write_at<R: Abort + Threads + Sync>(
     rt: &R,
     alloc: Global,

@@ -1,4 +1,4 @@
-//! Cells beside the assignment that they stand for.
+//! Cells beside the assignment that they represent.
 ghost use Rattle.std.specs.Prelude.{◌≡◌, ◌<◌, IfOk};
 ghost use Rattle.ra_model.specs.Numbers.{machine_count, service_count, process_count};
 ghost use Rattle.ra_model.specs.Assignments.{IsAssignment};
@@ -9,7 +9,7 @@ use ra_cells::Cells;
 use ra_model::Instance;
 use std::alloc::Global;
 
-/// Cells and the assignment that they stand for.
+/// Cells and the assignment that they represent.
 #[derive(Drop)]
 pub(super) struct Mirror<'a> {
     pub(super) inst: &'a Instance,
@@ -39,7 +39,7 @@ impl<'a> Mirror<'a> {
         })
     }
 
-    /// Puts process `p` on machine `to`, each number taken as far as there are such.
+    /// Moves process `p` to machine `to`; both numbers are taken modulo how many there are.
     #[tactic(auto, using(ra_cells::proofs::CellLemmas::standing))]
     pub(super) fn put(&mut self, p: u32, to: u32) {
         let p = Process(p % self.inst.processes());

@@ -12,8 +12,8 @@ use std::alloc::Global;
 use std::process::Abort;
 use test_samples::eight_machines;
 
-/// The first newer guard of a move than place 2, and the first that it only reads, if the entry at place 2 makes
-/// another move. None if memory was refused or the instance hasn't what they name.
+/// The first guard of a move that is newer than place 2, and the first such guard that the move only reads, if the
+/// entry at place 2 makes another move. None if memory was refused or the instance doesn't have what they name.
 #[tactic(auto, using(ra_guards::proofs::NewestLemmas::had))]
 fn newest(
     alloc: Global,

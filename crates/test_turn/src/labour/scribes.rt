@@ -1,4 +1,4 @@
-// Workers that write lines in a pad behind the lock. The pad borrows, so that the workers' type names a lifetime.
+// Workers that write lines in a pad that a lock protects. The pad borrows, so that the workers' type names a lifetime.
 ghost use Rattle.std.specs.Prelude.{◌≡◌, ◌+◌, ◌<◌, ◌≤◌, [], ◌++◌, ◌∷◌, false, length, IfSome, MatchBool};
 ghost use Rattle.ra_turn.specs.Passes.{EachAt, IsDone, IsReady, grips_of, passes_of};
 ghost use Rattle.test_turn.specs.Passing.{HasLetGo, IsFree, MayTake, NumberMayTake};
@@ -40,7 +40,7 @@ impl<'a> Story for Pad<'a> {
     }
 }
 
-// One worker, with so many lines to write.
+// One worker, with a number of lines to write.
 #[derive(Drop)]
 pub struct Scribe<'a> {
     pass: Pass<Pad<'a>>,
@@ -58,7 +58,7 @@ impl<'a> Labour<Turn<Pad<'a>>> for Scribe<'a> {
     }
 }
 
-// Writes a line in each of so many turns.
+// Writes a line in each of a number of turns.
 fn write_all<'a, R: Wait>(rt: &R, turn: &Turn<Pad<'a>>, pass: &mut Pass<Pad<'a>>, lines: u32)
     requires { MayTake turn.now lines pass.old }
     ensures { IsFree turn.now pass.old.number pass.new }
@@ -147,7 +147,7 @@ fn into_pass<'a>(scribe: Scribe<'a>) -> Pass<Pad<'a>>
     pass
 }
 
-// What the workers write, each so many lines.
+// What the workers write, a number of lines each.
 pub fn written<'a, R: Threads + Wait + Sync>(
     rt: &R,
     alloc: Global,

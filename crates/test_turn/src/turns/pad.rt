@@ -1,4 +1,4 @@
-// A value behind the lock: a list of lines.
+// A value that a lock protects: a list of lines.
 ghost use Rattle.std.specs.Prelude.{◌≡◌, ℕ, ◌+◌, ◌<◌, ◌≤◌, ◌==◌, [], ◌∷◌, ◌++◌, length, MatchBool};
 ghost use Rattle.ra_turn.specs.Notes.{IsVersion, grip};
 ghost use Rattle.ra_turn.specs.Passes.{IsReady, guards_of, grips_of, seen_by};
@@ -109,8 +109,8 @@ pub fn take_turn<R: Wait>(
     found
 }
 
-// Holds the guard at what the pass has seen, writes a line that touches it, and gives it back.
-// Where the guard is newer, writes a line that touches none.
+// Locks the guard at what the pass has seen, writes a line that touches it, and unlocks it. If the guard is newer, it
+// writes a line that touches none.
 pub fn write_held<R: Wait>(
     rt: &R,
     turn: &Turn<Pad>,
@@ -149,7 +149,7 @@ pub fn write_line<R: Wait>(rt: &R, turn: &Turn<Pad>, pass: &mut Pass<Pad>, line:
     turn.give(pass, held);
 }
 
-// Writes a line that touches the guard, which the pass holds, and gives the guard back.
+// Writes a line that touches the guard, which the pass has locked, and unlocks the guard.
 fn write_and_release<R: Wait>(
     rt: &R,
     turn: &Turn<Pad>,
@@ -170,7 +170,7 @@ fn write_and_release<R: Wait>(
     turn.release(pass, guard, version);
 }
 
-// Holds the guard at what the pass has seen, and gives it back.
+// Locks the guard at what the pass has seen, and unlocks it.
 pub fn hold_and_release<R: Wait>(rt: &R, turn: &Turn<Pad>, pass: &mut Pass<Pad>, guard: u32) -> Hold
     requires pass { IsReady turn.now pass.old × (grips_of pass.old ≡ []) }
     requires guard { guard < guards_of turn.now }

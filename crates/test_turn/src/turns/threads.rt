@@ -11,7 +11,7 @@ use std::test::Fail;
 use std::thread;
 use std::thread::Threads;
 
-// Writes a line in each of so many turns.
+// Writes a line in each of a number of turns.
 fn write_all<R: Wait>(rt: &R, turn: &Turn<Pad>, pass: &mut Pass<Pad>, turns: u32)
     requires { MayTake turn.now turns pass.old }
     ensures { IsFree turn.now pass.old.number pass.new }
@@ -22,7 +22,7 @@ fn write_all<R: Wait>(rt: &R, turn: &Turn<Pad>, pass: &mut Pass<Pad>, turns: u32
     }
 }
 
-// The same, and holds a guard in each eighth turn.
+// Writes a line in each of a number of turns, and locks a guard in each eighth turn.
 fn write_some_held<R: Wait>(rt: &R, turn: &Turn<Pad>, pass: &mut Pass<Pad>, turns: u32, guards: u32)
     requires pass { MayTake turn.now turns pass.old }
     requires guards { (0 < guards) × (guards ≡ guards_of turn.now) }
@@ -33,7 +33,7 @@ fn write_some_held<R: Wait>(rt: &R, turn: &Turn<Pad>, pass: &mut Pass<Pad>, turn
     }
 }
 
-// Writes a line, and holds a guard for it at each eighth number.
+// Writes a line, and locks a guard for it at each eighth number.
 fn write_one<R: Wait>(rt: &R, turn: &Turn<Pad>, pass: &mut Pass<Pad>, number: u32, guards: u32)
     requires pass { IsReady turn.now pass.old × (0 < pass.old.left) × (grips_of pass.old ≡ []) }
     requires guards { (0 < guards) × (guards ≡ guards_of turn.now) }
@@ -47,7 +47,7 @@ fn write_one<R: Wait>(rt: &R, turn: &Turn<Pad>, pass: &mut Pass<Pad>, number: u3
     }
 }
 
-// What so many threads write, each in so many turns.
+// What a number of threads write, each in a number of turns.
 fn written<R: Threads + Wait + Sync>(rt: &R, alloc: Global, passes: u32, turns: u32) -> Option<Pad>
     requires { (1 ≤ passes) × (passes < 100) }
 {
@@ -63,7 +63,7 @@ fn written<R: Threads + Wait + Sync>(rt: &R, alloc: Global, passes: u32, turns: 
     Some(turn.close(all))
 }
 
-// The same with guards.
+// What a number of threads write, each in a number of turns, if they lock guards.
 fn written_held<R: Threads + Wait + Sync>(
     rt: &R,
     alloc: Global,

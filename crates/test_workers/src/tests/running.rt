@@ -65,7 +65,7 @@ pub(super) fn entries_of(alloc: Global, journal: &Journal<'_>) -> Result<Fixed<E
     Ok(entries)
 }
 
-/// What is told of a run that has ended.
+/// What the tests keep of a run that has ended.
 fn tell(
     rt: &impl Abort,
     alloc: Global,

@@ -1,4 +1,4 @@
--- The ledger is the one of the blank that is handed in.
+-- The ledger is that of the given blank.
 use Rattle.ra_bounds.proofs.lower.bound.Given as goal
 
 abbrev pub ghosts-required_sums : goal.ghosts-required_sums

@@ -1,4 +1,4 @@
--- The ledger is the one of the blank that is handed in.
+-- The ledger is that of the given blank.
 use Rattle.ra_check.proofs.capacity.broken_capacity.Given as goal
 
 abbrev pub ghosts-sum_usage : goal.ghosts-sum_usage

@@ -1,4 +1,4 @@
--- The ledger is the one of the blank that is handed in.
+-- The ledger is that of the given blank.
 use Rattle.ra_check.proofs.transient.broken_transient.Given as goal
 
 abbrev pub ghosts-sum_transient : goal.ghosts-sum_transient

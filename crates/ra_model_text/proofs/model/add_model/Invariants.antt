@@ -1,4 +1,4 @@
--- The ledger is the one of the blank that is handed in.
+-- The ledger is that of the given blank.
 use Rattle.ra_model_text.proofs.model.add_model.Given as goal
 
 abbrev pub ghosts-add_processes : goal.ghosts-add_processes

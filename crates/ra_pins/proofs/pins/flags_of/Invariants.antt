@@ -1,4 +1,4 @@
--- The ledger is the one of the blank that is handed in.
+-- The ledger is that of the given blank.
 use Rattle.ra_pins.proofs.pins.flags_of.Given as goal
 
 abbrev pub ghosts-find_pinned : goal.ghosts-find_pinned

@@ -1,4 +1,4 @@
--- The ledger is the one of the blank that is handed in.
+-- The ledger is that of the given blank.
 use Rattle.ra_pins.proofs.search.kept_at_start.Given as goal
 
 abbrev pub ghosts-keep_between : goal.ghosts-keep_between

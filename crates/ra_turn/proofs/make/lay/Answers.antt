@@ -6,7 +6,7 @@ use Rattle.ra_turn.specs.Law.{Ruled, maker as first_view}
 use Rattle.ra_turn.proofs.Ends.{starts}
 use Rattle.ra_turn.proofs.make.lay.Goals as goal
 
--- three words stand before those of the guards
+-- three words come before those of the guards
 three_more : (guards : ℕ) → replicate {A = ℕ} (3 + guards) 0 ≡ 0 ∷ 0 ∷ 0 ∷ replicate {A = ℕ} guards 0
 three_more guards = let e : 3 + guards ≡ suc (suc (suc guards)) = omega arith in ap (λ (n : ℕ). replicate {A = ℕ} n 0) e
 

@@ -1,4 +1,4 @@
--- The numbers behind those of the resources don't count.
+-- The numbers after those of the resources don't count.
 use Rattle.std.proofs.Common.{◌∙◌, ◌+◌, ℕ, ap₂, arith, slice_index}
 use Rattle.std.proofs.lemmas.List.{get_or-take}
 use Rattle.ra_model.proofs.MachineLemmas.{row_load_same, row_balance_same}

@@ -1,4 +1,4 @@
--- The reader stands in its file, and not further than the lines that were asked for.
+-- The reader is in its file, and not past the lines that were asked for.
 use Rattle.std.proofs.Common.{◌*◌, ◌≤◌}
 use Rattle.ra_report_lines.specs.Reading.{Reads}
 use Rattle.test_reading.proofs.lines.demand.Given as goal

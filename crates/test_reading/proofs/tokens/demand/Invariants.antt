@@ -1,4 +1,4 @@
--- The reader stands in its file.
+-- The reader is in its file.
 use Rattle.ra_token.specs.Reads.{Reads}
 use Rattle.test_reading.proofs.tokens.demand.Given as goal
 

@@ -1,4 +1,4 @@
--- The ledger is the one of the blank that is handed in.
+-- The ledger is that of the given blank.
 use Rattle.test_state.proofs.model.the_sample_is_read_back.Given as goal
 
 abbrev pub ghosts-of_process : goal.ghosts-of_process

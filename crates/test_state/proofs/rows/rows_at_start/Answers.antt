@@ -1,4 +1,4 @@
--- The rows stand for the start.
+-- The rows represent the start.
 use Rattle.test_state.proofs.rows.rows_at_start.Goals as goal
 
 pub returns-clause-stands : goal.returns-clause-stands

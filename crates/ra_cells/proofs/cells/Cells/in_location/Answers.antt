@@ -1,4 +1,4 @@
--- What is held is what each assignment has that the cells stand for.
+-- What is held is what each assignment has that the cells represent.
 use Rattle.ra_cells.proofs.CellLemmas.{told_location}
 use Rattle.ra_cells.proofs.cells.Cells.in_location.Goals as goal
 

@@ -1,4 +1,4 @@
--- What is held is what each assignment has that the cells stand for.
+-- What is held is what each assignment has that the cells represent.
 use Rattle.ra_cells.proofs.CellLemmas.{told_neighbourhood}
 use Rattle.ra_cells.proofs.cells.Cells.in_neighbourhood.Goals as goal
 

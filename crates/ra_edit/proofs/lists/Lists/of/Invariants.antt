@@ -1,4 +1,4 @@
--- The ledger is the one of the blank that is handed in.
+-- The ledger is that of the given blank.
 use Rattle.ra_edit.proofs.lists.Lists.of.Given as goal
 
 abbrev pub ghosts-requirements_of : goal.ghosts-requirements_of

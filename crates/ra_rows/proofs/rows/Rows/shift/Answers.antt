@@ -1,4 +1,4 @@
--- What the rows stand for after the shift.
+-- What the rows represent after the shift.
 use Rattle.std.proofs.Common.{◌≡◌, ◌<◌, ◌∙◌, List, set, sym, subst}
 use Rattle.ra_base.specs.declared.ids.Machine.{Machine}
 use Rattle.ra_model.specs.Numbers.{process_count, machine_count}

@@ -1,4 +1,4 @@
--- Each write guard is held before the next one, and given back after it.
+-- Each write guard is locked before the next one, and unlocked after it.
 use Rattle.std.proofs.Common.{◌≡◌, ◌+◌, ◌-◌, ◌<◌, ◌≤◌, ℕ, List, length, Contains, IfSome, rules, refl, ap, sym, subst, ◌∙◌}
 use Rattle.std.proofs.Common.{arith}
 use Rattle.std.proofs.lemmas.List.Elements.{All-contains}

@@ -6,7 +6,7 @@ use Rattle.ra_turn.specs.Notes.{by, without}
 use Rattle.ra_turn.proofs.Passing.{shut_at}
 use Rattle.ra_turn.proofs.turn.Turn.release.Goals as goal
 
--- the guards that are still held are words of the table
+-- the words of the guards that stay locked are words of the table
 pub invariant_of-pass-clause-within : goal.invariant_of-pass-clause-within
 invariant_of-pass-clause-within g c = let old = c.args.pass.now.seat in let new = c.release_guard.new.seat in
     let grips : new.me.0.grips ≡ without c.args.guard old.me.0.grips =

@@ -1,4 +1,4 @@
--- The ends that are left, and behind them those that are entered.
+-- The ends that are left, and after them those that are entered.
 use Rattle.std.proofs.Common.{◌-◌, arith}
 use Rattle.ra_moves.specs.Values.{end_count}
 use Rattle.ra_weigh_causes.specs.Trials.{tables_of, steps_of, before_of}

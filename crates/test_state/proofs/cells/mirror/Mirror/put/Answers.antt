@@ -1,4 +1,4 @@
--- The assignment is one that the cells stand for, and so is the changed one.
+-- The assignment is one that the cells represent, and so is the changed one.
 use Rattle.std.proofs.Common.{◌≡◌, ◌<◌, ◌%◌, length, sym, arith}
 use Rattle.ra_model.specs.Assignments.{machine_at}
 use Rattle.ra_model.proofs.TallyLemmas.{machine_at_read}
