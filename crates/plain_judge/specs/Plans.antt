@@ -10,7 +10,7 @@ use Rattle.plain_judge.specs.declared.planning.Planned.{Planned}
 
 -- the plan of a proposal, with the verdict on it. Its processes are on the machines that its steps leave, its steps
 -- enter machines of the instance, and it names each process once, unless it is refused as Repeat
-pub record IsPlanned (st : Situation) (x : List ℕ) (d : Drawing) (allowed : ℕ) (planned : Planned) :
+pub record IsPlannedWithVerdict (st : Situation) (x : List ℕ) (d : Drawing) (allowed : ℕ) (planned : Planned) :
     Type 0 where
   pub move : planned.mv ≡ plan_of st x d allowed
   pub verdict : planned.verdict ≡ judge st planned.mv.steps allowed

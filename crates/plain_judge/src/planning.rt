@@ -5,7 +5,7 @@ ghost use Rattle.ra_model.specs.Costs.{objective};
 ghost use Rattle.ra_model.specs.Situations.{situation};
 ghost use Rattle.ra_check.specs.Made.{IsMadeFor};
 ghost use Rattle.ra_moves.specs.Options.{done_cost};
-ghost use Rattle.plain_judge.specs.Plans.{IsPlanned};
+ghost use Rattle.plain_judge.specs.Plans.{IsPlannedWithVerdict};
 
 use crate::judging::judge_plainly;
 use ra_base::{Assignment, Drawing};
@@ -41,7 +41,7 @@ pub fn plan_plainly(
     requires same { other.old.items ≡ a.now.items }
     requires made { IsMadeFor scratch.old inst.now.tables }
     requires before { before ≡ objective inst.now.tables a0.now.items a.now.items }
-    ensures planned { IsPlanned (situation inst.now.tables a0.now.items a.now.items) words.now
+    ensures planned { IsPlannedWithVerdict (situation inst.now.tables a0.now.items a.now.items) words.now
         drawing allowed result }
     ensures unchanged { other.new ≡ other.old }
     ensures kept { IsMadeFor scratch.new inst.now.tables }

@@ -23,7 +23,7 @@ use Rattle.ra_assign.specs.declared.faults.AssignFault.TheVariants.{NoMachine, E
 use Rattle.ra_assign.specs.Lists.{assign_fault, none_left, machine_test, process_test, behind_test, end_test}
 use Rattle.ra_assign.specs.Lists.{assign_refusal, machine_of, IsAssignmentFile, IsAssignmentOf}
 use Rattle.ra_assign.specs.Answers.{AssignSays}
-use Rattle.ra_assign.specs.Reading.{TakesMachine, HasTaken, HasEnded}
+use Rattle.ra_assign.specs.Reading.{TakesMachine, HasTakenMachines, HasEnded}
 
 -- a refusal that says what one finding is says what another one is, if that is the same
 says_same : (found other : Option AssignFault) (fault : AssignFault) → (found ≡ Some fault → other ≡ Some fault) →
@@ -121,7 +121,8 @@ end_extra bytes n t answer = rw answer (behind_token (first_fault bytes) t)
 
 -- one more machine was taken
 pub taken_more : (bytes : List ℕ) (i : Tables) (place after n : ℕ) (a : List Machine) (m : Machine) →
-    HasTaken bytes i place n a → TakesMachine bytes i place after m → HasTaken bytes i after (n + 1) (a ++ m ∷ [])
+    HasTakenMachines bytes i place n a → TakesMachine bytes i place after m →
+    HasTakenMachines bytes i after (n + 1) (a ++ m ∷ [])
 taken_more bytes i place after n a m before takes =
     let there : n < length (tokens bytes) =
     slice_get_within (tokens bytes) n takes.token (rw before.given at takes.found) in
@@ -209,7 +210,7 @@ assign_accepts bytes i = (there, back)
 
 -- all machines were taken, and nothing is left
 pub taken_all : (bytes : List ℕ) (i : Tables) (place : ℕ) (a : List Machine) →
-    HasTaken bytes i place (process_count i) a → HasEnded bytes place → IsAssignmentOf bytes i a
+    HasTakenMachines bytes i place (process_count i) a → HasEnded bytes place → IsAssignmentOf bytes i a
 unfolding assign_refusal
 taken_all bytes i place a taken ended =
     record {
@@ -222,7 +223,7 @@ taken_all bytes i place a taken ended =
 
 -- what is wrong with the machine of process n is the refusal
 pub refused_at : (bytes : List ℕ) (i : Tables) (place n : ℕ) (a : List Machine) (fault : AssignFault) →
-    n < process_count i → HasTaken bytes i place n a →
+    n < process_count i → HasTakenMachines bytes i place n a →
     AssignSays (process_test bytes i (tokens_before bytes place)) fault → AssignSays (assign_refusal bytes i) fault
 refused_at bytes i place n a fault within taken says = says_same (process_test bytes i (tokens_before bytes place))
     (assign_refusal bytes i) fault (λ (e : process_test bytes i (tokens_before bytes place) ≡ Some fault).
@@ -230,7 +231,7 @@ refused_at bytes i place n a fault within taken says = says_same (process_test b
 
 -- what is wrong after the last process is the refusal
 pub refused_behind : (bytes : List ℕ) (i : Tables) (place : ℕ) (a : List Machine) (fault : AssignFault) →
-    HasTaken bytes i place (process_count i) a → AssignSays (end_test bytes (tokens_before bytes place)) fault →
+    HasTakenMachines bytes i place (process_count i) a → AssignSays (end_test bytes (tokens_before bytes place)) fault →
     AssignSays (assign_refusal bytes i) fault
 unfolding assign_refusal
 refused_behind bytes i place a fault taken says = says_same (end_test bytes (tokens_before bytes place))

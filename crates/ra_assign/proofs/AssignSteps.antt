@@ -18,7 +18,7 @@ use Rattle.ra_assign.specs.declared.faults.AssignFault.TheVariants.{ReadFault, M
 use Rattle.ra_assign.specs.Lists.{assign_fault, process_test, end_test, assign_refusal, IsAssignmentOf}
 use Rattle.ra_assign.specs.Answers.{AssignSays}
 use Rattle.ra_token.specs.Moments.{HasNext, HasFault}
-use Rattle.ra_assign.specs.Reading.{TakesMachine, HasTaken, HasEnded}
+use Rattle.ra_assign.specs.Reading.{TakesMachine, HasTakenMachines, HasEnded}
 use Rattle.ra_assign.proofs.AssignLemmas.{process_fault, process_missing, process_outside, process_inside, end_fault}
 use Rattle.ra_assign.proofs.AssignLemmas.{end_sound, end_extra, taken_all, refused_at, refused_behind}
 
@@ -75,7 +75,7 @@ extra bytes x y t h = end_extra bytes (tokens_before bytes x) t h.answer
 
 -- at the start nothing was taken
 pub taken_none : (bytes : List ℕ) (i : Tables) (place : ℕ) (a : List Machine) → tokens_before bytes place ≡ 0 → a ≡ [] →
-    HasTaken bytes i place 0 a
+    HasTakenMachines bytes i place 0 a
 unfolding first
 taken_none bytes i place a start empty = record { given = start; sound = refl; machines = empty }
 
@@ -95,7 +95,7 @@ in_range_more i a m n size before here k within = ⊎_elim
 
 -- what is wrong with the machine of process n, and what is wrong after the last process, is the refusal
 pub refused_now : (bytes : List ℕ) (i : Tables) (place n : ℕ) (a : List Machine) (fault : AssignFault) →
-    n < process_count i → HasTaken bytes i place n a →
+    n < process_count i → HasTakenMachines bytes i place n a →
     (tokens_before bytes place ≡ n → AssignSays (process_test bytes i n) fault) →
     AssignSays (assign_refusal bytes i) fault
 refused_now bytes i place n a fault within taken stop =
@@ -103,16 +103,16 @@ refused_now bytes i place n a fault within taken stop =
     (subst (λ (k : ℕ). AssignSays (process_test bytes i k) fault) (sym taken.given) (stop taken.given))
 
 pub refused_then : (bytes : List ℕ) (i : Tables) (place n : ℕ) (a : List Machine) (fault : AssignFault) →
-    n ≡ process_count i → HasTaken bytes i place n a → AssignSays (end_test bytes (tokens_before bytes place)) fault →
-    AssignSays (assign_refusal bytes i) fault
+    n ≡ process_count i → HasTakenMachines bytes i place n a →
+    AssignSays (end_test bytes (tokens_before bytes place)) fault → AssignSays (assign_refusal bytes i) fault
 refused_then bytes i place n a fault e taken says =
-    refused_behind bytes i place a fault (subst (λ (k : ℕ). HasTaken bytes i place k a) e taken) says
+    refused_behind bytes i place a fault (subst (λ (k : ℕ). HasTakenMachines bytes i place k a) e taken) says
 
 -- all machines were taken
 pub all_taken : (bytes : List ℕ) (i : Tables) (place n : ℕ) (a : List Machine) → n ≡ process_count i →
-    HasTaken bytes i place n a → HasEnded bytes place → IsAssignmentOf bytes i a
+    HasTakenMachines bytes i place n a → HasEnded bytes place → IsAssignmentOf bytes i a
 all_taken bytes i place n a e taken end =
-    taken_all bytes i place a (subst (λ (k : ℕ). HasTaken bytes i place k a) e taken) end
+    taken_all bytes i place a (subst (λ (k : ℕ). HasTakenMachines bytes i place k a) e taken) end
 
 pub all_fit : (i : Tables) (n : ℕ) (a : List Machine) → n ≡ process_count i → length a ≡ n →
     ((k : ℕ) → k < n → machine_at a k < machine_count i) → IsAssignment i a

@@ -5,11 +5,11 @@ use Rattle.std.proofs.lemmas.List.{drop_all, append_assoc}
 use Rattle.std.proofs.Math.Seq.{drop-cons}
 use Rattle.std.specs.Prelude.{drop, decimal}
 use Rattle.ra_base.specs.declared.ids.Machine.{Machine}
-use Rattle.ra_assign.specs.Lists.{assignment_bytes, more_text, machine_text, text_from}
+use Rattle.ra_assign.specs.Lists.{assignment_bytes, more_machines_text, assigned_text, text_from}
 
 -- one machine and what is after it
-text_step : (p : ℕ) (m : Machine) (ms : List Machine) → text_from p (m ∷ ms) ≡ machine_text p m ++ text_from (suc p) ms
-unfolding text_from machine_text assignment_bytes more_text
+text_step : (p : ℕ) (m : Machine) (ms : List Machine) → text_from p (m ∷ ms) ≡ assigned_text p m ++ text_from (suc p) ms
+unfolding text_from assigned_text assignment_bytes more_machines_text
 text_step zero m ms = refl
 text_step (suc p) m ms = refl
 
@@ -21,16 +21,16 @@ none_written a = refl
 -- after the last machine
 pub all_written : (p : ℕ) (text : List ℕ) (a : List Machine) → text ++ text_from p [] ≡ assignment_bytes a →
     text ++ 10 ∷ [] ≡ assignment_bytes a
-unfolding text_from assignment_bytes more_text
+unfolding text_from assignment_bytes more_machines_text
 all_written zero text a e = e
 all_written (suc p) text a e = e
 
 -- one more machine
 pub more_written : (p : ℕ) (text after : List ℕ) (a : List Machine) (m d : Machine) → p < length a →
-    text ++ text_from p (drop p a) ≡ assignment_bytes a → m ≡ get_or a p d → after ≡ text ++ machine_text p m →
+    text ++ text_from p (drop p a) ≡ assignment_bytes a → m ≡ get_or a p d → after ≡ text ++ assigned_text p m →
     after ++ text_from (p + 1) (drop (p + 1) a) ≡ assignment_bytes a
 more_written p text after a m d within before read e =
-    rw (add-one, e, read) (append_assoc text (machine_text p (get_or a p d)) (text_from (suc p) (drop (suc p) a))
+    rw (add-one, e, read) (append_assoc text (assigned_text p (get_or a p d)) (text_from (suc p) (drop (suc p) a))
     ∙ (ap (λ (r : List ℕ). text ++ r) (sym (text_step p (get_or a p d) (drop (suc p) a)))
     ∙ (ap (λ (r : List Machine). text ++ text_from p r) (sym (drop-cons a p d within)) ∙ before)))
 
@@ -42,14 +42,14 @@ written p text after a past before e =
 
 -- a machine after others, and the first
 pub pushed_later : (p : ℕ) (m : Machine) (before between after : List ℕ) → 0 < p → between ≡ before ++ 32 ∷ [] →
-    after ≡ between ++ decimal m.0 → after ≡ before ++ machine_text p m
-unfolding machine_text
+    after ≡ between ++ decimal m.0 → after ≡ before ++ assigned_text p m
+unfolding assigned_text
 pushed_later zero m before between after later space e = absurd (omega (arith, later))
 pushed_later (suc p) m before between after later space e =
     e ∙ (ap (λ (t : List ℕ). t ++ decimal m.0) space ∙ append_assoc before (32 ∷ []) (decimal m.0))
 
 pub pushed_first : (p : ℕ) (m : Machine) (before between after : List ℕ) → p ≤ 0 → between ≡ before →
-    after ≡ between ++ decimal m.0 → after ≡ before ++ machine_text p m
-unfolding machine_text
+    after ≡ between ++ decimal m.0 → after ≡ before ++ assigned_text p m
+unfolding assigned_text
 pushed_first zero m before between after start same e = e ∙ ap (λ (t : List ℕ). t ++ decimal m.0) same
 pushed_first (suc p) m before between after start same e = absurd (omega (arith, start))

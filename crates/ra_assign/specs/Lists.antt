@@ -72,21 +72,21 @@ pub record IsAssignmentOf (bytes : List ℕ) (i : Tables) (a : List Machine) : T
   pub machines : a ≡ map machine_of (tokens bytes)
 
 -- the text of machines after others: a space and the number for each, and LF
-unfoldable pub more_text : List Machine → List ℕ
-more_text [] = 10 ∷ []
-more_text (m ∷ ms) = 32 ∷ decimal m.0 ++ more_text ms
+unfoldable pub more_machines_text : List Machine → List ℕ
+more_machines_text [] = 10 ∷ []
+more_machines_text (m ∷ ms) = 32 ∷ decimal m.0 ++ more_machines_text ms
 
 -- the text of an assignment: the numbers with one space between two, and LF
 unfoldable pub assignment_bytes : List Machine → List ℕ
 assignment_bytes [] = 10 ∷ []
-assignment_bytes (m ∷ ms) = decimal m.0 ++ more_text ms
+assignment_bytes (m ∷ ms) = decimal m.0 ++ more_machines_text ms
 
 -- the text of machine number p of an assignment: a space before each but the first
-unfoldable pub machine_text : ℕ → Machine → List ℕ
-machine_text zero m = decimal m.0
-machine_text (suc p) m = 32 ∷ decimal m.0
+unfoldable pub assigned_text : ℕ → Machine → List ℕ
+assigned_text zero m = decimal m.0
+assigned_text (suc p) m = 32 ∷ decimal m.0
 
 -- the text from machine number p on
 unfoldable pub text_from : ℕ → List Machine → List ℕ
 text_from zero ms = assignment_bytes ms
-text_from (suc p) ms = more_text ms
+text_from (suc p) ms = more_machines_text ms

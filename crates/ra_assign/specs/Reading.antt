@@ -22,7 +22,7 @@ pub record TakesMachine (bytes : List ℕ) (i : Tables) (before after : ℕ) (m 
     pub next : tokens_before bytes after ≡ tokens_before bytes before + 1
 
 -- the first n tokens were taken as the machines of the first n processes
-pub record HasTaken (bytes : List ℕ) (i : Tables) (place n : ℕ) (a : List Machine) : Type 0 where
+pub record HasTakenMachines (bytes : List ℕ) (i : Tables) (place n : ℕ) (a : List Machine) : Type 0 where
   pub given : tokens_before bytes place ≡ n
   pub sound : first n (process_test bytes i) ≡ None
   pub machines : a ≡ map machine_of (take n (tokens bytes))

@@ -1,5 +1,5 @@
 ghost use Rattle.std.specs.Prelude.{◌≡◌, ◌+◌, ◌≤◌, ◌++◌, length, decimal, IfOk};
-ghost use Rattle.ra_assign.specs.Lists.{assignment_bytes, machine_text};
+ghost use Rattle.ra_assign.specs.Lists.{assignment_bytes, assigned_text};
 
 use itoa::Buffer;
 use ra_base::{Assignment, Fixed, Machine, NoMemory};
@@ -30,7 +30,7 @@ pub fn assignment_text(alloc: Global, a: &Assignment) -> Result<Fixed<u8>, NoMem
 /// Adds the number of machine number `p` of an assignment, and a space before it unless it is the first.
 fn push_machine(text: &mut Fixed<u8>, p: usize, machine: Machine)
     requires { length text.old.items + 11 ≤ text.old.room }
-    ensures items { text.new.items ≡ text.old.items ++ machine_text p machine }
+    ensures items { text.new.items ≡ text.old.items ++ assigned_text p machine }
     ensures short { length text.new.items ≤ length text.old.items + 11 }
     ensures room { text.new.room ≡ text.old.room }
 {

@@ -10,7 +10,7 @@ use Rattle.ra_bounds.specs.Bounds.{load_bound, balance_bound, bound_of}
 use Rattle.ra_bounds.specs.PinnedBounds.{pinned_load_bound, pinned_bound_of}
 
 -- the bound is at most the cost of an assignment, and so is each of its parts
-pub record IsBelow (i : Tables) (a0 a : List Machine) : Type 0 where
+pub record IsLowerBound (i : Tables) (a0 a : List Machine) : Type 0 where
   pub load : load_bound i ≤ load_cost i a
   pub balance : balance_bound i ≤ balance_cost i a
   pub total : (bound_of i).total ≤ objective i a0 a
@@ -19,7 +19,7 @@ pub record IsBelow (i : Tables) (a0 a : List Machine) : Type 0 where
 abbrev pub NoneCostsLess : Type 0
 NoneCostsLess =
     (i : Tables) (a0 a : List Machine) → WellFormed i → IsAssignment i a → Feasible i a0 a
-    → IsBelow i a0 a
+    → IsLowerBound i a0 a
 
 -- the bound of an instance and a start is at most the cost of an assignment, and so is each of its parts
 pub record IsBelowPinned (i : Tables) (a0 a : List Machine) : Type 0 where

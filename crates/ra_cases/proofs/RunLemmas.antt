@@ -12,7 +12,7 @@ use Rattle.ra_jobs.specs.Output.{Output}
 use Rattle.ra_jobs.specs.Outputs.{CheckPrinted, BoundPrinted}
 use Rattle.ra_run.specs.Commands.{UsageComes, command_of}
 use Rattle.ra_run.specs.Headline.{SolvePrinted}
-use Rattle.ra_jobs.specs.Statuses.{number_of}
+use Rattle.ra_jobs.specs.Statuses.{status_number}
 use Rattle.ra_run.specs.Trials.{TrialPrinted}
 use Rattle.ra_cases.specs.declared.endings.Ending.{Ending}
 use Rattle.ra_cases.specs.Endings.{Same}
@@ -20,17 +20,17 @@ use Rattle.ra_cases.specs.Runs.{Runs}
 
 -- a status by its number
 
-usage_of : (status : Status) → number_of status ≡ 2 → status ≡ Usage
-unfolding number_of
+usage_of : (status : Status) → status_number status ≡ 2 → status ≡ Usage
+unfolding status_number
 usage_of Usage e = refl
 usage_of status e = cc
 
-of_usage : (status : Status) → status ≡ Usage → number_of status ≡ 2
-unfolding number_of
+of_usage : (status : Status) → status ≡ Usage → status_number status ≡ 2
+unfolding status_number
 of_usage status e = rw e refl
 
-done_of : (status : Status) → number_of status ≡ 0 → status ≡ Done
-unfolding number_of
+done_of : (status : Status) → status_number status ≡ 0 → status ≡ Done
+unfolding status_number
 done_of Done e = refl
 done_of status e = cc
 
@@ -145,7 +145,7 @@ pub runs : (words : List (List ℕ)) (files : Reading) (out err : Output) (taken
     (came wanted : Ending) → out.sink.taken ≡ Some [] → out.sink.taken_after ≡ Some taken →
     UsageComes (job_of words) out err status →
     IfSome (job_of words) (λ says. Does (command_of says) files out err status) → came.out.now ≡ taken →
-    came.status ≡ number_of status → Same came wanted → Runs words files.held wanted
+    came.status ≡ status_number status → Same came wanted → Runs words files.held wanted
 runs words files out err taken status came wanted empty after usage does took number same = record {
   usage = (
     λ two. usage.exactly.0 (usage_of status (sym number ∙ same.status ∙ two)),

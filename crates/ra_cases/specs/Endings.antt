@@ -11,9 +11,9 @@ pub record Same (came wanted : Ending) : Type 0 where
   pub err : came.err.now ≡ wanted.err.now
 
 -- the line of a case: its name, and whether it ended as it should
-unfoldable pub verdict_text : List ℕ → Bool → List ℕ
-verdict_text name true = joined (name ∷ codes ": ok\n" ∷ [])
-verdict_text name false = joined (name ∷ codes ": FAILED\n" ∷ [])
+unfoldable pub case_line : List ℕ → Bool → List ℕ
+case_line name true = joined (name ∷ codes ": ok\n" ∷ [])
+case_line name false = joined (name ∷ codes ": FAILED\n" ∷ [])
 
 -- a sink took more, or nothing
 abbrev pub Grows : Option (List ℕ) → Option (List ℕ) → Type 0
@@ -21,4 +21,4 @@ Grows old new = (text : List ℕ) × Appends old new text
 
 -- a sink took the line of a case that failed, and before it what shows why
 abbrev pub TellsFailure : Option (List ℕ) → Option (List ℕ) → List ℕ → Type 0
-TellsFailure old new name = (shown : List ℕ) × Appends old new (shown ++ verdict_text name false)
+TellsFailure old new name = (shown : List ℕ) × Appends old new (shown ++ case_line name false)

@@ -3,7 +3,7 @@ ghost use Rattle.std.specs.Io.KnownBytes.{Appends};
 ghost use Rattle.ra_io.specs.MemoryFiles as files;
 ghost use Rattle.ra_io.specs.MemorySink as taken;
 ghost use Rattle.ra_words.specs.Words.{texts};
-ghost use Rattle.ra_cases.specs.Endings.{verdict_text, Grows, TellsFailure};
+ghost use Rattle.ra_cases.specs.Endings.{case_line, Grows, TellsFailure};
 ghost use Rattle.ra_cases.specs.Runs.{Runs};
 
 use crate::endings::{Ending, is_same};
@@ -150,7 +150,7 @@ pub(crate) fn try_case<R: Threads + Wait + Sync, O: Sink>(
     sink: &mut O,
 ) -> Result<bool, Trouble>
     ensures ok { result ≡ Ok true
-        → Appends (O.taken sink.old) (O.taken sink.new) (verdict_text name.now true) }
+        → Appends (O.taken sink.old) (O.taken sink.new) (case_line name.now true) }
     ensures failed { result ≡ Ok false
         → TellsFailure (O.taken sink.old) (O.taken sink.new) name.now }
 {
@@ -177,7 +177,7 @@ fn tell_case<R: Threads + Wait + Sync, O: Sink>(
     sink: &mut O,
 ) -> Result<bool, Trouble>
     ensures ok { result ≡ Ok true
-        → Appends (O.taken sink.old) (O.taken sink.new) (verdict_text name.now true) }
+        → Appends (O.taken sink.old) (O.taken sink.new) (case_line name.now true) }
     ensures failed { result ≡ Ok false
         → TellsFailure (O.taken sink.old) (O.taken sink.new) name.now }
 {

@@ -1,6 +1,6 @@
 ghost use Rattle.std.specs.Prelude.{OnOk};
 ghost use Rattle.std.specs.Io.KnownBytes.{Appends};
-ghost use Rattle.ra_cases.specs.Endings.{verdict_text, Grows};
+ghost use Rattle.ra_cases.specs.Endings.{case_line, Grows};
 
 use crate::endings::Ending;
 use crate::trouble::Trouble;
@@ -8,10 +8,10 @@ use ra_io::{Failed, Sink, put_all};
 use std::alloc::{AllocError, Global};
 
 /// Puts the line of a case: its name, and whether it ended as it should.
-#[tactic(auto, unfolding(crate::specs::Endings::verdict_text))]
+#[tactic(auto, unfolding(crate::specs::Endings::case_line))]
 pub(crate) fn put_verdict<O: Sink>(sink: &mut O, name: &str, same: bool) -> Result<(), Failed>
     ensures { OnOk result
-        (Appends (O.taken sink.old) (O.taken sink.new) (verdict_text name.now same)) }
+        (Appends (O.taken sink.old) (O.taken sink.new) (case_line name.now same)) }
 {
     put_all(sink, name.as_bytes())?;
     if same {

@@ -21,7 +21,7 @@ use Rattle.ra_cells.specs.declared.cells.Cells.{Cells}
 use Rattle.ra_cells.specs.declared.marks.Mark.{Mark}
 use Rattle.ra_cells.specs.declared.marks.Mark.TheVariants.{OnMachine, InLocation, InNeighbourhood}
 use Rattle.ra_cells.specs.Marks.{mark_of, marked, away}
-use Rattle.ra_cells.specs.Held.{held, different, Ascends, Exchanged}
+use Rattle.ra_cells.specs.Held.{labels_held, different, Ascends, Exchanged}
 use Rattle.ra_cells.specs.Labels.{AreSorted, AreMarks, AreDifferent}
 use Rattle.ra_cells.specs.Stands.{StandFor, HavePlaced}
 use Rattle.ra_cells.proofs.HeldLemmas.{held_same, different_same, different_le}
@@ -56,26 +56,28 @@ neighbourhood_mark i m = refl
 -- what is held is what the assignment has
 told : (i0 i : Tables) (mark : Mark) (a : List Machine) (labels : List ℕ) (s m x : ℕ) → i0 ≡ i →
     AreMarks i mark a (service_count i) labels → s < service_count i0 →
-    x ≡ held labels (members_before i0 s) (members_before i0 (s + 1)) m → x ≡ marked i mark a s m
+    x ≡ labels_held labels (members_before i0 s) (members_before i0 (s + 1)) m → x ≡ marked i mark a s m
 told i0 i mark a labels s m x same h within is = is
-    ∙ ap (λ (j : Tables). held labels (members_before j s) (members_before j (s + 1)) m) same
+    ∙ ap (λ (j : Tables). labels_held labels (members_before j s) (members_before j (s + 1)) m) same
     ∙ h.each s m (subst (λ (j : Tables). s < service_count j) same within)
 
 pub told_machine : (cells : Cells) (i : Tables) (a0 a : List Machine) (s m x : ℕ) → StandFor cells i a0 a →
-    s < service_count cells.inst.now.tables → x ≡ held cells.machines.items (members_before cells.inst.now.tables s)
+    s < service_count cells.inst.now.tables →
+    x ≡ labels_held cells.machines.items (members_before cells.inst.now.tables s)
     (members_before cells.inst.now.tables (s + 1)) m → x ≡ on_machine i a s m
 told_machine cells i a0 a s m x h within is = told cells.inst.now.tables i OnMachine a cells.machines.items s m x
     h.instance h.on_machines within is ∙ on_machine_is i a s m
 
 pub told_location : (cells : Cells) (i : Tables) (a0 a : List Machine) (s m x : ℕ) → StandFor cells i a0 a →
-    s < service_count cells.inst.now.tables → x ≡ held cells.locations.items (members_before cells.inst.now.tables s)
+    s < service_count cells.inst.now.tables →
+    x ≡ labels_held cells.locations.items (members_before cells.inst.now.tables s)
     (members_before cells.inst.now.tables (s + 1)) m → x ≡ in_location i a s m
 told_location cells i a0 a s m x h within is = told cells.inst.now.tables i InLocation a cells.locations.items s m x
     h.instance h.in_locations within is ∙ in_location_is i a s m
 
 pub told_neighbourhood : (cells : Cells) (i : Tables) (a0 a : List Machine) (s m x : ℕ) → StandFor cells i a0 a →
     s < service_count cells.inst.now.tables →
-    x ≡ held cells.neighbourhoods.items (members_before cells.inst.now.tables s)
+    x ≡ labels_held cells.neighbourhoods.items (members_before cells.inst.now.tables s)
     (members_before cells.inst.now.tables (s + 1)) m → x ≡ in_neighbourhood i a s m
 told_neighbourhood cells i a0 a s m x h within is =
     told cells.inst.now.tables i InNeighbourhood a cells.neighbourhoods.items s m x h.instance h.in_neighbourhoods
@@ -195,7 +197,7 @@ pub held_placed : (cells : Cells) (mark : Mark) (labels : List ℕ) (p m s start
     AreMarks h.tables mark h.assignment (service_count h.tables) labels → p < process_count cells.inst.now.tables →
     service_of cells.inst.now.tables p ≡ s → s < service_count cells.inst.now.tables →
     start ≡ members_before cells.inst.now.tables s → end ≡ members_before cells.inst.now.tables (s + 1) →
-    x ≡ mark_of cells.inst.now.tables mark m → 0 < held labels start end x
+    x ≡ mark_of cells.inst.now.tables mark m → 0 < labels_held labels start end x
 held_placed cells mark labels p m s start end x h marks within is s_in start_is end_is x_is =
     let i = cells.inst.now.tables in
     let marks_here : AreMarks i mark h.assignment (service_count i) labels =
@@ -235,11 +237,11 @@ marks_core i mark a p m to s n left come old new fits within is here changed lef
       (cases_eq t s);
 }
   where
-    mine : (t x : ℕ) → t < n → t ≡ s → held new (members_before i t) (members_before i (t + 1)) x ≡
+    mine : (t x : ℕ) → t < n → t ≡ s → labels_held new (members_before i t) (members_before i (t + 1)) x ≡
         marked i mark (set a p to) t x
     mine t x below same =
-        let at_s = ap (λ r. held new (members_before i r) (members_before i (r + 1)) x) same in
-        let at_old = ap (λ r. held old (members_before i r) (members_before i (r + 1)) x) same in
+        let at_s = ap (λ r. labels_held new (members_before i r) (members_before i (r + 1)) x) same in
+        let at_old = ap (λ r. labels_held old (members_before i r) (members_before i (r + 1)) x) same in
         omega (
           arith,
           at_s,

@@ -11,7 +11,8 @@ use Rattle.ra_base.specs.declared.costs.MovedCount.{MovedCount}
 use Rattle.ra_base.proofs.Counts.{count_change, count_some, count_le, count_zero, count_all, one_if_true, one_if_false}
 use Rattle.ra_base.proofs.Greatest.{greatest_at, greatest_least, greatest_by_counts}
 use Rattle.ra_cells.specs.MovedCounts.{MovedCounts}
-use Rattle.ra_cells.specs.Replaced.{counted_after, greatest_with, IsChange, AreApart, lost_at, gained_at, after_in}
+use Rattle.ra_cells.specs.Replaced.{counted_after, greatest_with, IsChange, AreOfDifferentServices, lost_at, gained_at}
+use Rattle.ra_cells.specs.Replaced.{after_in}
 use Rattle.ra_cells.specs.Replaced.{is_free}
 use Rattle.ra_cells.specs.Counted.{AreTallied, AreCounted, AreRetallied}
 
@@ -56,7 +57,7 @@ still_change : (o : Option MovedCount) (n : ℕ) (f : ℕ → ℕ) (c : MovedCou
     IfSome o (λ d. d.service.0 ≢ c.service.0) → Changes n (counted_after o f) c
 still_change o n f c h apart = record { there = h.there; before = counted_other o f c.service.0 apart ∙ h.before }
 
-still : (o p : Option MovedCount) (n : ℕ) (f : ℕ → ℕ) → IfSome p (λ c. Changes n f c) → AreApart o p →
+still : (o p : Option MovedCount) (n : ℕ) (f : ℕ → ℕ) → IfSome p (λ c. Changes n f c) → AreOfDifferentServices o p →
     IfSome p (λ c. Changes n (counted_after o f) c)
 still o None n f h apart = h
 still None (Some c) n f h apart = still_change None n f c h apart
@@ -89,8 +90,8 @@ bounded counts tallies limit most top first second third counted most_within fir
 -- how many services have count v once up to three counts have changed
 tally_after : (moved : MovedCounts) (first second third : Option MovedCount) (v : ℕ) →
     IfSome first (λ c. IsChange moved c) → IfSome second (λ c. IsChange moved c) →
-    IfSome third (λ c. IsChange moved c) → AreApart first second → AreApart first third → AreApart second third →
-    count (length moved.counts)
+    IfSome third (λ c. IsChange moved c) → AreOfDifferentServices first second → AreOfDifferentServices first third →
+    AreOfDifferentServices second third → count (length moved.counts)
     (λ s. eqb (counted_after third (counted_after second (counted_after first (λ k. get_or moved.counts k 0))) s) v)
     + (lost_at first v + lost_at second v + lost_at third v) ≡ count (length moved.counts)
     (λ s. eqb (get_or moved.counts s 0) v) + (gained_at first v + gained_at second v + gained_at third v)
@@ -126,8 +127,8 @@ pub highest_is : (moved : MovedCounts) (tallies : List ℕ) (top b : ℕ) (first
     AreTallied moved.counts tallies moved.limit → greatest_with moved.counts first second third ≤ top →
     top ≤ moved.limit → b ≤ top →
     IfSome first (λ c. IsChange moved c) → IfSome second (λ c. IsChange moved c) →
-    IfSome third (λ c. IsChange moved c) → AreApart first second → AreApart first third → AreApart second third →
-    ((v : ℕ) → b < v → v ≤ top → is_free tallies first second third v ≡ true) →
+    IfSome third (λ c. IsChange moved c) → AreOfDifferentServices first second → AreOfDifferentServices first third →
+    AreOfDifferentServices second third → ((v : ℕ) → b < v → v ≤ top → is_free tallies first second third v ≡ true) →
     (0 < b → is_free tallies first second third b ≡ false) → greatest_with moved.counts first second third ≡ b
 unfolding greatest_with
 highest_is moved tallies top b first second third tallied bound within below one two three one_two one_three two_three
@@ -155,8 +156,8 @@ pub after_is : (moved : MovedCounts) (tallies : List ℕ) (most top b : ℕ) (fi
     AreCounted moved.counts tallies moved.limit most → most ≤ top → after_in first ≤ top → after_in second ≤ top →
     after_in third ≤ top → top ≤ moved.limit → b ≤ top →
     IfSome first (λ c. IsChange moved c) → IfSome second (λ c. IsChange moved c) →
-    IfSome third (λ c. IsChange moved c) → AreApart first second → AreApart first third → AreApart second third →
-    ((v : ℕ) → b < v → v ≤ top → is_free tallies first second third v ≡ true) →
+    IfSome third (λ c. IsChange moved c) → AreOfDifferentServices first second → AreOfDifferentServices first third →
+    AreOfDifferentServices second third → ((v : ℕ) → b < v → v ≤ top → is_free tallies first second third v ≡ true) →
     (0 < b → is_free tallies first second third b ≡ false) → b ≡ greatest_with moved.counts first second third
 after_is moved tallies most top b first second third counted most_in first_in second_in third_in within below one two
     three one_two one_three two_three none some =

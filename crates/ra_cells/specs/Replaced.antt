@@ -24,8 +24,8 @@ pub record IsChange (moved : MovedCounts) (c : MovedCount) : Type 0 where
   pub within : c.after ≤ moved.limit
 
 -- two changes, if both are there, are of different services
-abbrev pub AreApart : Option MovedCount → Option MovedCount → Type 0
-AreApart first second = IfSome first (λ c. IfSome second (λ d. c.service.0 ≢ d.service.0))
+abbrev pub AreOfDifferentServices : Option MovedCount → Option MovedCount → Type 0
+AreOfDifferentServices first second = IfSome first (λ c. IfSome second (λ d. c.service.0 ≢ d.service.0))
 
 -- one if a change takes its service's count away from v, and one if a change makes it v
 unfoldable pub lost_at : Option MovedCount → ℕ → ℕ

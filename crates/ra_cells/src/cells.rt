@@ -7,7 +7,7 @@ ghost use Rattle.ra_model.specs.Members.{AreMembers};
 ghost use Rattle.ra_model.specs.Services.{on_machine, in_location, in_neighbourhood, locations_of, moved_of};
 ghost use Rattle.ra_model.specs.Sorting.{members_before, AreStarts};
 ghost use Rattle.ra_cells.specs.Marks.{away};
-ghost use Rattle.ra_cells.specs.Held.{held};
+ghost use Rattle.ra_cells.specs.Held.{labels_held};
 ghost use Rattle.ra_cells.specs.Labels.{AreSorted, AreDifferent};
 
 use crate::greatest::Greatest;
@@ -202,7 +202,7 @@ fn held_of(inst: &Instance, starts: &Fixed<u32>, labels: &Vec<u32>, s: Service, 
     requires starts { AreStarts inst.now.tables
         (service_count inst.now.tables + 1) starts.now.items }
     requires sorted { AreSorted inst.now.tables (service_count inst.now.tables) labels.now.items }
-    ensures count { result ≡ held labels.now.items (members_before inst.now.tables s.0)
+    ensures count { result ≡ labels_held labels.now.items (members_before inst.now.tables s.0)
         (members_before inst.now.tables (s.0 + 1)) x }
     ensures within { result ≤ process_count inst.now.tables }
 {

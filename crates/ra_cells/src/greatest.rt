@@ -1,7 +1,8 @@
 ghost use Rattle.std.specs.Prelude.{◌≡◌, ℕ, ◌+◌, ◌^◌, ◌<◌, ◌≤◌, length, replicate, slice_index, slice_set, IfOk, IfSome, IsTrue, true, false};
 ghost use Rattle.ra_base.specs.Sums.{greatest};
 ghost use Rattle.ra_model.specs.Numbers.{service_count, process_count};
-ghost use Rattle.ra_cells.specs.Replaced.{greatest_with, IsChange, AreApart, lost_at, gained_at, after_in, is_free};
+ghost use Rattle.ra_cells.specs.Replaced.{greatest_with, IsChange, AreOfDifferentServices, lost_at, gained_at};
+ghost use Rattle.ra_cells.specs.Replaced.{after_in, is_free};
 ghost use Rattle.ra_cells.specs.Counted.{AreRetallied};
 
 use ra_base::{Fixed, MovedCount, NoMemory, Service};
@@ -101,9 +102,9 @@ impl Greatest {
         requires first { IfSome first (λ c. IsChange self.now c) }
         requires second { IfSome second (λ c. IsChange self.now c) }
         requires third { IfSome third (λ c. IsChange self.now c) }
-        requires first_second { AreApart first second }
-        requires first_third { AreApart first third }
-        requires second_third { AreApart second third }
+        requires first_second { AreOfDifferentServices first second }
+        requires first_third { AreOfDifferentServices first third }
+        requires second_third { AreOfDifferentServices second third }
         ensures value { result ≡ greatest_with self.now.counts first second third }
         ensures within { result ≤ self.now.limit }
     {

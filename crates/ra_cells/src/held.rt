@@ -1,5 +1,5 @@
 ghost use Rattle.std.specs.Prelude.{◌≡◌, ℕ, ◌+◌, ◌-◌, ◌<◌, ◌≤◌, ◌^◌, true, false, length, slice_index, slice_index_or};
-ghost use Rattle.ra_cells.specs.Held.{held, different, Ascends};
+ghost use Rattle.ra_cells.specs.Held.{labels_held, different, Ascends};
 
 /// At most this many labels are counted one by one.
 const SHORT: usize = 16;
@@ -10,7 +10,7 @@ pub(crate) fn held_in(labels: &Vec<u32>, start: usize, end: usize, x: u32) -> u3
     requires there { end ≤ length labels.now.items }
     requires few { length labels.now.items < 2 ^ 32 }
     requires ascends { Ascends labels.now.items start end }
-    ensures count { result ≡ held labels.now.items start end x }
+    ensures count { result ≡ labels_held labels.now.items start end x }
 {
     if end - start <= SHORT {
         return scan(labels, start, end, x);
@@ -26,7 +26,7 @@ fn scan(labels: &Vec<u32>, start: usize, end: usize, x: u32) -> u32
     requires part { start ≤ end }
     requires there { end ≤ length labels.now.items }
     requires few { length labels.now.items < 2 ^ 32 }
-    ensures count { result ≡ held labels.now.items start end x }
+    ensures count { result ≡ labels_held labels.now.items start end x }
 {
     let mut count = 0;
     for k in start..end {
@@ -83,10 +83,10 @@ fn is_new(labels: &Vec<u32>, start: usize, k: usize) -> bool
     requires from { start ≤ k }
     requires there { k < length labels.now.items }
     requires ascends { Ascends labels.now.items start (k + 1) }
-    ensures new { result ≡ true → held labels.now.items start k (slice_index labels.now.items k) ≡
+    ensures new { result ≡ true → labels_held labels.now.items start k (slice_index labels.now.items k) ≡
         0 }
     ensures again { result ≡ false →
-        0 < held labels.now.items start k (slice_index labels.now.items k) }
+        0 < labels_held labels.now.items start k (slice_index labels.now.items k) }
     ensures small { slice_index labels.now.items k < 2 ^ 32 }
 {
     let label = label_at(labels, k);

@@ -17,7 +17,7 @@ use Rattle.ra_model.specs.Services.{on_machine}
 use Rattle.ra_model.specs.Broken.{cause_if, conflict_test, service_conflict}
 use Rattle.ra_model.specs.Members.{member_at, members_of, AreProcessesOf, AreMembers}
 use Rattle.ra_model.proofs.MemberLemmas.{members_at_is}
-use Rattle.ra_check.specs.Stamps.{seat_of, AreStamped, crowd_test, lowered}
+use Rattle.ra_check.specs.Stamps.{seat_of, AreStamped, crowd_test, least_with}
 use Rattle.ra_check.proofs.StampLemmas.{below_grows, below_set, stamped_none, stamped_more, seated}
 
 crowd_yes : (e : ℕ → ℕ) (n m : ℕ) → 1 < count n (λ k. eqb (e k) m) → crowd_test e n m ≡ Some (record { 0 = m })
@@ -44,8 +44,8 @@ crowd_same e n m apart = ap (λ v. cond (ltb 1 v) (Some (record { 0 = m })) None
 -- one machine more, if it was there before
 first_again : (n : ℕ) (f g : ℕ → Option Machine) (m : Machine) (o : Option Machine) → m.0 < n → g m.0 ≡ Some m →
     ((x : ℕ) → x ≢ m.0 → g x ≡ f x) → ((x : ℕ) (p : Machine) → f x ≡ Some p → p ≡ record { 0 = x }) → first n f ≡ o →
-    lowered o true m ≡ first n g
-unfolding lowered
+    least_with o true m ≡ first n g
+unfolding least_with
 first_again n f g m None within here same means none =
     sym (first_found m.0 n g m within
     (first_none_from m.0 g (λ x h. same x (omega arith) ∙ first_none_at x n f (omega arith) none)) here)
@@ -74,9 +74,9 @@ crowd_none size e =
     first_none_from size (crowd_test e 0) (λ m h. crowd_no e 0 m (omega (arith, count_none (λ k. eqb (e k) m))))
 
 more_by : (size n : ℕ) (e : ℕ → ℕ) (m : Machine) (again : Bool) → m.0 ≡ e n → m.0 < size →
-    again ≡ ltb 0 (count n (λ k. eqb (e k) m.0)) → lowered (first size (crowd_test e n)) again m ≡
+    again ≡ ltb 0 (count n (λ k. eqb (e k) m.0)) → least_with (first size (crowd_test e n)) again m ≡
     first size (crowd_test e (n + 1))
-unfolding lowered
+unfolding least_with
 more_by size n e m true is within before =
     let many : 0 < count n (λ k. eqb (e k) m.0) = ltb-true 0 (count n (λ k. eqb (e k) m.0)) (sym before) in
     first_again size (crowd_test e n) (crowd_test e (n + 1)) m (first size (crowd_test e n)) within
@@ -97,9 +97,9 @@ more_by size n e m false is within before =
 -- one process more
 pub crowd_more : (marks : List ℕ) (size stamp n : ℕ) (e : ℕ → ℕ) (m : Machine) (again : Bool) (least : Option Machine) →
     AreStamped marks size stamp n e → m.0 ≡ e n → m.0 < size → again ≡ eqb (get_or marks m.0 0) stamp →
-    least ≡ first size (crowd_test e n) → lowered least again m ≡ first size (crowd_test e (n + 1))
+    least ≡ first size (crowd_test e n) → least_with least again m ≡ first size (crowd_test e (n + 1))
 crowd_more marks size stamp n e m again least stamped is within before so_far =
-    ap (λ o. lowered o again m) so_far
+    ap (λ o. least_with o again m) so_far
     ∙ more_by size n e m again is within (before ∙ stamped.exactly m.0 within ∙ sym (is_named_count n e m.0))
 
 pub ruleset crowds = (crowd_none, crowd_more, stamped_none, stamped_more, below_grows, below_set)

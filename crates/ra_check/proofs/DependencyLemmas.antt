@@ -24,7 +24,8 @@ use Rattle.ra_model.specs.PlaceLists.{PlaceLists}
 use Rattle.ra_model.specs.Places.{AreFirst, ArePlaces}
 use Rattle.ra_model.proofs.MemberLemmas.{members_at_is, members_first}
 use Rattle.ra_model.proofs.PlaceLemmas.{place_test}
-use Rattle.ra_check.specs.Stamps.{seat_of, site_of, holds_site, AreSeated, ArePlaced, AreBelow, AreSet, TellTrue}
+use Rattle.ra_check.specs.Stamps.{seat_of, site_of, holds_site, AreSeated, ArePlacesBelow, AreMarksBelow, AreSet}
+use Rattle.ra_check.specs.Stamps.{TellTrue}
 use Rattle.ra_check.specs.Stamps.{far_seat}
 use Rattle.ra_check.proofs.StampLemmas.{seated, placed, site_within}
 use Rattle.ra_check.proofs.SpreadLemmas.{named_like}
@@ -63,7 +64,7 @@ pub ruleset setting = (set_none, set_more, site_within)
 
 -- clear marks tell the truth
 pub true_clear : (members : List (List Process)) (places a : List Machine) (size : ℕ) (marks : List ℕ) →
-    AreBelow marks size 1 → TellTrue members places a size marks 0
+    AreMarksBelow marks size 1 → TellTrue members places a size marks 0
 true_clear members places a size marks h = record {
   one_each = h.one_each;
   sound = λ x u within is. absurd (omega (arith, h.below x within));
@@ -265,7 +266,7 @@ need_within i s k formed within below =
 
 -- the places of an instance are below its number of machines
 pub placed_neighbourhoods : (i : Tables) (places : PlaceLists) (size : ℕ) → ArePlaces places i →
-    size ≡ machine_count i → ArePlaced places.neighbourhoods size
+    size ≡ machine_count i → ArePlacesBelow places.neighbourhoods size
 placed_neighbourhoods i places size are same = record {
   one_each = are.neighbourhoods.one_each ∙ sym same;
   within = λ m within.

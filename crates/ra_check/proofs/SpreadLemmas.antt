@@ -20,7 +20,7 @@ use Rattle.ra_model.specs.PlaceLists.{PlaceLists}
 use Rattle.ra_model.specs.Places.{AreFirst, ArePlaces}
 use Rattle.ra_model.proofs.MemberLemmas.{members_at_is, members_length}
 use Rattle.ra_model.proofs.PlaceLemmas.{place_test}
-use Rattle.ra_check.specs.Stamps.{seat_of, site_of, holds_site, AreSeated, ArePlaced, AreStamped}
+use Rattle.ra_check.specs.Stamps.{seat_of, site_of, holds_site, AreSeated, ArePlacesBelow, AreStamped}
 use Rattle.ra_check.proofs.StampLemmas.{below_grows, below_set, stamped_none, stamped_more, seated, placed}
 
 -- a name among the first n, at two lists of names whose tests agree
@@ -131,7 +131,7 @@ spread_none i a s size has wants members places small assigned are placed within
 
 -- the places of an instance are below its number of machines
 pub placed_locations : (i : Tables) (places : PlaceLists) (size : ℕ) → ArePlaces places i → size ≡ machine_count i →
-    ArePlaced places.locations size
+    ArePlacesBelow places.locations size
 placed_locations i places size are same = record {
   one_each = are.locations.one_each ∙ sym same;
   within = λ m within.

@@ -16,7 +16,7 @@ use Rattle.ra_model.specs.Places.{AreFirst}
 use Rattle.ra_model.proofs.MemberLemmas.{member_within}
 use Rattle.ra_model.proofs.PlaceLemmas.{place_le}
 use Rattle.ra_model.proofs.TallyLemmas.{machine_at_read}
-use Rattle.ra_check.specs.Stamps.{seat_of, site_of, AreSeated, ArePlaced, AreBelow, AreStamped}
+use Rattle.ra_check.specs.Stamps.{seat_of, site_of, AreSeated, ArePlacesBelow, AreMarksBelow, AreStamped}
 
 -- a read of a mark
 pub mark_read : (marks : List ℕ) (x v : ℕ) → x < length marks → v ≡ get_or marks x v → v ≡ get_or marks x 0
@@ -53,17 +53,17 @@ clear_more marks size n h within = record {
       (cases_eq x n);
 }
 
-pub clear_all : (marks : List ℕ) (size : ℕ) → AreClear marks size size → AreBelow marks size 1
+pub clear_all : (marks : List ℕ) (size : ℕ) → AreClear marks size size → AreMarksBelow marks size 1
 clear_all marks size h = record { one_each = h.one_each; below = λ x within. omega (arith, h.each x within) }
 
 pub ruleset clearing = (clear_none, clear_more, clear_all)
 
 -- marks below a bound are below a greater one, and stay so when a lesser stamp is set
-pub below_grows : (marks : List ℕ) (size b c : ℕ) → AreBelow marks size b → b ≤ c → AreBelow marks size c
+pub below_grows : (marks : List ℕ) (size b c : ℕ) → AreMarksBelow marks size b → b ≤ c → AreMarksBelow marks size c
 below_grows marks size b c h few = record { one_each = h.one_each; below = λ x within. omega (arith, h.below x within) }
 
-pub below_set : (marks : List ℕ) (size b x stamp : ℕ) → AreBelow marks size b → stamp < b →
-    AreBelow (set marks x stamp) size b
+pub below_set : (marks : List ℕ) (size b x stamp : ℕ) → AreMarksBelow marks size b → stamp < b →
+    AreMarksBelow (set marks x stamp) size b
 below_set marks size b x stamp h less = record {
   one_each = length-set marks x stamp ∙ h.one_each;
   below = λ y within. ⊎_elim
@@ -73,7 +73,7 @@ below_set marks size b x stamp h less = record {
 }
 
 -- a fresh stamp is nowhere
-pub stamped_none : (marks : List ℕ) (size stamp : ℕ) (e : ℕ → ℕ) → AreBelow marks size stamp →
+pub stamped_none : (marks : List ℕ) (size stamp : ℕ) (e : ℕ → ℕ) → AreMarksBelow marks size stamp →
     AreStamped marks size stamp 0 e
 stamped_none marks size stamp e h = record {
   exactly = λ x within. ne_eqb (get_or marks x 0) stamp (λ same. omega (arith, h.below x within))
@@ -115,7 +115,8 @@ seated i a members s size assigned are within same = record {
 }
 
 -- places are machines of the instance
-pub placed : (label : ℕ → ℕ) (size : ℕ) (places : List Machine) → AreFirst label size places → ArePlaced places size
+pub placed : (label : ℕ → ℕ) (size : ℕ) (places : List Machine) → AreFirst label size places →
+    ArePlacesBelow places size
 placed label size places h = record {
   one_each = h.one_each;
   within = λ m within. omega (arith, place_le label size m places h within);
@@ -123,7 +124,7 @@ placed label size places h = record {
 
 -- the place of the machine of a process
 pub site_within : (places a : List Machine) (processes : List Process) (size k : ℕ) → AreSeated a processes size →
-    ArePlaced places size → k < length processes → site_of places a processes k < size
+    ArePlacesBelow places size → k < length processes → site_of places a processes k < size
 unfolding site_of
 site_within places a processes size k seated placed below =
     placed.within (seat_of a processes k) (seated.within k below)

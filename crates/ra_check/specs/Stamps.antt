@@ -25,12 +25,12 @@ pub record AreSeated (a : List Machine) (processes : List Process) (size : ℕ) 
   pub within : (k : ℕ) → k < length processes → seat_of a processes k < size
 
 -- a place below a size for each machine below it
-pub record ArePlaced (places : List Machine) (size : ℕ) : Type 0 where
+pub record ArePlacesBelow (places : List Machine) (size : ℕ) : Type 0 where
   pub one_each : length places ≡ size
   pub within : (m : ℕ) → m < size → machine_at places m < size
 
 -- a mark for each place, all below a bound
-pub record AreBelow (marks : List ℕ) (size bound : ℕ) : Type 0 where
+pub record AreMarksBelow (marks : List ℕ) (size bound : ℕ) : Type 0 where
   pub one_each : length marks ≡ size
   pub below : (x : ℕ) → x < size → slice_index_or marks x 0 < bound
 
@@ -43,10 +43,10 @@ unfoldable pub crowd_test : (ℕ → ℕ) → ℕ → ℕ → Option Machine
 crowd_test e n m = if nat_lt 1 (count n (λ k. e k == m)) then Some (record { 0 = m }) else None
 
 -- the lesser of what was found and machine m, if m counts
-unfoldable pub lowered : Option Machine → Bool → Machine → Option Machine
-lowered least false m = least
-lowered None true m = Some m
-lowered (Some l) true m = if nat_lt m.0 l.0 then Some m else Some l
+unfoldable pub least_with : Option Machine → Bool → Machine → Option Machine
+least_with least false m = least
+least_with None true m = Some m
+least_with (Some l) true m = if nat_lt m.0 l.0 then Some m else Some l
 
 -- the machine of process k, if the mark of its place isn't the stamp
 unfoldable pub far_seat : List ℕ → ℕ → List Machine → List Machine → List Process → ℕ

@@ -5,7 +5,7 @@ ghost use Rattle.ra_model.specs.Assignments.{IsAssignment};
 ghost use Rattle.ra_model.specs.Broken.{broken_conflict};
 ghost use Rattle.ra_model.specs.Members.{AreMembers};
 ghost use Rattle.ra_check.specs.Services.{AreServicesOf};
-ghost use Rattle.ra_check.specs.Stamps.{seat_of, AreSeated, AreBelow, crowd_test, lowered};
+ghost use Rattle.ra_check.specs.Stamps.{seat_of, AreSeated, AreMarksBelow, crowd_test, least_with};
 
 use crate::services::Services;
 use crate::stamps::{clear, seat, stamp_place};
@@ -37,7 +37,7 @@ fn first_conflict(
 ) -> Option<Cause>
     requires assigned { IsAssignment inst.now.tables a.now.items }
     requires members { AreMembers members.now inst.now.tables }
-    requires marks { AreBelow marks.old.items (machine_count inst.now.tables) 1 }
+    requires marks { AreMarksBelow marks.old.items (machine_count inst.now.tables) 1 }
     ensures cause { result ≡ broken_conflict inst.now.tables a.now.items }
     ensures marks { length marks.new.items ≡ machine_count inst.now.tables }
 {
@@ -59,10 +59,10 @@ fn crowded(
     stamp: u32,
 ) -> Option<Machine>
     requires seated { AreSeated a.now.items processes.now (length marks.old.items) }
-    requires fresh { AreBelow marks.old.items (length marks.old.items) stamp }
+    requires fresh { AreMarksBelow marks.old.items (length marks.old.items) stamp }
     ensures machine { result ≡ first (length marks.old.items)
         (crowd_test (seat_of a.now.items processes.now) (length processes.now)) }
-    ensures marks { AreBelow marks.new.items (length marks.old.items) (stamp + 1) }
+    ensures marks { AreMarksBelow marks.new.items (length marks.old.items) (stamp + 1) }
 {
     let mut least = None;
     for k in 0..processes.len() {
@@ -74,9 +74,9 @@ fn crowded(
 }
 
 /// The lesser of what was found and a machine, if the machine counts.
-#[tactic(auto, unfolding(crate::specs::Stamps::lowered))]
+#[tactic(auto, unfolding(crate::specs::Stamps::least_with))]
 fn lower(least: Option<Machine>, again: bool, machine: Machine) -> Option<Machine>
-    ensures { result ≡ lowered least again machine }
+    ensures { result ≡ least_with least again machine }
 {
     match (least, again) {
         (found, false) => found,

@@ -6,7 +6,8 @@ ghost use Rattle.ra_model.specs.Broken.{broken_dependency, service_dependency};
 ghost use Rattle.ra_model.specs.Members.{members_of, AreMembers};
 ghost use Rattle.ra_model.specs.Places.{ArePlaces};
 ghost use Rattle.ra_check.specs.Services.{AreServicesOf};
-ghost use Rattle.ra_check.specs.Stamps.{holds_site, AreSeated, ArePlaced, AreBelow, AreSet, TellTrue, far_seat};
+ghost use Rattle.ra_check.specs.Stamps.{holds_site, AreSeated, ArePlacesBelow, AreMarksBelow, AreSet, TellTrue};
+ghost use Rattle.ra_check.specs.Stamps.{far_seat};
 
 use crate::services::Services;
 use crate::stamps::{clear, is_stamped, neighbourhood_place, seat};
@@ -47,7 +48,7 @@ fn first_apart(
     requires assigned { IsAssignment inst.now.tables a.now.items }
     requires members { AreMembers members.now inst.now.tables }
     requires places { ArePlaces places.now inst.now.tables }
-    requires marks { AreBelow marks.old.items (machine_count inst.now.tables) 1 }
+    requires marks { AreMarksBelow marks.old.items (machine_count inst.now.tables) 1 }
     ensures cause { result ≡ broken_dependency inst.now.tables a.now.items }
     ensures marks { length marks.new.items ≡ machine_count inst.now.tables }
 {
@@ -111,7 +112,7 @@ fn stamp_service(
     requires small { service.0 + 1 < 2 ^ 32 }
     requires seated { AreSeated a.now.items (members_of members.now service.0)
         (length marks.old.items) }
-    requires placed { ArePlaced places.now.neighbourhoods (length marks.old.items) }
+    requires placed { ArePlacesBelow places.now.neighbourhoods (length marks.old.items) }
     requires marks { TellTrue members.now places.now.neighbourhoods a.now.items
         (length marks.old.items) marks.old.items last.old }
     ensures marks { TellTrue members.now places.now.neighbourhoods a.now.items
@@ -135,7 +136,7 @@ fn stamp_all(
     stamp: u32,
 )
     requires seated { AreSeated a.now.items processes.now (length marks.old.items) }
-    requires placed { ArePlaced places.now.neighbourhoods (length marks.old.items) }
+    requires placed { ArePlacesBelow places.now.neighbourhoods (length marks.old.items) }
     ensures { AreSet marks.old.items marks.new.items stamp
         (holds_site places.now.neighbourhoods a.now.items processes.now) }
 {
@@ -155,7 +156,7 @@ fn first_far(
     stamp: u32,
 ) -> Option<Machine>
     requires seated { AreSeated a.now.items processes.now (length marks.now.items) }
-    requires placed { ArePlaced places.now.neighbourhoods (length marks.now.items) }
+    requires placed { ArePlacesBelow places.now.neighbourhoods (length marks.now.items) }
     ensures { result ≡ first (length processes.now)
         (far_seat marks.now.items stamp places.now.neighbourhoods a.now.items processes.now) }
 {

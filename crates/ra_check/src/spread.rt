@@ -6,7 +6,7 @@ ghost use Rattle.ra_model.specs.Broken.{broken_spread};
 ghost use Rattle.ra_model.specs.Members.{AreMembers};
 ghost use Rattle.ra_model.specs.Places.{ArePlaces};
 ghost use Rattle.ra_check.specs.Services.{AreServicesOf};
-ghost use Rattle.ra_check.specs.Stamps.{holds_site, AreSeated, ArePlaced, AreBelow};
+ghost use Rattle.ra_check.specs.Stamps.{holds_site, AreSeated, ArePlacesBelow, AreMarksBelow};
 
 use crate::services::Services;
 use crate::stamps::{clear, location_place, stamp_place};
@@ -46,7 +46,7 @@ fn first_narrow(
     requires assigned { IsAssignment inst.now.tables a.now.items }
     requires members { AreMembers members.now inst.now.tables }
     requires places { ArePlaces places.now inst.now.tables }
-    requires marks { AreBelow marks.old.items (machine_count inst.now.tables) 1 }
+    requires marks { AreMarksBelow marks.old.items (machine_count inst.now.tables) 1 }
     ensures cause { result ≡ broken_spread inst.now.tables a.now.items }
     ensures marks { length marks.new.items ≡ machine_count inst.now.tables }
 {
@@ -76,11 +76,11 @@ fn count_locations(
 ) -> u32
     requires few { length processes.now < 2 ^ 32 }
     requires seated { AreSeated a.now.items processes.now (length marks.old.items) }
-    requires placed { ArePlaced places.now.locations (length marks.old.items) }
-    requires fresh { AreBelow marks.old.items (length marks.old.items) stamp }
+    requires placed { ArePlacesBelow places.now.locations (length marks.old.items) }
+    requires fresh { AreMarksBelow marks.old.items (length marks.old.items) stamp }
     ensures count { result ≡ count (length marks.old.items)
         (holds_site places.now.locations a.now.items processes.now) }
-    ensures marks { AreBelow marks.new.items (length marks.old.items) (stamp + 1) }
+    ensures marks { AreMarksBelow marks.new.items (length marks.old.items) (stamp + 1) }
 {
     let mut has = 0;
     for k in 0..processes.len() {

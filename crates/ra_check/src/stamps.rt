@@ -1,6 +1,6 @@
 ghost use Rattle.std.specs.Prelude.{◌≡◌, ◌<◌, length, slice_index, slice_set, ◌==◌};
 ghost use Rattle.ra_model.specs.Members.{member_at};
-ghost use Rattle.ra_check.specs.Stamps.{seat_of, site_of, AreBelow};
+ghost use Rattle.ra_check.specs.Stamps.{seat_of, site_of, AreMarksBelow};
 
 use ra_base::{Assignment, Fixed, Machine, Process};
 use ra_model::Places;
@@ -71,7 +71,7 @@ pub(crate) fn stamp_place(marks: &mut Fixed<u32>, place: Machine, stamp: u32) ->
 /// Clears all stamps.
 #[tactic(auto, using(crate::proofs::StampLemmas::clearing))]
 pub(crate) fn clear(marks: &mut Fixed<u32>)
-    ensures { AreBelow marks.new.items (length marks.old.items) 1 }
+    ensures { AreMarksBelow marks.new.items (length marks.old.items) 1 }
 {
     for x in 0..marks.len() {
         marks.set(x, 0);

@@ -10,5 +10,5 @@ slack_in l = l.slack
 abbrev pub drawing_in : Lots → Drawing
 drawing_in l = l.drawing
 
-abbrev pub lots_in : Lots → List Lot
-lots_in l = l.lots.items
+abbrev pub lots_shown : Lots → List Lot
+lots_shown l = l.lots.items

@@ -14,7 +14,7 @@ pub struct Lots {
 }
 
 impl Lots {
-    ghost use Rattle.ra_draws.specs.Shown.{slack_in, drawing_in, lots_in};
+    ghost use Rattle.ra_draws.specs.Shown.{slack_in, drawing_in, lots_shown};
 
     /// The lots of a run: 1 to 16 of them, with budgets of at most 1,000,000 together, and with eight words for each
     /// proposal of a written lot.
@@ -22,7 +22,7 @@ impl Lots {
         requires { IsLots lots.items }
         ensures slack { slack_in result ≡ slack }
         ensures drawing { drawing_in result ≡ drawing }
-        ensures lots { lots_in result ≡ lots.items }
+        ensures lots { lots_shown result ≡ lots.items }
     {
         Lots {
             slack,
@@ -48,7 +48,7 @@ impl Lots {
 
     /// How many lots there are, from 1 to 16.
     pub fn len(&self) -> u32
-        ensures value { result ≡ length (lots_in self.now) }
+        ensures value { result ≡ length (lots_shown self.now) }
         ensures some { 1 ≤ result }
         ensures few { result ≤ 16 }
     {
@@ -58,8 +58,8 @@ impl Lots {
     /// The lot of worker `w`.
     #[tactic(auto, unfolding(crate::specs::Lots::lot_at))]
     pub fn lot(&self, w: u32) -> &Lot
-        requires { w < length (lots_in self.now) }
-        ensures { result.now ≡ lot_at (lots_in self.now) w }
+        requires { w < length (lots_shown self.now) }
+        ensures { result.now ≡ lot_at (lots_shown self.now) w }
     {
         &self.lots[w as usize]
     }

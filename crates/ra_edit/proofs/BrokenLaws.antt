@@ -15,7 +15,7 @@ use Rattle.ra_model.specs.Usage.{use_of, transient_of}
 use Rattle.ra_model.specs.Broken.{capacity_test, row_capacity, broken_capacity, transient_test, row_transient}
 use Rattle.ra_model.specs.Broken.{broken_transient}
 use Rattle.ra_model.proofs.BrokenLemmas.{cause_free, capacity_met, transient_met}
-use Rattle.ra_edit.specs.Drafts.{Drafted, with_processes, instance_of}
+use Rattle.ra_edit.specs.Drafts.{Drafted, with_process_rows, instance_of}
 use Rattle.ra_edit.specs.OneMore.{IsSame, OneMore}
 use Rattle.ra_edit.specs.Touched.{first_of_two}
 use Rattle.ra_edit.proofs.ShareLaws.{neighbourhood_with, use_more, transient_more}
@@ -81,45 +81,45 @@ transient_free i a0 a m met = first_none_from _ _ (λ r r_in. cause_free _ _ (�
 -- numbers that edits leave alone
 
 pub resources_with : (d : Drafted) → resource_count (instance_of d) ≡ resource_count d.origin
-unfolding with_processes resource_count
+unfolding with_process_rows resource_count
 resources_with d = refl
 
 pub machines_with : (d : Drafted) → machine_count (instance_of d) ≡ machine_count d.origin
-unfolding with_processes machine_count
+unfolding with_process_rows machine_count
 machines_with d = refl
 
 pub services_with : (d : Drafted) → service_count (instance_of d) ≡ service_count d.origin
-unfolding with_processes service_count
+unfolding with_process_rows service_count
 services_with d = refl
 
 pub processes_with : (d : Drafted) → process_count (instance_of d) ≡ length d.rows
-unfolding with_processes process_count
+unfolding with_process_rows process_count
 processes_with d = refl
 
 capacity_with : (d : Drafted) (m r : ℕ) → capacity_of (instance_of d) m r ≡ capacity_of d.origin m r
-unfolding with_processes capacity_of resource_count
+unfolding with_process_rows capacity_of resource_count
 capacity_with d m r = refl
 
 transient_with : (d : Drafted) (r : ℕ) → transient_at (instance_of d) r ≡ transient_at d.origin r
-unfolding with_processes transient_at resource_row
+unfolding with_process_rows transient_at resource_row
 transient_with d r = refl
 
 pub spread_with : (d : Drafted) (s : ℕ) → spread_of (instance_of d) s ≡ spread_of d.origin s
-unfolding with_processes spread_of service_row
+unfolding with_process_rows spread_of service_row
 spread_with d s = refl
 
 pub dependencies_with : (d : Drafted) (s : ℕ) → dependency_count (instance_of d) s ≡ dependency_count d.origin s
-unfolding with_processes dependency_count dependency_end dependency_start service_row
+unfolding with_process_rows dependency_count dependency_end dependency_start service_row
 dependencies_with d zero = refl
 dependencies_with d (suc s) = refl
 
 pub need_with : (d : Drafted) (s k : ℕ) → need_of (instance_of d) s k ≡ need_of d.origin s k
-unfolding with_processes need_of need_at dependency_start dependency_end service_row
+unfolding with_process_rows need_of need_at dependency_start dependency_end service_row
 need_with d zero k = refl
 need_with d (suc s) k = refl
 
 pub closed_with : (d : Drafted) (m : ℕ) → closed_at (instance_of d) m ≡ closed_at d.origin m
-unfolding with_processes closed_at
+unfolding with_process_rows closed_at
 closed_with d m = refl
 
 -- a number that edits leave alone, in two drafts of one instance

@@ -20,11 +20,11 @@ use Rattle.ra_edit_read.specs.declared.edits.Edit.TheVariants.{Add, Retire, Resi
 use Rattle.ra_edit_read.specs.EditLists.{EditLists, edit_at, row_of, AreEditsFor, FitsInstance}
 use Rattle.ra_edit.specs.declared.replies.EditReply.{EditReply}
 use Rattle.ra_edit.specs.declared.replies.EditReply.TheVariants.{Done, NoProcess, Full, Last, Broken}
-use Rattle.ra_edit.specs.Drafts.{Drafted, with_processes, instance_of, draft_of}
+use Rattle.ra_edit.specs.Drafts.{Drafted, with_process_rows, instance_of, draft_of}
 use Rattle.ra_edit.specs.Editing.{process_of, edited}
-use Rattle.ra_edit.specs.Replies.{broken_in, cost_in, judged, barred, answer, edit_answer, kept, after_edit}
+use Rattle.ra_edit.specs.Replies.{broken_in, draft_cost, edit_reply, barred, answer, edit_answer, kept, after_edit}
 use Rattle.ra_edit.specs.SameLists.{AreSameLists}
-use Rattle.ra_edit.specs.Keeping.{IsSound, IsKept}
+use Rattle.ra_edit.specs.Keeping.{IsSoundDraft, IsKeptDraft}
 use Rattle.ra_edit.proofs.RowLaws.{process_same}
 use Rattle.ra_edit.specs.Kinds.{IsEdited}
 use Rattle.ra_edit.proofs.SoundLaws.{edited_sound, few_of, AreFew}
@@ -38,8 +38,8 @@ row_is row = process_same row (process_of row.service row.move_cost) refl (sym (
 
 -- a new draft
 new_kept : (i : Tables) (a0 a : List Machine) (parts : Parts) → WellFormed i → IsAssignment i a0 → IsAssignment i a →
-    first_broken i a0 a ≡ None → parts ≡ parts_of i a0 a → IsKept (draft_of i a0 a) parts
-unfolding with_processes broken_in
+    first_broken i a0 a ≡ None → parts ≡ parts_of i a0 a → IsKeptDraft (draft_of i a0 a) parts
+unfolding with_process_rows broken_in
 new_kept i a0 a parts well fits0 fits unbroken cost = record {
   sound = record { well_formed = well; initial = fits0; current = fits };
   unbroken = unbroken;
@@ -47,14 +47,14 @@ new_kept i a0 a parts well fits0 fits unbroken cost = record {
 }
 
 pub made_kept : (d : Drafted) (i : Tables) (a0 a : List Machine) (parts : Parts) → d ≡ draft_of i a0 a → WellFormed i →
-    IsAssignment i a0 → IsAssignment i a → first_broken i a0 a ≡ None → parts ≡ parts_of i a0 a → IsKept d parts
+    IsAssignment i a0 → IsAssignment i a → first_broken i a0 a ≡ None → parts ≡ parts_of i a0 a → IsKeptDraft d parts
 made_kept d i a0 a parts same well fits0 fits unbroken cost =
-    subst (λ (e : Drafted). IsKept e parts) (sym same) (new_kept i a0 a parts well fits0 fits unbroken cost)
+    subst (λ (e : Drafted). IsKeptDraft e parts) (sym same) (new_kept i a0 a parts well fits0 fits unbroken cost)
 
 -- whose lists are short
 pub few_at_first : (i : Tables) (a0 a : List Machine) → WellFormed i → IsAssignment i a0 → IsAssignment i a →
     AreFew (draft_of i a0 a)
-unfolding with_processes
+unfolding with_process_rows
 few_at_first i a0 a well fits0 fits =
     few_of (draft_of i a0 a) (record { well_formed = well; initial = fits0; current = fits })
 
@@ -105,7 +105,7 @@ kept_barred d e k reply h =
 pub answered_broken : (d next : Drafted) (e : EditLists) (k : ℕ) (cause : Cause) →
     barred (length d.rows) (edit_at e k) ≡ None → next ≡ edited d (edit_at e k) (row_of e.width e.requirements k) →
     broken_in next ≡ Some cause → Broken cause ≡ edit_answer d e k
-unfolding edit_answer answer judged
+unfolding edit_answer answer edit_reply
 answered_broken d next e k cause free same broken = rw (free, ← same, broken) refl
 
 pub kept_broken : (d next : Drafted) (e : EditLists) (k : ℕ) (cause : Cause) → barred (length d.rows) (edit_at e k) ≡
@@ -116,14 +116,14 @@ kept_broken d next e k cause free same broken = rw (← answered_broken d next e
 
 -- an edit that is done
 total_is : (d : Drafted) (parts : Parts) → parts ≡ parts_of (instance_of d) d.initial d.current →
-    cost_in d ≡ parts.total
-unfolding cost_in parts_of
+    draft_cost d ≡ parts.total
+unfolding draft_cost parts_of
 total_is d parts same = sym (ap (λ (p : Parts). p.total) same)
 
 pub answered_done : (d next : Drafted) (e : EditLists) (k : ℕ) (parts : Parts) → barred (length d.rows) (edit_at e k) ≡
     None → next ≡ edited d (edit_at e k) (row_of e.width e.requirements k) → broken_in next ≡ None →
     parts ≡ parts_of (instance_of next) next.initial next.current → Done parts.total ≡ edit_answer d e k
-unfolding edit_answer answer judged
+unfolding edit_answer answer edit_reply
 answered_done d next e k parts free same fine cost = rw (free, ← same, fine, total_is next parts cost) refl
 
 pub kept_done : (d next : Drafted) (e : EditLists) (k : ℕ) (parts : Parts) → barred (length d.rows) (edit_at e k) ≡
@@ -133,13 +133,13 @@ unfolding after_edit kept
 kept_done d next e k parts free same fine cost = rw (← answered_done d next e k parts free same fine cost) same
 
 -- the current list is feasible
-pub kept_feasible : (d : Drafted) (parts : Parts) → IsKept d parts → Feasible (instance_of d) d.initial d.current
+pub kept_feasible : (d : Drafted) (parts : Parts) → IsKeptDraft d parts → Feasible (instance_of d) d.initial d.current
 unfolding broken_in
 kept_feasible d parts h =
     feasible_from_unbroken (instance_of d) d.initial d.current h.sound.well_formed h.sound.current h.unbroken
 
 -- and in one with the same lists
-pub same_feasible : (d : Drafted) (j : Tables) → IsSound d → Feasible (instance_of d) d.initial d.current →
+pub same_feasible : (d : Drafted) (j : Tables) → IsSoundDraft d → Feasible (instance_of d) d.initial d.current →
     AreSameLists (instance_of d) j → Feasible j d.initial d.current
 same_feasible d j sound feasible same =
     feasible_from_unbroken j d.initial d.current (same_well (instance_of d) j same.lists sound.well_formed)
@@ -148,21 +148,22 @@ same_feasible d j sound feasible same =
     ∙ unbroken_from_feasible (instance_of d) d.initial d.current feasible)
 
 -- what an edit makes of a draft is sound
-pub next_sound : (d old next : Drafted) (e : EditLists) (k : ℕ) → d ≡ old → IsSound d → AreEditsFor old.origin e →
+pub next_sound : (d old next : Drafted) (e : EditLists) (k : ℕ) → d ≡ old → IsSoundDraft d → AreEditsFor old.origin e →
     k < length e.edits → barred (length d.rows) (edit_at e k) ≡ None →
     next ≡ edited d (edit_at e k) (row_of e.width e.requirements k) → length (row_of e.width e.requirements k) ≡
-    e.width → IsSound next
+    e.width → IsSoundDraft next
 unfolding edit_at
 next_sound d old next e k same sound fits within free is width =
     let here = subst (λ (o : Drafted). AreEditsFor o.origin e) (sym same) fits in
-    subst IsSound (sym is)
+    subst IsSoundDraft (sym is)
     (edited_sound d (edit_at e k) (row_of e.width e.requirements k) sound free (here.each k within)
     (width ∙ here.width))
 
 -- and it is what the kind of the edit says
-pub next_edited : (d old next : Drafted) (e : EditLists) (k : ℕ) (edit : Edit) (asked : List ℕ) → d ≡ old → IsSound d →
-    AreEditsFor old.origin e → k < length e.edits → edit ≡ edit_at e k → asked ≡ row_of e.width e.requirements k →
-    barred (length d.rows) (edit_at e k) ≡ None → next ≡ edited d (edit_at e k) (row_of e.width e.requirements k) →
+pub next_edited : (d old next : Drafted) (e : EditLists) (k : ℕ) (edit : Edit) (asked : List ℕ) → d ≡ old →
+    IsSoundDraft d → AreEditsFor old.origin e → k < length e.edits → edit ≡ edit_at e k →
+    asked ≡ row_of e.width e.requirements k → barred (length d.rows) (edit_at e k) ≡ None →
+    next ≡ edited d (edit_at e k) (row_of e.width e.requirements k) →
     length (row_of e.width e.requirements k) ≡ e.width → IsEdited d edit asked next
 unfolding edit_at
 next_edited d old next e k edit asked same sound fits within is asked_is free made width =

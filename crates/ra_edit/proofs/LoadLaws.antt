@@ -18,8 +18,9 @@ use Rattle.ra_check.specs.Made.{IsGrid}
 use Rattle.ra_check.specs.Stands.{IsTally, AddsShare, IsBelow}
 use Rattle.ra_check.proofs.TableLaws.{tally_start, tally_next, tally_below, use_share_small, transient_share_small}
 use Rattle.ra_edit.specs.declared.loads.Loads.{Loads}
-use Rattle.ra_edit.specs.Drafts.{Drafted, with_processes, instance_of}
-use Rattle.ra_edit.specs.Loads.{HasMoreAt, HasMoreBetween, HasMore, HasCounted, AreLoadsOf, IsUseRow, IsTransientRow}
+use Rattle.ra_edit.specs.Drafts.{Drafted, with_process_rows, instance_of}
+use Rattle.ra_edit.specs.Loads.{HasMoreAt, HasMoreBetween, HasMoreUse, HasCounted, AreLoadsOf, IsUseRow}
+use Rattle.ra_edit.specs.Loads.{IsTransientRowOfDraft}
 use Rattle.ra_edit.specs.Loads.{IsThere}
 use Rattle.ra_edit.specs.Kinds.{Asks}
 use Rattle.ra_edit.specs.OneMore.{OneMore}
@@ -198,7 +199,7 @@ shares_between i a0 width p home at amount old new home_is is more = record {
 pub counted_more : (d : Drafted) (p home at : ℕ) (amount : ℕ → ℕ) (old new : Loads) → HasCounted d p old →
     home ≡ machine_at d.initial p → at ≡ machine_at d.current p →
     ((r : ℕ) → r < resource_count d.origin → amount r ≡ requirement_of (instance_of d) p r) →
-    HasMore (resource_count d.origin) home at amount old new → HasCounted d (p + 1) new
+    HasMoreUse (resource_count d.origin) home at amount old new → HasCounted d (p + 1) new
 counted_more d p home at amount old new has home_is at_is is more = record {
   used = tally_next (resource_count d.origin) p at (use_share (instance_of d)) d.current old.used.items new.used.items
       at_is has.used (shares_used (instance_of d) (resource_count d.origin) p at amount old.used.items new.used.items is
@@ -230,12 +231,12 @@ row_there machines width at size grid within = rw grid (grind arith)
 
 use_is : (d : Drafted) (m r : ℕ) → use_of (instance_of d) d.current m r ≡ tally (length d.rows)
     (use_share (instance_of d) m r) d.current
-unfolding use_of process_count with_processes
+unfolding use_of process_count with_process_rows
 use_is d m r = refl
 
 transient_is : (d : Drafted) (m r : ℕ) → transient_of (instance_of d) d.initial d.current m r ≡ tally (length d.rows)
     (transient_share (instance_of d) d.initial m r) d.current
-unfolding transient_of process_count with_processes
+unfolding transient_of process_count with_process_rows
 transient_is d m r = refl
 
 pub use_kept : (d : Drafted) (loads : Loads) (m r : ℕ) → AreLoadsOf d loads → r < resource_count d.origin →
@@ -278,7 +279,7 @@ loads_from e i loads same used between used_grid between_grid = record {
 pub loads_more : (d e : Drafted) (p home at : ℕ) (amount : ℕ → ℕ) (low high : Loads) → AreLoadsOf d low →
     OneMore d e p → home ≡ machine_at e.initial p → at ≡ machine_at e.current p →
     ((r : ℕ) → r < resource_count d.origin → amount r ≡ requirement_of (instance_of e) p r) →
-    HasMore (resource_count d.origin) home at amount low high → AreLoadsOf e high
+    HasMoreUse (resource_count d.origin) home at amount low high → AreLoadsOf e high
 loads_more d e p home at amount low high are one home_is at_is is more = loads_from e d.origin high one.origin
     (record {
       each = λ m r w.
@@ -308,7 +309,7 @@ loads_more d e p home at amount low high are one home_is at_is is more = loads_f
 pub loads_less : (d e : Drafted) (p home at : ℕ) (amount : ℕ → ℕ) (low high : Loads) → AreLoadsOf e high →
     OneMore d e p → home ≡ machine_at e.initial p → at ≡ machine_at e.current p →
     ((r : ℕ) → r < resource_count e.origin → amount r ≡ requirement_of (instance_of e) p r) →
-    HasMore (resource_count e.origin) home at amount low high → AreLoadsOf d low
+    HasMoreUse (resource_count e.origin) home at amount low high → AreLoadsOf d low
 loads_less d e p home at amount low high are one home_is at_is is more = loads_from d e.origin low (sym one.origin)
     (record {
       each = λ m r w.
@@ -387,7 +388,7 @@ use_row_kept d i loads m row same are wide each = record {
 pub transient_row_kept : (d : Drafted) (i : Tables) (loads : Loads) (m : ℕ) (row : List ℕ) → d.origin ≡ i →
     AreLoadsOf d loads → length row ≡ resource_count i →
     ((r : ℕ) → r < resource_count i → slice_index row r ≡ cell (resource_count i) loads.between.items m r) →
-    IsTransientRow d m row
+    IsTransientRowOfDraft d m row
 transient_row_kept d i loads m row same are wide each = record {
   one_each = wide ∙ ap resource_count (sym same);
   each = λ r w. each r (subst (λ (j : Tables). r < resource_count j) same w)
@@ -400,7 +401,7 @@ pub use_row_small : (d : Drafted) (m r : ℕ) (row : List ℕ) → WellFormed (i
 use_row_small d m r row well small is w = omega (arith, is.each r w, use_under (instance_of d) d.current m r well small)
 
 pub transient_row_small : (d : Drafted) (m r : ℕ) (row : List ℕ) → WellFormed (instance_of d) → Small (instance_of d) →
-    IsTransientRow d m row → r < resource_count d.origin → slice_index row r < 2 ^ 48
+    IsTransientRowOfDraft d m row → r < resource_count d.origin → slice_index row r < 2 ^ 48
 transient_row_small d m r row well small is w =
     omega (arith, is.each r w, transient_under (instance_of d) d.initial d.current m r well small)
 
@@ -418,9 +419,9 @@ use_row_more d e p m row sums amounts one here is asks wide sums_are = record {
 }
 
 pub transient_row_more : (d e : Drafted) (p m : ℕ) (row sums amounts : List ℕ) → OneMore d e p → IsThere e p m →
-    IsTransientRow d m row → Asks e p amounts → length sums ≡ length row →
+    IsTransientRowOfDraft d m row → Asks e p amounts → length sums ≡ length row →
     ((r : ℕ) → r < length row → slice_index sums r ≡ slice_index row r + slice_index amounts r) →
-    IsTransientRow e m sums
+    IsTransientRowOfDraft e m sums
 transient_row_more d e p m row sums amounts one there is asks wide sums_are = record {
   one_each = wide ∙ is.one_each ∙ ap resource_count (sym one.origin);
   each = λ r w.
@@ -439,7 +440,8 @@ use_row_enough d e p m r row amounts one here is asks w =
     omega (arith, is.each r w, asks.each r w, more)
 
 pub transient_row_enough : (d e : Drafted) (p m r : ℕ) (row amounts : List ℕ) → OneMore d e p → IsThere e p m →
-    IsTransientRow e m row → Asks e p amounts → r < resource_count e.origin → slice_index amounts r ≤ slice_index row r
+    IsTransientRowOfDraft e m row → Asks e p amounts → r < resource_count e.origin →
+    slice_index amounts r ≤ slice_index row r
 transient_row_enough d e p m r row amounts one there is asks w =
     let more = rw there at (transient_more d e p m r one (subst (λ (i : Tables). r < resource_count i) one.origin w)) in
     omega (arith, is.each r w, asks.each r w, more)
@@ -456,9 +458,9 @@ use_row_less d e p m row rests amounts one here is asks wide rests_are = record 
 }
 
 pub transient_row_less : (d e : Drafted) (p m : ℕ) (row rests amounts : List ℕ) → OneMore d e p → IsThere e p m →
-    IsTransientRow e m row → Asks e p amounts → length rests ≡ length row →
+    IsTransientRowOfDraft e m row → Asks e p amounts → length rests ≡ length row →
     ((r : ℕ) → r < length row → slice_index rests r + slice_index amounts r ≡ slice_index row r) →
-    IsTransientRow d m rests
+    IsTransientRowOfDraft d m rests
 transient_row_less d e p m row rests amounts one there is asks wide rests_are = record {
   one_each = wide ∙ is.one_each ∙ ap resource_count one.origin;
   each = λ r w.
@@ -488,7 +490,7 @@ use_less_small d e p m r row one well small is w =
     omega (arith, is.each r c, use_more d e p m r one c, use_under (instance_of e) e.current m r well small)
 
 pub transient_less_small : (d e : Drafted) (p m r : ℕ) (row : List ℕ) → OneMore d e p → WellFormed (instance_of e) →
-    Small (instance_of e) → IsTransientRow d m row → r < resource_count e.origin → slice_index row r < 2 ^ 63
+    Small (instance_of e) → IsTransientRowOfDraft d m row → r < resource_count e.origin → slice_index row r < 2 ^ 63
 transient_less_small d e p m r row one well small is w =
     let c : r < resource_count d.origin = subst (λ (i : Tables). r < resource_count i) one.origin w in
     omega (

@@ -15,7 +15,7 @@ use Rattle.ra_edit.specs.declared.members.Spot.{Spot}
 use Rattle.ra_edit.specs.declared.members.Spot.TheVariants.{OnMachine, InNeighbourhood, InLocation}
 use Rattle.ra_edit.specs.Counts.{count_in}
 use Rattle.ra_edit.specs.Locations.{AreNumbered}
-use Rattle.ra_edit.specs.Drafts.{Drafted, with_processes, instance_of}
+use Rattle.ra_edit.specs.Drafts.{Drafted, with_process_rows, instance_of}
 use Rattle.ra_edit.specs.Kinds.{HasOther}
 use Rattle.ra_edit.specs.Members.{members_in, HasMembers, AreMembersOf, HasMember, AreSameIn, AreFewIn}
 use Rattle.ra_edit.specs.OneMore.{OneMore}
@@ -75,14 +75,14 @@ members_next d p s m old new has s_is m_is one numbered = record {
 
 pub members_told : (d : Drafted) (members : Members) (s : ℕ) (spot : Spot) → AreMembersOf d members →
     members_in members s spot ≡ members_at (instance_of d) d.current s (is_there d.origin spot)
-unfolding members_at process_count with_processes
+unfolding members_at process_count with_process_rows
 members_told d members s spot has = has.each s spot
 
 members_from : (d : Drafted) (members : Members) →
     ((s : ℕ) (spot : Spot) →
     members_in members s spot ≡ members_at (instance_of d) d.current s (is_there d.origin spot)) →
     AreNumbered (service_count d.origin) members.locations → AreMembersOf d members
-unfolding members_at process_count with_processes
+unfolding members_at process_count with_process_rows
 members_from d members each numbered = record { each = each; numbered = numbered }
 
 pub locations_told : (d : Drafted) (members : Members) (s : ℕ) → s < service_count d.origin → AreMembersOf d members →
@@ -186,8 +186,8 @@ member_there d e p s m spot members has more s_is m_is there =
 
 members_with : (s : ℕ) (test : ℕ → ℕ → Bool) (i : Tables) (rows : List ProcessRow) (t u : List ℕ)
     (a0 a : List Machine) →
-    members_at (with_processes i rows t) a s test ≡ members_at (with_processes i rows u) a s test
-unfolding with_processes members_at tally of_service is_of service_of process_row process_count
+    members_at (with_process_rows i rows t) a s test ≡ members_at (with_process_rows i rows u) a s test
+unfolding with_process_rows members_at tally of_service is_of service_of process_row process_count
 members_with s test i rows t u a0 a = refl
 
 pub members_resized : (d e : Drafted) (p : ℕ) (members : Members) → AreMembersOf d members → HasOther d e p →

@@ -18,9 +18,9 @@ use Rattle.ra_check.specs.Stands.{has_moved, HasMoved, AreBelow}
 use Rattle.ra_check.proofs.MovedLaws.{counts_at_most_one}
 use Rattle.ra_cells.specs.MovedCounts.{MovedCounts}
 use Rattle.ra_cells.specs.Replaced.{counted_after, greatest_with}
-use Rattle.ra_edit.specs.Drafts.{Drafted, with_processes, instance_of, draft_of}
+use Rattle.ra_edit.specs.Drafts.{Drafted, with_process_rows, instance_of, draft_of}
 use Rattle.ra_edit.specs.Kinds.{HasCome, HasGone, HasOther}
-use Rattle.ra_edit.specs.Moved.{AreMovedOf}
+use Rattle.ra_edit.specs.Moved.{AreMovedOfDraft}
 use Rattle.ra_edit.proofs.ShareLaws.{moved_more}
 use Rattle.ra_edit.proofs.TestLaws.{service_weight_in, services_from}
 use Rattle.ra_edit.proofs.VerdictLaws.{moved_same, renamed}
@@ -42,8 +42,8 @@ moved_under i a0 a p limit counts few has = record {
 
 pub moved_counted : (d : Drafted) (moved : MovedCounts) →
     HasMoved (instance_of d) d.initial d.current (length d.rows) moved.counts →
-    length moved.counts ≡ service_count d.origin → AreMovedOf d moved
-unfolding moved_of members_at process_count with_processes
+    length moved.counts ≡ service_count d.origin → AreMovedOfDraft d moved
+unfolding moved_of members_at process_count with_process_rows
 moved_counted d moved has slots = record { one_each = slots; each = has.each }
 
 -- a new draft has the processes of its instance
@@ -75,7 +75,7 @@ gone_apart d e p s t gone s_is apart =
     let more = rw (ne_eqb s t (λ same. apart (sym same))) at (gone_moved d e p s t gone s_is) in omega (arith, more)
 
 -- so its service has one less
-pub changed_one : (d e : Drafted) (p : ℕ) (c : MovedCount) (moved : MovedCounts) → AreMovedOf d moved →
+pub changed_one : (d e : Drafted) (p : ℕ) (c : MovedCount) (moved : MovedCounts) → AreMovedOfDraft d moved →
     HasGone d e p → c.service.0 ≡ service_of (instance_of d) p →
     eqb (machine_at d.initial p) (machine_at d.current p) ≡ false → c.before ≡ get_or moved.counts c.service.0 0 →
     c.after ≡ c.before - 1 → (t : ℕ) → counted_after (Some c) (λ s. get_or moved.counts s 0) t ≡
@@ -89,7 +89,7 @@ changed_one d e p c moved are gone s_is apart before after t = ⊎_elim
     rw (ne_eqb t c.service.0 other) (are.each t ∙ gone_apart d e p c.service.0 t gone s_is other))
     (cases_eq t c.service.0)
 
-pub changed_none : (d e : Drafted) (p : ℕ) (moved : MovedCounts) → AreMovedOf d moved → HasGone d e p →
+pub changed_none : (d e : Drafted) (p : ℕ) (moved : MovedCounts) → AreMovedOfDraft d moved → HasGone d e p →
     machine_at d.initial p ≡ machine_at d.current p → (t : ℕ) → counted_after None (λ s. get_or moved.counts s 0) t ≡
     moved_of (instance_of e) e.initial e.current t
 unfolding counted_after
@@ -107,28 +107,28 @@ replaced counts c s there = ⊎_elim
     rw (ne_eqb s c.service.0 apart) (get_or-set_other counts c.service.0 s c.after 0 apart))
     (cases_eq s c.service.0)
 
-slots_gone : (d e : Drafted) (p : ℕ) (moved : MovedCounts) → AreMovedOf d moved → HasGone d e p →
+slots_gone : (d e : Drafted) (p : ℕ) (moved : MovedCounts) → AreMovedOfDraft d moved → HasGone d e p →
     length moved.counts ≡ service_count e.origin
 slots_gone d e p moved are gone = are.one_each ∙ ap service_count gone.fewer.origin
 
-pub followed_one : (d e : Drafted) (p : ℕ) (c : MovedCount) (moved new : MovedCounts) → AreMovedOf d moved →
+pub followed_one : (d e : Drafted) (p : ℕ) (c : MovedCount) (moved new : MovedCounts) → AreMovedOfDraft d moved →
     HasGone d e p → c.service.0 < length moved.counts → new.counts ≡ set moved.counts c.service.0 c.after →
     ((t : ℕ) → counted_after (Some c) (λ s. get_or moved.counts s 0) t ≡
-    moved_of (instance_of e) e.initial e.current t) → AreMovedOf e new
+    moved_of (instance_of e) e.initial e.current t) → AreMovedOfDraft e new
 followed_one d e p c moved new are gone there made each = record {
   one_each = ap length made ∙ length-set moved.counts c.service.0 c.after ∙ slots_gone d e p moved are gone;
   each = λ s. ap (λ (xs : List ℕ). get_or xs s 0) made ∙ replaced moved.counts c s there ∙ each s;
 }
 
-pub followed_none : (d e : Drafted) (p : ℕ) (moved : MovedCounts) → AreMovedOf d moved → HasGone d e p →
+pub followed_none : (d e : Drafted) (p : ℕ) (moved : MovedCounts) → AreMovedOfDraft d moved → HasGone d e p →
     ((t : ℕ) → counted_after None (λ s. get_or moved.counts s 0) t ≡
-    moved_of (instance_of e) e.initial e.current t) → AreMovedOf e moved
+    moved_of (instance_of e) e.initial e.current t) → AreMovedOfDraft e moved
 unfolding counted_after
 followed_none d e p moved are gone each = record { one_each = slots_gone d e p moved are gone; each = each }
 
 -- the greatest count after the change is that of the definition
 pub cost_without : (d e : Drafted) (p : ℕ) (moved : MovedCounts) (change : Option MovedCount) (weight most : ℕ) →
-    AreMovedOf d moved → HasGone d e p → ((t : ℕ) → counted_after change (λ s. get_or moved.counts s 0) t ≡
+    AreMovedOfDraft d moved → HasGone d e p → ((t : ℕ) → counted_after change (λ s. get_or moved.counts s 0) t ≡
     moved_of (instance_of e) e.initial e.current t) → weight ≡ service_weight_of d.origin →
     most ≡ greatest_with moved.counts change None None → weight * most ≡
     service_cost (instance_of e) e.initial e.current
@@ -144,8 +144,8 @@ cost_without d e p moved change weight most are gone each heavy most_is =
     rw (heavy_e, same) refl
 
 -- a process that has come hasn't moved
-pub followed_come : (d e : Drafted) (s m : ℕ) (moved : MovedCounts) → AreMovedOf d moved → HasCome d e s m →
-    AreMovedOf e moved
+pub followed_come : (d e : Drafted) (s m : ℕ) (moved : MovedCounts) → AreMovedOfDraft d moved → HasCome d e s m →
+    AreMovedOfDraft e moved
 followed_come d e s m moved are come = record {
   one_each = are.one_each ∙ ap service_count (sym come.more.origin);
   each = λ t. are.each t ∙ sym (moved_same d e (length d.rows) t come.more (come.home ∙ sym come.here));
@@ -153,12 +153,12 @@ followed_come d e s m moved are come = record {
 
 -- one that requires something else is where it was
 moved_with : (t : ℕ) (i : Tables) (rows : List ProcessRow) (u v : List ℕ) (a0 a : List Machine) →
-    moved_of (with_processes i rows u) a0 a t ≡ moved_of (with_processes i rows v) a0 a t
-unfolding with_processes moved_of members_at tally of_service is_of service_of process_row process_count
+    moved_of (with_process_rows i rows u) a0 a t ≡ moved_of (with_process_rows i rows v) a0 a t
+unfolding with_process_rows moved_of members_at tally of_service is_of service_of process_row process_count
 moved_with t i rows u v a0 a = refl
 
-pub followed_other : (d e : Drafted) (p : ℕ) (moved : MovedCounts) → AreMovedOf d moved → HasOther d e p →
-    AreMovedOf e moved
+pub followed_other : (d e : Drafted) (p : ℕ) (moved : MovedCounts) → AreMovedOfDraft d moved → HasOther d e p →
+    AreMovedOfDraft e moved
 followed_other d e p moved are other =
     let origin : e.origin ≡ d.origin = other.after.origin ∙ sym other.before.origin in
     record {

@@ -16,7 +16,7 @@ use Rattle.ra_model.specs.declared.raw.Tables.{Tables}
 use Rattle.ra_model.specs.Numbers.{resource_count, process_row, service_of, process_cost_of, requirement_of}
 use Rattle.ra_model.specs.Assignments.{machine_at}
 use Rattle.ra_edit_read.specs.EditLists.{row_of}
-use Rattle.ra_edit.specs.Drafts.{Drafted, with_processes, instance_of}
+use Rattle.ra_edit.specs.Drafts.{Drafted, with_process_rows, instance_of}
 use Rattle.ra_edit.specs.Editing.{process_of, put_row, drop_row, retired}
 use Rattle.ra_edit.specs.OneMore.{IsSame, OneMore}
 use Rattle.ra_edit_read.proofs.ListLaws.{row_within, row_length}
@@ -25,13 +25,13 @@ use Rattle.ra_edit.proofs.ListLaws.{removed_length}
 -- reads of an instance with other processes
 
 pub row_read : (i : Tables) (rows : List ProcessRow) (requirements : List ℕ) (p : ℕ) (d : ProcessRow) →
-    p < length rows → process_row (with_processes i rows requirements) p ≡ get_or rows p d
-unfolding with_processes process_row
+    p < length rows → process_row (with_process_rows i rows requirements) p ≡ get_or rows p d
+unfolding with_process_rows process_row
 row_read i rows requirements p d within = get_or_default rows p _ d within
 
 pub requirement_read : (i : Tables) (rows : List ProcessRow) (requirements : List ℕ) (p r : ℕ) →
-    requirement_of (with_processes i rows requirements) p r ≡ cell (resource_count i) requirements p r
-unfolding with_processes requirement_of resource_count
+    requirement_of (with_process_rows i rows requirements) p r ≡ cell (resource_count i) requirements p r
+unfolding with_process_rows requirement_of resource_count
 requirement_read i rows requirements p r = refl
 
 -- processes with the same rows are the same

@@ -8,7 +8,7 @@ use Rattle.ra_base.proofs.Tables.{cell_is}
 use Rattle.ra_model.specs.Numbers.{resource_count}
 use Rattle.ra_edit_read.proofs.ListLaws.{row_within}
 use Rattle.ra_edit.specs.Drafts.{Drafted}
-use Rattle.ra_edit.specs.Keeping.{IsSound}
+use Rattle.ra_edit.specs.Keeping.{IsSoundDraft}
 use Rattle.ra_edit.specs.Kinds.{Asks}
 use Rattle.ra_edit.proofs.OneMoreLaws.{requirement_read}
 use Rattle.ra_edit.proofs.SoundLaws.{few_of}
@@ -27,12 +27,12 @@ pub ruleset rows = (row_length, row_cell)
 
 -- the row of a process is within the table, and has what the process requires
 
-pub row_of_process : (d : Drafted) (p : ℕ) → IsSound d → p < length d.rows →
+pub row_of_process : (d : Drafted) (p : ℕ) → IsSoundDraft d → p < length d.rows →
     p * resource_count d.origin + resource_count d.origin ≤ length d.requirements
 row_of_process d p sound within =
     let few = few_of d sound in omega (arith, few.table, row_within (length d.rows) (resource_count d.origin) p within)
 
-pub asks_read : (d : Drafted) (p : ℕ) (amounts : List ℕ) → IsSound d → p < length d.rows →
+pub asks_read : (d : Drafted) (p : ℕ) (amounts : List ℕ) → IsSoundDraft d → p < length d.rows →
     amounts ≡ slice_range d.requirements (p * resource_count d.origin)
     (p * resource_count d.origin + resource_count d.origin) → Asks d p amounts
 asks_read d p amounts sound within is =

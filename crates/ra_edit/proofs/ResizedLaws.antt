@@ -18,53 +18,56 @@ use Rattle.ra_model.specs.Broken.{conflict_test, service_conflict, broken_confli
 use Rattle.ra_model.specs.Broken.{far_test, dependency_test, pair_dependency, service_dependency, broken_dependency}
 use Rattle.ra_model.specs.Broken.{closed_test, broken_closed, first_broken}
 use Rattle.ra_model.proofs.BrokenLemmas.{fine_from_unbroken, Fine}
-use Rattle.ra_edit.specs.Drafts.{with_processes, instance_of}
+use Rattle.ra_edit.specs.Drafts.{with_process_rows, instance_of}
 use Rattle.ra_edit.specs.Touched.{resized_breaks}
 use Rattle.ra_edit.specs.Locality.{ResizesAreLocal}
 use Rattle.ra_edit.proofs.BrokenLaws.{use_elsewhere, transient_elsewhere, capacity_only, transient_only}
 
 conflict_with : (i : Tables) (rows : List ProcessRow) (t u : List ℕ) (a : List Machine) →
-    broken_conflict (with_processes i rows t) a ≡ broken_conflict (with_processes i rows u) a
-unfolding with_processes broken_conflict service_conflict conflict_test on_machine members_at tally of_service is_of
+    broken_conflict (with_process_rows i rows t) a ≡ broken_conflict (with_process_rows i rows u) a
+unfolding with_process_rows broken_conflict service_conflict conflict_test on_machine members_at tally of_service is_of
     service_of process_row process_count machine_count service_count
 conflict_with i rows t u a = refl
 
 spreads_with : (i : Tables) (rows : List ProcessRow) (t u : List ℕ) (a : List Machine) →
-    broken_spread (with_processes i rows t) a ≡ broken_spread (with_processes i rows u) a
-unfolding with_processes broken_spread spread_test locations_of in_location members_at tally of_service is_of service_of
+    broken_spread (with_process_rows i rows t) a ≡ broken_spread (with_process_rows i rows u) a
+unfolding with_process_rows broken_spread spread_test locations_of in_location members_at tally of_service is_of
+    service_of
     process_row process_count machine_row location_of service_count spread_of service_row
 spreads_with i rows t u a = refl
 
 pairs_with : (i : Tables) (rows : List ProcessRow) (t u : List ℕ) (a : List Machine) (s k : ℕ) → s < service_count i →
-    pair_dependency (with_processes i rows t) a s k ≡ pair_dependency (with_processes i rows u) a s k
-unfolding with_processes pair_dependency dependency_test far_test near_of in_neighbourhood members_at tally of_service
+    pair_dependency (with_process_rows i rows t) a s k ≡ pair_dependency (with_process_rows i rows u) a s k
+unfolding with_process_rows pair_dependency dependency_test far_test near_of in_neighbourhood members_at tally
+    of_service
     is_of service_of process_row process_count machine_row neighbourhood_of need_of need_at dependency_start
     dependency_end service_row
 pairs_with i rows t u a zero k s_in = refl
 pairs_with i rows t u a (suc s) k s_in = refl
 
-counts : (i : Tables) (rows : List ProcessRow) (t u : List ℕ) (s : ℕ) → dependency_count (with_processes i rows t) s ≡
-    dependency_count (with_processes i rows u) s
-unfolding with_processes dependency_count dependency_end dependency_start service_row
+counts : (i : Tables) (rows : List ProcessRow) (t u : List ℕ) (s : ℕ) →
+    dependency_count (with_process_rows i rows t) s ≡
+    dependency_count (with_process_rows i rows u) s
+unfolding with_process_rows dependency_count dependency_end dependency_start service_row
 counts i rows t u zero = refl
 counts i rows t u (suc s) = refl
 
-there : (i : Tables) (rows : List ProcessRow) (t : List ℕ) (s : ℕ) → s < service_count (with_processes i rows t) →
+there : (i : Tables) (rows : List ProcessRow) (t : List ℕ) (s : ℕ) → s < service_count (with_process_rows i rows t) →
     s < service_count i
-unfolding with_processes service_count
+unfolding with_process_rows service_count
 there i rows t s h = h
 
 depending_with : (i : Tables) (rows : List ProcessRow) (t u : List ℕ) (a : List Machine) →
-    broken_dependency (with_processes i rows t) a ≡ broken_dependency (with_processes i rows u) a
-unfolding broken_dependency service_dependency with_processes service_count
-depending_with i rows t u a = first_same (service_count (with_processes i rows t)) _ _
-    (λ s s_in. ap (λ n. first n (pair_dependency (with_processes i rows t) a s)) (counts i rows t u s)
-    ∙ first_same (dependency_count (with_processes i rows u) s) (pair_dependency (with_processes i rows t) a s)
-    (pair_dependency (with_processes i rows u) a s) (λ k k_in. pairs_with i rows t u a s k (there i rows t s s_in)))
+    broken_dependency (with_process_rows i rows t) a ≡ broken_dependency (with_process_rows i rows u) a
+unfolding broken_dependency service_dependency with_process_rows service_count
+depending_with i rows t u a = first_same (service_count (with_process_rows i rows t)) _ _
+    (λ s s_in. ap (λ n. first n (pair_dependency (with_process_rows i rows t) a s)) (counts i rows t u s)
+    ∙ first_same (dependency_count (with_process_rows i rows u) s) (pair_dependency (with_process_rows i rows t) a s)
+    (pair_dependency (with_process_rows i rows u) a s) (λ k k_in. pairs_with i rows t u a s k (there i rows t s s_in)))
 
 shut_with : (i : Tables) (rows : List ProcessRow) (t u : List ℕ) (a0 a : List Machine) →
-    broken_closed (with_processes i rows t) a0 a ≡ broken_closed (with_processes i rows u) a0 a
-unfolding with_processes broken_closed closed_test closed_at process_count
+    broken_closed (with_process_rows i rows t) a0 a ≡ broken_closed (with_process_rows i rows u) a0 a
+unfolding with_process_rows broken_closed closed_test closed_at process_count
 shut_with i rows t u a0 a = refl
 
 pub resized_law : ResizesAreLocal
@@ -99,21 +102,21 @@ resized_law low d e p home here more_d more_e rows initial current unbroken home
     let to_e : (f : Tables → List ProcessRow → Option Cause) → f e.origin e.rows ≡ f d.origin d.rows =
     λ f. ap (λ (i : Tables). f i e.rows) origin ∙ ap (f d.origin) rows in
     let conflict : broken_conflict (instance_of e) e.current ≡ None =
-    to_e (λ i xs. broken_conflict (with_processes i xs e.requirements) e.current)
-    ∙ ap (broken_conflict (with_processes d.origin d.rows e.requirements)) current
+    to_e (λ i xs. broken_conflict (with_process_rows i xs e.requirements) e.current)
+    ∙ ap (broken_conflict (with_process_rows d.origin d.rows e.requirements)) current
     ∙ conflict_with d.origin d.rows e.requirements d.requirements d.current ∙ fine.conflict in
     let spread : broken_spread (instance_of e) e.current ≡ None =
-    to_e (λ i xs. broken_spread (with_processes i xs e.requirements) e.current)
-    ∙ ap (broken_spread (with_processes d.origin d.rows e.requirements)) current
+    to_e (λ i xs. broken_spread (with_process_rows i xs e.requirements) e.current)
+    ∙ ap (broken_spread (with_process_rows d.origin d.rows e.requirements)) current
     ∙ spreads_with d.origin d.rows e.requirements d.requirements d.current ∙ fine.spread in
     let dependency : broken_dependency (instance_of e) e.current ≡ None =
-    to_e (λ i xs. broken_dependency (with_processes i xs e.requirements) e.current)
-    ∙ ap (broken_dependency (with_processes d.origin d.rows e.requirements)) current
+    to_e (λ i xs. broken_dependency (with_process_rows i xs e.requirements) e.current)
+    ∙ ap (broken_dependency (with_process_rows d.origin d.rows e.requirements)) current
     ∙ depending_with d.origin d.rows e.requirements d.requirements d.current ∙ fine.dependency in
     let closed : broken_closed (instance_of e) e.initial e.current ≡ None =
-    to_e (λ i xs. broken_closed (with_processes i xs e.requirements) e.initial e.current)
-    ∙ ap (λ (a : List Machine). broken_closed (with_processes d.origin d.rows e.requirements) a e.current) initial
-    ∙ ap (broken_closed (with_processes d.origin d.rows e.requirements) d.initial) current
+    to_e (λ i xs. broken_closed (with_process_rows i xs e.requirements) e.initial e.current)
+    ∙ ap (λ (a : List Machine). broken_closed (with_process_rows d.origin d.rows e.requirements) a e.current) initial
+    ∙ ap (broken_closed (with_process_rows d.origin d.rows e.requirements) d.initial) current
     ∙ shut_with d.origin d.rows e.requirements d.requirements d.initial d.current ∙ fine.closed in
     rw (
       capacity_only d e here origin fine.capacity (omega (arith, here_in, machines)) used,

@@ -22,7 +22,7 @@ use Rattle.ra_model.proofs.BrokenLemmas.{transient_unbroken, spread_met, depende
 use Rattle.ra_model.proofs.BrokenLemmas.{count_from_near, near_from_count, fine_from_unbroken, Fine}
 use Rattle.ra_edit.specs.Drafts.{Drafted, instance_of}
 use Rattle.ra_edit.specs.OneMore.{IsSame, OneMore}
-use Rattle.ra_edit.specs.Touched.{left_alone, left_by, retired_breaks}
+use Rattle.ra_edit.specs.Touched.{cause_if_left_alone, left_by, retired_breaks}
 use Rattle.ra_edit.specs.Locality.{RetiresAreLocal}
 use Rattle.ra_edit.proofs.ShareLaws.{neighbourhood_with, machine_more, neighbourhood_more, locations_other}
 use Rattle.ra_edit.proofs.BrokenLaws.{first_only, resources_with, machines_with, services_with, processes_with}
@@ -211,8 +211,8 @@ left_found d e p s u k label more fine u_in k_in mine label_is needs gone some =
 left_pair : (d e : Drafted) (p s u k : ℕ) → OneMore d e p → broken_dependency (instance_of e) e.current ≡ None →
     u < service_count d.origin → k < dependency_count d.origin u → service_of (instance_of e) p ≡ s →
     pair_dependency (instance_of d) d.current u k ≡ cond (eqb (need_of d.origin u k) s)
-    (left_alone (instance_of d) d.current s (neighbourhood_of d.origin (machine_at e.current p)) u) None
-unfolding pair_dependency left_alone
+    (cause_if_left_alone (instance_of d) d.current s (neighbourhood_of d.origin (machine_at e.current p)) u) None
+unfolding pair_dependency cause_if_left_alone
 left_pair d e p s u k more fine u_in k_in mine =
     let label = neighbourhood_of d.origin (machine_at e.current p) in
     ⊎_elim
@@ -262,20 +262,20 @@ retired_dependency : (d e : Drafted) (p s : ℕ) → OneMore d e p → broken_de
     service_of (instance_of e) p ≡ s → broken_dependency (instance_of d) d.current ≡
     first (service_count (instance_of d))
     (λ u. cond (depends (instance_of d) u s)
-    (left_alone (instance_of d) d.current s (neighbourhood_of d.origin (machine_at e.current p)) u) None)
+    (cause_if_left_alone (instance_of d) d.current s (neighbourhood_of d.origin (machine_at e.current p)) u) None)
 unfolding broken_dependency service_dependency depends
 retired_dependency d e p s more fine mine =
     first_same (service_count (instance_of d)) _ _ (λ u u_in.
     first_same (dependency_count (instance_of d) u) (pair_dependency (instance_of d) d.current u)
     (λ k. cond (eqb (need_of (instance_of d) u k) s)
-    (left_alone (instance_of d) d.current s (neighbourhood_of d.origin (machine_at e.current p)) u) None)
+    (cause_if_left_alone (instance_of d) d.current s (neighbourhood_of d.origin (machine_at e.current p)) u) None)
     (λ k k_in. left_pair d e p s u k more fine (omega (arith, u_in, services_with d))
     (omega (arith, k_in, dependencies_with d u)) mine
     ∙ ap (λ n. cond (eqb n s)
-    (left_alone (instance_of d) d.current s (neighbourhood_of d.origin (machine_at e.current p)) u) None)
+    (cause_if_left_alone (instance_of d) d.current s (neighbourhood_of d.origin (machine_at e.current p)) u) None)
     (sym (need_with d u k)))
     ∙ first_named (dependency_count (instance_of d) u) (need_of (instance_of d) u) s
-    (left_alone (instance_of d) d.current s (neighbourhood_of d.origin (machine_at e.current p)) u))
+    (cause_if_left_alone (instance_of d) d.current s (neighbourhood_of d.origin (machine_at e.current p)) u))
 
 retired_closed : (d e : Drafted) (p : ℕ) → OneMore d e p → broken_closed (instance_of e) e.initial e.current ≡ None →
     broken_closed (instance_of d) d.initial d.current ≡ None

@@ -16,13 +16,13 @@ use Rattle.ra_model.specs.Costs.{process_share}
 use Rattle.ra_model.specs.Services.{members_at, on_machine, in_location, in_neighbourhood}
 use Rattle.ra_edit.specs.declared.members.Spot.TheVariants.{OnMachine, InNeighbourhood, InLocation}
 use Rattle.ra_edit.specs.declared.lists.Lists.{Lists}
-use Rattle.ra_edit.specs.Drafts.{Drafted, with_processes, instance_of}
-use Rattle.ra_edit.specs.Keeping.{drafted, tables_with, IsSound}
+use Rattle.ra_edit.specs.Drafts.{Drafted, with_process_rows, instance_of}
+use Rattle.ra_edit.specs.Keeping.{drafted, tables_with, IsSoundDraft}
 use Rattle.ra_edit.specs.Spots.{is_there}
 use Rattle.ra_edit.proofs.SoundLaws.{few_of, AreFew}
 use Rattle.ra_edit.proofs.OneMoreLaws.{row_read}
 
-pub few : (i : Tables) (l : Lists) → IsSound (drafted i l) → AreFew (drafted i l)
+pub few : (i : Tables) (l : Lists) → IsSoundDraft (drafted i l) → AreFew (drafted i l)
 few i l sound = few_of (drafted i l) sound
 
 pub service_told : (i : Tables) (l : Lists) (p : ℕ) (row : ProcessRow) → p < length l.rows.items →
@@ -59,13 +59,13 @@ machine_told d a s n m is = is
 pub near_told : (d : Drafted) (a : List Machine) (s label n : ℕ) →
     n ≡ members_at (instance_of d) a s (is_there d.origin (InNeighbourhood label)) →
     n ≡ in_neighbourhood (instance_of d) a s label
-unfolding in_neighbourhood neighbourhood_of machine_row with_processes
+unfolding in_neighbourhood neighbourhood_of machine_row with_process_rows
 near_told d a s label n is = is
 
 pub location_told : (d : Drafted) (a : List Machine) (s label n : ℕ) →
     n ≡ members_at (instance_of d) a s (is_there d.origin (InLocation label)) →
     n ≡ in_location (instance_of d) a s label
-unfolding in_location location_of machine_row with_processes
+unfolding in_location location_of machine_row with_process_rows
 location_told d a s label n is = is
 
 pub ruleset readings = (few, service_told)
@@ -73,8 +73,8 @@ pub ruleset readings = (few, service_told)
 -- numbers of other processes are small too
 
 pub small_with : (i : Tables) (rows : List ProcessRow) (requirements : List ℕ) → Small i →
-    ((k : ℕ) → get_or requirements k 0 < 2 ^ 32) → Small (with_processes i rows requirements)
-unfolding with_processes load_weight_of resource_row neighbourhood_of location_of machine_row capacity_of safety_of
+    ((k : ℕ) → get_or requirements k 0 < 2 ^ 32) → Small (with_process_rows i rows requirements)
+unfolding with_process_rows load_weight_of resource_row neighbourhood_of location_of machine_row capacity_of safety_of
     way_cost_of spread_of service_row dependency_end requirement_of process_cost_of process_row target_of
     balance_weight_of balance_row process_weight_of service_weight_of machine_weight_of resource_count machine_count
     cell

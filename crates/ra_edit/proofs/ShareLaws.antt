@@ -21,29 +21,30 @@ use Rattle.ra_model.specs.Costs.{load_cost, balance_cost, process_share, process
 use Rattle.ra_model.specs.MachineCosts.{load_share, row_load, row_left, balance_share, row_balance, machine_load}
 use Rattle.ra_model.specs.MachineCosts.{machine_balance}
 use Rattle.ra_model.proofs.MachineLemmas.{load_by_machine, balance_by_machine, row_load_same, row_balance_same}
-use Rattle.ra_edit.specs.Drafts.{Drafted, with_processes, instance_of}
+use Rattle.ra_edit.specs.Drafts.{Drafted, with_process_rows, instance_of}
 use Rattle.ra_edit.specs.OneMore.{IsSame, OneMore}
 
 -- numbers that edits leave alone
 
 pub neighbourhood_with : (i : Tables) (rows : List ProcessRow) (requirements : List ℕ) (m : ℕ) →
-    neighbourhood_of (with_processes i rows requirements) m ≡ neighbourhood_of i m
-unfolding with_processes neighbourhood_of machine_row
+    neighbourhood_of (with_process_rows i rows requirements) m ≡ neighbourhood_of i m
+unfolding with_process_rows neighbourhood_of machine_row
 neighbourhood_with i rows requirements m = refl
 
 pub location_with : (i : Tables) (rows : List ProcessRow) (requirements : List ℕ) (m : ℕ) →
-    location_of (with_processes i rows requirements) m ≡ location_of i m
-unfolding with_processes location_of machine_row
+    location_of (with_process_rows i rows requirements) m ≡ location_of i m
+unfolding with_process_rows location_of machine_row
 location_with i rows requirements m = refl
 
 pub row_load_with : (i : Tables) (rows : List ProcessRow) (requirements : List ℕ) (m : ℕ) (u : ℕ → ℕ) →
-    row_load (with_processes i rows requirements) m u ≡ row_load i m u
-unfolding with_processes row_load load_share load_weight_of safety_of resource_count resource_row
+    row_load (with_process_rows i rows requirements) m u ≡ row_load i m u
+unfolding with_process_rows row_load load_share load_weight_of safety_of resource_count resource_row
 row_load_with i rows requirements m u = refl
 
 pub row_balance_with : (i : Tables) (rows : List ProcessRow) (requirements : List ℕ) (m : ℕ) (u : ℕ → ℕ) →
-    row_balance (with_processes i rows requirements) m u ≡ row_balance i m u
-unfolding with_processes row_balance balance_share balance_weight_of target_of row_left first_of second_of balance_row
+    row_balance (with_process_rows i rows requirements) m u ≡ row_balance i m u
+unfolding with_process_rows row_balance balance_share balance_weight_of target_of row_left first_of second_of
+    balance_row
     capacity_of resource_count balance_count
 row_balance_with i rows requirements m u = refl
 
@@ -55,7 +56,7 @@ same_origin d e origin f = ap f (sym origin)
 pub use_more : (d e : Drafted) (p m r : ℕ) → OneMore d e p → r < resource_count d.origin →
     use_of (instance_of e) e.current m r ≡ use_of (instance_of d) d.current m r + cond (eqb (machine_at e.current p) m)
     (requirement_of (instance_of e) p r) 0
-unfolding use_of tally use_share process_count with_processes
+unfolding use_of tally use_share process_count with_process_rows
 use_more d e p m r more column = more.sums
     (λ k. cond (eqb (machine_at d.current k) m) (requirement_of (instance_of d) k r) 0)
     (λ q. cond (eqb (machine_at e.current q) m) (requirement_of (instance_of e) q r) 0)
@@ -65,7 +66,7 @@ use_more d e p m r more column = more.sums
 pub transient_more : (d e : Drafted) (p m r : ℕ) → OneMore d e p → r < resource_count d.origin →
     transient_of (instance_of e) e.initial e.current m r ≡ transient_of (instance_of d) d.initial d.current m r
     + cond (eqb (machine_at e.initial p) m || eqb (machine_at e.current p) m) (requirement_of (instance_of e) p r) 0
-unfolding transient_of tally transient_share process_count with_processes
+unfolding transient_of tally transient_share process_count with_process_rows
 transient_more d e p m r more column = more.sums
     (λ k. cond (eqb (machine_at d.initial k) m || eqb (machine_at d.current k) m) (requirement_of (instance_of d) k r)
     0)
@@ -82,7 +83,7 @@ pub members_more : (d e : Drafted) (p s : ℕ) (f g : ℕ → ℕ → Bool) → 
     ((k q : ℕ) → IsSame d k e q → f k (machine_at d.current k) ≡ g q (machine_at e.current q)) →
     members_at (instance_of e) e.current s g ≡ members_at (instance_of d) d.current s f
     + one_if (eqb (service_of (instance_of e) p) s && g p (machine_at e.current p))
-unfolding members_at tally of_service is_of process_count with_processes
+unfolding members_at tally of_service is_of process_count with_process_rows
 members_more d e p s f g more tests = more.sums
     (λ k. one_if (eqb (service_of (instance_of d) k) s && f k (machine_at d.current k)))
     (λ q. one_if (eqb (service_of (instance_of e) q) s && g q (machine_at e.current q)))
@@ -191,7 +192,7 @@ load_elsewhere d e p m more apart = load_here e d.origin m more.origin
 pub load_more : (d e : Drafted) (p m : ℕ) → OneMore d e p → machine_at e.current p ≡ m → m < machine_count d.origin →
     load_cost (instance_of e) e.current + row_load d.origin m (use_of (instance_of d) d.current m) ≡
     load_cost (instance_of d) d.current + row_load d.origin m (use_of (instance_of e) e.current m)
-unfolding machine_count with_processes
+unfolding machine_count with_process_rows
 load_more d e p m more here within =
     let low = machine_load (instance_of d) d.current in
     let high = machine_load (instance_of e) e.current in
@@ -223,7 +224,7 @@ pub balance_more : (d e : Drafted) (p m : ℕ) → WellFormed d.origin → OneMo
     m < machine_count d.origin → balance_cost (instance_of e) e.current + row_balance d.origin m
     (use_of (instance_of d) d.current m) ≡ balance_cost (instance_of d) d.current + row_balance d.origin m
     (use_of (instance_of e) e.current m)
-unfolding machine_count with_processes
+unfolding machine_count with_process_rows
 balance_more d e p m limits more here within =
     let low = machine_balance (instance_of d) d.current in
     let high = machine_balance (instance_of e) e.current in
@@ -241,7 +242,7 @@ balance_more d e p m limits more here within =
 pub process_more : (d e : Drafted) (p : ℕ) → OneMore d e p → process_cost (instance_of e) e.initial e.current ≡
     process_cost (instance_of d) d.initial d.current + process_weight_of d.origin
     * cond (eqb (machine_at e.current p) (machine_at e.initial p)) 0 (process_cost_of (instance_of e) p)
-unfolding process_cost tally process_share process_count with_processes process_weight_of
+unfolding process_cost tally process_share process_count with_process_rows process_weight_of
 process_more d e p more =
     let sums = more.sums
     (λ k. cond (eqb (machine_at d.current k) (machine_at d.initial k)) 0 (process_cost_of (instance_of d) k))
@@ -258,7 +259,7 @@ process_more d e p more =
 pub way_more : (d e : Drafted) (p : ℕ) → OneMore d e p → machine_cost (instance_of e) e.initial e.current ≡
     machine_cost (instance_of d) d.initial d.current + machine_weight_of d.origin * way_cost_of d.origin
     (machine_at e.initial p) (machine_at e.current p)
-unfolding machine_cost tally way_share process_count with_processes machine_weight_of way_cost_of machine_count
+unfolding machine_cost tally way_share process_count with_process_rows machine_weight_of way_cost_of machine_count
 way_more d e p more =
     let sums = more.sums
     (λ k. way_cost_of d.origin (machine_at d.initial k) (machine_at d.current k))
@@ -277,7 +278,7 @@ way_more d e p more =
 
 pub load_term : (d : Drafted) (m : ℕ) → m < machine_count d.origin →
     row_load d.origin m (use_of (instance_of d) d.current m) ≤ load_cost (instance_of d) d.current
-unfolding machine_count with_processes
+unfolding machine_count with_process_rows
 load_term d m within =
     omega (
       arith,
@@ -288,7 +289,7 @@ load_term d m within =
 
 pub balance_term : (d : Drafted) (m : ℕ) → m < machine_count d.origin →
     row_balance d.origin m (use_of (instance_of d) d.current m) ≤ balance_cost (instance_of d) d.current
-unfolding machine_count with_processes
+unfolding machine_count with_process_rows
 balance_term d m within =
     omega (
       arith,

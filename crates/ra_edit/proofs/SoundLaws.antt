@@ -18,10 +18,10 @@ use Rattle.ra_edit_read.specs.declared.edits.Edit.{Edit}
 use Rattle.ra_edit_read.specs.declared.edits.Edit.TheVariants.{Add, Retire, Resize}
 use Rattle.ra_edit_read.specs.EditLists.{FitsInstance}
 use Rattle.ra_edit.specs.declared.replies.EditReply.TheVariants.{NoProcess, Full, Last}
-use Rattle.ra_edit.specs.Drafts.{Drafted, with_processes}
+use Rattle.ra_edit.specs.Drafts.{Drafted, with_process_rows}
 use Rattle.ra_edit.specs.Editing.{process_of, put_row, drop_row, added, retired, resized, edited}
 use Rattle.ra_edit.specs.Replies.{barred}
-use Rattle.ra_edit.specs.Keeping.{IsSound, IsKept}
+use Rattle.ra_edit.specs.Keeping.{IsSoundDraft, IsKeptDraft}
 use Rattle.ra_edit.proofs.ListLaws.{removed_length, removed_item, put_length, dropped_length}
 
 -- the service of process p of some
@@ -36,13 +36,13 @@ pub record AreRows (i : Tables) (rows : List ProcessRow) (requirements : List �
   pub services : (p : ℕ) → p < length rows → row_service rows p < service_count i
 
 service_here : (i : Tables) (rows : List ProcessRow) (requirements : List ℕ) (p : ℕ) → p < length rows →
-    service_of (with_processes i rows requirements) p ≡ row_service rows p
-unfolding with_processes service_of process_row row_service
+    service_of (with_process_rows i rows requirements) p ≡ row_service rows p
+unfolding with_process_rows service_of process_row row_service
 service_here i rows requirements p within = ap (λ (x : ProcessRow). x.service.0) (get_or_default rows p _ _ within)
 
 pub rows_of : (i : Tables) (rows : List ProcessRow) (requirements : List ℕ) →
-    WellFormed (with_processes i rows requirements) → AreRows i rows requirements
-unfolding with_processes process_count resource_count service_count
+    WellFormed (with_process_rows i rows requirements) → AreRows i rows requirements
+unfolding with_process_rows process_count resource_count service_count
 rows_of i rows requirements h = record {
   some = h.some_process;
   few = h.few_processes;
@@ -52,26 +52,28 @@ rows_of i rows requirements h = record {
 }
 
 pub well_with : (i : Tables) (rows after : List ProcessRow) (requirements next : List ℕ) →
-    WellFormed (with_processes i rows requirements) → AreRows i after next → WellFormed (with_processes i after next)
-unfolding with_processes resource_count service_count process_count
+    WellFormed (with_process_rows i rows requirements) → AreRows i after next →
+    WellFormed (with_process_rows i after next)
+unfolding with_process_rows resource_count service_count process_count
 well_with i rows after requirements next h fits =
-    well_formed_with (with_processes i rows requirements) (with_processes i after next) h fits.some fits.few fits.table
+    well_formed_with (with_process_rows i rows requirements) (with_process_rows i after next) h fits.some fits.few
+    fits.table
     (λ p within. subst (λ s. s < service_count i) (sym (service_here i after next p within)) (fits.services p within))
 
 -- assignments
 
 machines_with : (i : Tables) (rows : List ProcessRow) (requirements : List ℕ) →
-    machine_count (with_processes i rows requirements) ≡ machine_count i
-unfolding with_processes machine_count
+    machine_count (with_process_rows i rows requirements) ≡ machine_count i
+unfolding with_process_rows machine_count
 machines_with i rows requirements = refl
 
 processes_with : (i : Tables) (rows : List ProcessRow) (requirements : List ℕ) →
-    process_count (with_processes i rows requirements) ≡ length rows
-unfolding with_processes process_count
+    process_count (with_process_rows i rows requirements) ≡ length rows
+unfolding with_process_rows process_count
 processes_with i rows requirements = refl
 
 fits_with : (i : Tables) (rows : List ProcessRow) (requirements : List ℕ) (a : List Machine) → length a ≡ length rows →
-    ((p : ℕ) → p < length a → machine_at a p < machine_count i) → IsAssignment (with_processes i rows requirements) a
+    ((p : ℕ) → p < length a → machine_at a p < machine_count i) → IsAssignment (with_process_rows i rows requirements) a
 fits_with i rows requirements a size each = record {
   one_each = size ∙ sym (processes_with i rows requirements);
   in_range = λ p within. subst (λ n. machine_at a p < n) (sym (machines_with i rows requirements))
@@ -79,11 +81,11 @@ fits_with i rows requirements a size each = record {
 }
 
 fits_size : (i : Tables) (rows : List ProcessRow) (requirements : List ℕ) (a : List Machine) →
-    IsAssignment (with_processes i rows requirements) a → length a ≡ length rows
+    IsAssignment (with_process_rows i rows requirements) a → length a ≡ length rows
 fits_size i rows requirements a h = h.one_each ∙ processes_with i rows requirements
 
 fits_each : (i : Tables) (rows : List ProcessRow) (requirements : List ℕ) (a : List Machine) →
-    IsAssignment (with_processes i rows requirements) a → (p : ℕ) → p < length a → machine_at a p < machine_count i
+    IsAssignment (with_process_rows i rows requirements) a → (p : ℕ) → p < length a → machine_at a p < machine_count i
 fits_each i rows requirements a h p within = subst (λ n. machine_at a p < n) (machines_with i rows requirements)
     (h.in_range p (subst (λ n. p < n) h.one_each within))
 
@@ -106,9 +108,9 @@ each_less P xs q d e there each p within =
     let found = removed_item xs q p d e there left in
     subst P (sym found.2) (each found.0 found.1)
 
-pub added_sound : (d : Drafted) (s : Service) (m : Machine) (c : ℕ) (requirements : List ℕ) → IsSound d →
+pub added_sound : (d : Drafted) (s : Service) (m : Machine) (c : ℕ) (requirements : List ℕ) → IsSoundDraft d →
     length d.rows < 50000 → s.0 < service_count d.origin → m.0 < machine_count d.origin →
-    length requirements ≡ resource_count d.origin → IsSound (added d s m c requirements)
+    length requirements ≡ resource_count d.origin → IsSoundDraft (added d s m c requirements)
 unfolding added row_service process_of machine_at
 added_sound d s m c requirements sound few s_in m_in width =
     let i = d.origin in
@@ -150,7 +152,8 @@ added_sound d s m c requirements sound few s_in m_in width =
     more_rows : (a b n w after : ℕ) → a ≡ n * w → b ≡ w → after ≡ n + 1 → a + b ≡ after * w
     more_rows a b n w after old_size width size = rw (old_size, width, size) (grind arith)
 
-pub retired_sound : (d : Drafted) (p : ℕ) → IsSound d → p < length d.rows → 1 < length d.rows → IsSound (retired d p)
+pub retired_sound : (d : Drafted) (p : ℕ) → IsSoundDraft d → p < length d.rows → 1 < length d.rows →
+    IsSoundDraft (retired d p)
 unfolding retired row_service machine_at
 retired_sound d p sound within more =
     let i = d.origin in
@@ -181,8 +184,8 @@ retired_sound d p sound within more =
           (fits_each i d.rows d.requirements d.current sound.current));
     }
 
-pub resized_sound : (d : Drafted) (p : ℕ) (requirements : List ℕ) → IsSound d → p < length d.rows →
-    length requirements ≡ resource_count d.origin → IsSound (resized d p requirements)
+pub resized_sound : (d : Drafted) (p : ℕ) (requirements : List ℕ) → IsSoundDraft d → p < length d.rows →
+    length requirements ≡ resource_count d.origin → IsSoundDraft (resized d p requirements)
 unfolding resized
 resized_sound d p requirements sound within width =
     let i = d.origin in
@@ -227,8 +230,8 @@ free_resize count p free = ⊎_elim
     (λ (past : count ≤ p). absurd (let e : Some (NoProcess p) ≡ None = rw (le-ltb p count past) at free in cc))
     (cases_lt p count)
 
-pub edited_sound : (d : Drafted) (e : Edit) (requirements : List ℕ) → IsSound d → barred (length d.rows) e ≡ None →
-    FitsInstance d.origin e → length requirements ≡ resource_count d.origin → IsSound (edited d e requirements)
+pub edited_sound : (d : Drafted) (e : Edit) (requirements : List ℕ) → IsSoundDraft d → barred (length d.rows) e ≡ None →
+    FitsInstance d.origin e → length requirements ≡ resource_count d.origin → IsSoundDraft (edited d e requirements)
 unfolding edited
 edited_sound d (Add s m c) requirements sound free fits width =
     added_sound d s m c requirements sound (let few = (rows_of d.origin d.rows d.requirements sound.well_formed).few in
@@ -250,8 +253,8 @@ pub record AreFew (d : Drafted) : Type 0 where
   pub current : length d.current ≡ length d.rows
 
 narrow_of : (i : Tables) (rows : List ProcessRow) (requirements : List ℕ) →
-    WellFormed (with_processes i rows requirements) → resource_count i ≤ 20
-unfolding with_processes resource_count
+    WellFormed (with_process_rows i rows requirements) → resource_count i ≤ 20
+unfolding with_process_rows resource_count
 narrow_of i rows requirements h = h.few_resources
 
 few_cells : (n w t : ℕ) → n ≤ 50000 → w ≤ 20 → t ≡ n * w → t ≤ 1000000
@@ -260,7 +263,7 @@ few_cells n w t few narrow same = omega (arith, same, mul_le n w few narrow)
     mul_le : (a b : ℕ) → a ≤ 50000 → b ≤ 20 → a * b ≤ 50000 * 20
     mul_le a b x y = grind arith
 
-pub few_of : (d : Drafted) → IsSound d → AreFew d
+pub few_of : (d : Drafted) → IsSoundDraft d → AreFew d
 few_of d sound =
     let old = rows_of d.origin d.rows d.requirements sound.well_formed in
     let narrow = narrow_of d.origin d.rows d.requirements sound.well_formed in
@@ -275,5 +278,5 @@ few_of d sound =
       current = fits_size d.origin d.rows d.requirements d.current sound.current;
     }
 
-pub few_rows : (d : Drafted) (parts : Parts) → IsKept d parts → length d.rows ≤ 50000
+pub few_rows : (d : Drafted) (parts : Parts) → IsKeptDraft d parts → length d.rows ≤ 50000
 few_rows d parts h = (few_of d h.sound).rows

@@ -17,8 +17,8 @@ use Rattle.ra_model.specs.Services.{on_machine, in_neighbourhood, locations_of}
 use Rattle.ra_model.specs.Broken.{cause_if, capacity_test, row_capacity, transient_test, row_transient, conflict_test}
 use Rattle.ra_model.specs.Broken.{spread_test}
 use Rattle.ra_topology.specs.Lists.{service_at, is_dependant, numbers_of, AreDependantsOf}
-use Rattle.ra_edit.specs.Drafts.{Drafted, with_processes, instance_of}
-use Rattle.ra_edit.specs.Touched.{far_from, left_alone, left_by, first_of_two, resized_breaks}
+use Rattle.ra_edit.specs.Drafts.{Drafted, with_process_rows, instance_of}
+use Rattle.ra_edit.specs.Touched.{far_from, cause_if_left_alone, left_by, first_of_two, resized_breaks}
 use Rattle.ra_base.specs.Searches.{or_else, first}
 use Rattle.ra_base.proofs.Searches.{or_else_none, first_none_from, first_same}
 use Rattle.ra_base.proofs.Picks.{pick_first}
@@ -32,15 +32,15 @@ unfolding cause_if
 held_if failed cause is = sym (cond-false failed (Some cause) None is)
 
 capacity_in : (e : Drafted) (m r : ℕ) → capacity_of (instance_of e) m r ≡ capacity_of e.origin m r
-unfolding with_processes capacity_of resource_count
+unfolding with_process_rows capacity_of resource_count
 capacity_in e m r = refl
 
 transient_in : (e : Drafted) (r : ℕ) → transient_at (instance_of e) r ≡ transient_at e.origin r
-unfolding with_processes transient_at resource_row
+unfolding with_process_rows transient_at resource_row
 transient_in e r = refl
 
 spread_in : (e : Drafted) (s : ℕ) → spread_of (instance_of e) s ≡ spread_of e.origin s
-unfolding with_processes spread_of service_row
+unfolding with_process_rows spread_of service_row
 spread_in e s = refl
 
 pub capacity_over : (e : Drafted) (m r used cap : ℕ) → used ≡ use_of (instance_of e) e.current m r →
@@ -113,19 +113,20 @@ need_near e s label k need n need_is count some = rw (← need_is, ← count) (h
 
 pub left_some : (e : Drafted) (s label u n : ℕ) → in_neighbourhood (instance_of e) e.current s label ≡ 0 →
     n ≡ in_neighbourhood (instance_of e) e.current u label → 0 < n →
-    Some (Dependency (record { 0 = u }) (record { 0 = s }) label) ≡ left_alone (instance_of e) e.current s label u
-unfolding left_alone
+    Some (Dependency (record { 0 = u }) (record { 0 = s }) label)
+    ≡ cause_if_left_alone (instance_of e) e.current s label u
+unfolding cause_if_left_alone
 left_some e s label u n gone count some =
     rw (← count) (failed_if _ _ (and_from _ _ (eq-eqb _ 0 gone) (lt-ltb 0 n some)))
 
 pub left_none : (e : Drafted) (s label u n : ℕ) → n ≡ in_neighbourhood (instance_of e) e.current u label → n ≤ 0 →
-    None ≡ left_alone (instance_of e) e.current s label u
-unfolding left_alone
+    None ≡ cause_if_left_alone (instance_of e) e.current s label u
+unfolding cause_if_left_alone
 left_none e s label u n count none = rw (← count) (held_if _ _ (and_right _ _ (le-ltb 0 n none)))
 
 pub left_near : (e : Drafted) (s label u : ℕ) → 0 < in_neighbourhood (instance_of e) e.current s label →
-    None ≡ left_alone (instance_of e) e.current s label u
-unfolding left_alone
+    None ≡ cause_if_left_alone (instance_of e) e.current s label u
+unfolding cause_if_left_alone
 left_near e s label u some =
     held_if _ _ (and_left _ _
     (ne_eqb (in_neighbourhood (instance_of e) e.current s label) 0 (λ none. omega (arith, none, some))))
@@ -139,48 +140,48 @@ pub ruleset needs = (need_far, need_near)
 pub ruleset lefts = (left_some, left_none)
 
 pub resources_of : (e : Drafted) → resource_count (instance_of e) ≡ resource_count e.origin
-unfolding with_processes resource_count
+unfolding with_process_rows resource_count
 resources_of e = refl
 
 pub dependencies_in : (e : Drafted) (s : ℕ) → dependency_count (instance_of e) s ≡ dependency_count e.origin s
-unfolding with_processes dependency_count dependency_end dependency_start service_row
+unfolding with_process_rows dependency_count dependency_end dependency_start service_row
 dependencies_in e zero = refl
 dependencies_in e (suc s) = refl
 
 pub label_in : (e : Drafted) (m : ℕ) → neighbourhood_of (instance_of e) m ≡ neighbourhood_of e.origin m
-unfolding with_processes neighbourhood_of machine_row
+unfolding with_process_rows neighbourhood_of machine_row
 label_in e m = refl
 
 pub need_same : (e : Drafted) (s k : ℕ) → need_of (instance_of e) s k ≡ need_of e.origin s k
-unfolding with_processes need_of need_at dependency_start dependency_end service_row
+unfolding with_process_rows need_of need_at dependency_start dependency_end service_row
 need_same e zero k = refl
 need_same e (suc s) k = refl
 
 pub processes_in : (e : Drafted) → process_count (instance_of e) ≡ length e.rows
-unfolding with_processes process_count
+unfolding with_process_rows process_count
 processes_in e = refl
 
 pub services_in : (e : Drafted) → service_count (instance_of e) ≡ service_count e.origin
-unfolding with_processes service_count
+unfolding with_process_rows service_count
 services_in e = refl
 
 pub service_weight_in : (e : Drafted) → service_weight_of (instance_of e) ≡ service_weight_of e.origin
-unfolding with_processes service_weight_of
+unfolding with_process_rows service_weight_of
 service_weight_in e = refl
 
 -- who depends on whom
 
 depends_in : (e : Drafted) (s u : ℕ) → depends (instance_of e) s u ≡ depends e.origin s u
-unfolding with_processes depends dependency_count dependency_end dependency_start need_of need_at service_row
+unfolding with_process_rows depends dependency_count dependency_end dependency_start need_of need_at service_row
 depends_in e zero u = refl
 depends_in e (suc s) u = refl
 
 left_if : (e : Drafted) (i : Tables) (s label u : ℕ) → e.origin ≡ i →
-    cond (is_dependant i s u) (left_alone (instance_of e) e.current s label u) None ≡
+    cond (is_dependant i s u) (cause_if_left_alone (instance_of e) e.current s label u) None ≡
     left_by (instance_of e) e.current s label u
 unfolding left_by is_dependant
 left_if e i s label u same =
-    ap (λ (b : Bool). cond b (left_alone (instance_of e) e.current s label u) None)
+    ap (λ (b : Bool). cond b (cause_if_left_alone (instance_of e) e.current s label u) None)
     (sym (depends_in e u s ∙ ap (λ (j : Tables). depends j u s) same))
 
 -- a search over listed services is one over their numbers
@@ -196,10 +197,10 @@ listed_first list f =
 -- what is found among the dependants of a service is what is found among all services
 pub left_listed : (e : Drafted) (i : Tables) (s label : ℕ) (list : List Service) → e.origin ≡ i →
     AreDependantsOf i s list →
-    first (length list) (λ k. left_alone (instance_of e) e.current s label (service_at list k)) ≡
+    first (length list) (λ k. cause_if_left_alone (instance_of e) e.current s label (service_at list k)) ≡
     first (service_count (instance_of e)) (left_by (instance_of e) e.current s label)
 left_listed e i s label list same are =
-    let alone = left_alone (instance_of e) e.current s label in
+    let alone = cause_if_left_alone (instance_of e) e.current s label in
     listed_first list alone
     ∙ ap (λ (numbers : List ℕ). first (length numbers) (λ k. alone (get_or numbers k 0))) are.numbers
     ∙ pick_first (service_count i) (is_dependant i s) alone

@@ -27,14 +27,14 @@ use Rattle.ra_edit_read.specs.declared.edits.Edit.{Edit}
 use Rattle.ra_edit_read.specs.declared.edits.Edit.TheVariants.{Add, Retire, Resize}
 use Rattle.ra_edit_read.specs.EditLists.{FitsInstance}
 use Rattle.ra_edit.specs.declared.costs.MachineCosts.{MachineCosts}
-use Rattle.ra_edit.specs.Drafts.{Drafted, with_processes, instance_of}
+use Rattle.ra_edit.specs.Drafts.{Drafted, with_process_rows, instance_of}
 use Rattle.ra_edit.specs.Editing.{process_of, put_row, added, retired, resized, edited}
 use Rattle.ra_edit.specs.OneMore.{OneMore}
 use Rattle.ra_edit.specs.Kinds.{HasCome, HasGone, HasOther, Asks, IsEdited}
 use Rattle.ra_edit.specs.MachineCosts.{AreCostsOn}
 use Rattle.ra_edit.specs.Touched.{added_breaks, retired_breaks, resized_breaks}
 use Rattle.ra_edit.specs.Replies.{barred, broken_in}
-use Rattle.ra_edit.specs.Keeping.{IsSound, IsKept}
+use Rattle.ra_edit.specs.Keeping.{IsSoundDraft, IsKeptDraft}
 use Rattle.ra_edit.proofs.ShareLaws.{load_more, balance_more, process_more, way_more, moved_more, load_term}
 use Rattle.ra_edit.proofs.ShareLaws.{balance_term}
 use Rattle.ra_edit.proofs.AddedLaws.{added_law}
@@ -46,8 +46,8 @@ use Rattle.ra_edit.proofs.OneMoreLaws.{more_joined, more_retired, requirement_re
 -- a process has come
 
 service_read : (i : Tables) (rows : List ProcessRow) (requirements : List ℕ) (row : ProcessRow) →
-    service_of (with_processes i (rows ++ row ∷ []) requirements) (length rows) ≡ row.service.0
-unfolding with_processes service_of process_row
+    service_of (with_process_rows i (rows ++ row ∷ []) requirements) (length rows) ≡ row.service.0
+unfolding with_process_rows service_of process_row
 service_read i rows requirements row = ap (λ (x : ProcessRow). x.service.0) (get_or-append_seam rows row [] _)
 
 machine_read : (a : List Machine) (n : ℕ) (m : Machine) → length a ≡ n → machine_at (a ++ m ∷ []) n ≡ m.0
@@ -56,7 +56,7 @@ machine_read a n m size =
     ap (λ (x : Machine). x.0)
     (subst (λ k. get_or (a ++ m ∷ []) k (record { 0 = 0 }) ≡ m) size (get_or-append_seam a m [] (record { 0 = 0 })))
 
-has_come : (d e : Drafted) (s : Service) (m : Machine) (c : ℕ) (requirements : List ℕ) → IsSound d →
+has_come : (d e : Drafted) (s : Service) (m : Machine) (c : ℕ) (requirements : List ℕ) → IsSoundDraft d →
     s.0 < service_count d.origin → m.0 < machine_count d.origin → e ≡ added d s m c requirements → HasCome d e s.0 m.0
 unfolding added process_of
 has_come d e s m c requirements sound s_in m_in same =
@@ -71,7 +71,7 @@ has_come d e s m c requirements sound s_in m_in same =
       machine_in = m_in;
     })
 
-pub has_gone : (d e : Drafted) (p : ℕ) → IsSound d → p < length d.rows → e ≡ retired d p → HasGone d e p
+pub has_gone : (d e : Drafted) (p : ℕ) → IsSoundDraft d → p < length d.rows → e ≡ retired d p → HasGone d e p
 has_gone d e p sound within same =
     let few = few_of d sound in
     subst (λ (f : Drafted). HasGone d f p) (sym same) (record {
@@ -80,7 +80,7 @@ has_gone d e p sound within same =
           within;
     })
 
-has_other : (d e : Drafted) (p : ℕ) (requirements : List ℕ) → IsSound d → p < length d.rows →
+has_other : (d e : Drafted) (p : ℕ) (requirements : List ℕ) → IsSoundDraft d → p < length d.rows →
     length requirements ≡ resource_count d.origin → e ≡ resized d p requirements → HasOther d e p
 unfolding resized
 has_other d e p requirements sound within width same =
@@ -99,7 +99,7 @@ has_other d e p requirements sound within width same =
 
 -- what it requires
 
-come_asks : (d : Drafted) (s : Service) (m : Machine) (c : ℕ) (requirements : List ℕ) → IsSound d →
+come_asks : (d : Drafted) (s : Service) (m : Machine) (c : ℕ) (requirements : List ℕ) → IsSoundDraft d →
     length requirements ≡ resource_count d.origin → Asks (added d s m c requirements) (length d.rows) requirements
 unfolding added
 come_asks d s m c requirements sound width =
@@ -114,7 +114,7 @@ come_asks d s m c requirements sound width =
           ∙ get_or-append-add d.requirements requirements r 0);
     }
 
-other_asks : (d : Drafted) (p : ℕ) (requirements : List ℕ) → IsSound d → p < length d.rows →
+other_asks : (d : Drafted) (p : ℕ) (requirements : List ℕ) → IsSoundDraft d → p < length d.rows →
     length requirements ≡ resource_count d.origin → Asks (resized d p requirements) p requirements
 unfolding resized
 other_asks d p requirements sound within width =
@@ -126,9 +126,9 @@ other_asks d p requirements sound within width =
           ∙ put_cell_here w (length d.rows) p r d.requirements requirements few.table within width column);
     }
 
-pub edited_is : (d e : Drafted) (edit : Edit) (requirements : List ℕ) → IsSound d → barred (length d.rows) edit ≡ None →
-    FitsInstance d.origin edit → length requirements ≡ resource_count d.origin → e ≡ edited d edit requirements →
-    IsEdited d edit requirements e
+pub edited_is : (d e : Drafted) (edit : Edit) (requirements : List ℕ) → IsSoundDraft d →
+    barred (length d.rows) edit ≡ None → FitsInstance d.origin edit → length requirements ≡ resource_count d.origin →
+    e ≡ edited d edit requirements → IsEdited d edit requirements e
 unfolding edited
 edited_is d e (Add s m c) requirements sound free fits width same = (
   has_come d e s m c requirements sound fits.0 fits.1 same,
@@ -145,22 +145,22 @@ edited_is d e (Resize p) requirements sound free fits width same = (
 
 -- what is broken
 
-pub come_broken : (d e : Drafted) (parts : Parts) (s m : ℕ) → IsKept d parts → HasCome d e s m →
+pub come_broken : (d e : Drafted) (parts : Parts) (s m : ℕ) → IsKeptDraft d parts → HasCome d e s m →
     broken_in e ≡ added_breaks (instance_of e) e.initial e.current s m
 unfolding broken_in
 come_broken d e parts s m kept come = added_law d e (length d.rows) s m come.more kept.unbroken come.service come.home
     come.here come.service_in come.machine_in
 
-pub service_there : (d : Drafted) (p : ℕ) → IsSound d → p < length d.rows →
+pub service_there : (d : Drafted) (p : ℕ) → IsSoundDraft d → p < length d.rows →
     service_of (instance_of d) p < service_count d.origin
-unfolding with_processes process_count service_count
+unfolding with_process_rows process_count service_count
 service_there d p sound within = sound.well_formed.services p within
 
-pub gone_service : (d e : Drafted) (p s : ℕ) → IsSound d → HasGone d e p → s ≡ service_of (instance_of d) p →
+pub gone_service : (d e : Drafted) (p s : ℕ) → IsSoundDraft d → HasGone d e p → s ≡ service_of (instance_of d) p →
     s < service_count d.origin
 gone_service d e p s sound gone s_is = omega (arith, s_is, service_there d p sound gone.there)
 
-pub gone_broken : (d e : Drafted) (parts : Parts) (p s label : ℕ) → IsKept d parts → HasGone d e p →
+pub gone_broken : (d e : Drafted) (parts : Parts) (p s label : ℕ) → IsKeptDraft d parts → HasGone d e p →
     s ≡ service_of (instance_of d) p → label ≡ neighbourhood_of d.origin (machine_at d.current p) →
     broken_in e ≡ retired_breaks (instance_of e) e.current s label
 unfolding broken_in
@@ -177,10 +177,10 @@ machines_less d p = refl
 in_range : (d : Drafted) (a : List Machine) (p : ℕ) →
     ((q : ℕ) → q < process_count (instance_of d) → machine_at a q < machine_count (instance_of d)) → p < length d.rows →
     machine_at a p < machine_count d.origin
-unfolding with_processes process_count machine_count
+unfolding with_process_rows process_count machine_count
 in_range d a p each within = each p within
 
-pub other_broken : (d e : Drafted) (parts : Parts) (p home here : ℕ) → IsKept d parts → HasOther d e p →
+pub other_broken : (d e : Drafted) (parts : Parts) (p home here : ℕ) → IsKeptDraft d parts → HasOther d e p →
     home ≡ machine_at d.initial p → here ≡ machine_at d.current p →
     broken_in e ≡ resized_breaks (instance_of e) e.initial e.current home here
 unfolding broken_in
@@ -219,7 +219,7 @@ pub record HasParts (d : Drafted) (parts : Parts) : Type 0 where
   pub service_small : parts.service < 2 ^ 48
   pub machine_small : parts.machine < 2 ^ 80
 
-pub parts_told : (d : Drafted) (parts : Parts) → IsKept d parts → Small (instance_of d) → HasParts d parts
+pub parts_told : (d : Drafted) (parts : Parts) → IsKeptDraft d parts → Small (instance_of d) → HasParts d parts
 unfolding parts_of
 parts_told d parts kept small =
     let i = instance_of d in
@@ -255,12 +255,12 @@ moved_same d e p s more home =
     never false = refl
 
 services_both : (d e : Drafted) → e.origin ≡ d.origin → service_count (instance_of e) ≡ service_count (instance_of d)
-unfolding with_processes service_count
+unfolding with_process_rows service_count
 services_both d e origin = ap (λ (i : Tables). length i.raw.services.items) origin
 
 weight_both : (d e : Drafted) → e.origin ≡ d.origin → service_weight_of (instance_of e) ≡ service_weight_of
     (instance_of d)
-unfolding with_processes service_weight_of
+unfolding with_process_rows service_weight_of
 weight_both d e origin = ap (λ (i : Tables). i.raw.service_weight) origin
 
 service_same : (d e : Drafted) (p : ℕ) → OneMore d e p → machine_at e.initial p ≡ machine_at e.current p →
@@ -383,30 +383,30 @@ gone_parts d e cost p m l b q s w before after well has gone here m_in before_is
 -- a process requires something else
 
 process_with : (i : Tables) (rows : List ProcessRow) (t u : List ℕ) (a0 a : List Machine) →
-    process_cost (with_processes i rows t) a0 a ≡ process_cost (with_processes i rows u) a0 a
-unfolding with_processes process_cost tally process_share process_cost_of process_row process_count process_weight_of
+    process_cost (with_process_rows i rows t) a0 a ≡ process_cost (with_process_rows i rows u) a0 a
+unfolding with_process_rows process_cost tally process_share process_cost_of process_row process_count process_weight_of
 process_with i rows t u a0 a = refl
 
 service_with : (i : Tables) (rows : List ProcessRow) (t u : List ℕ) (a0 a : List Machine) →
-    service_cost (with_processes i rows t) a0 a ≡ service_cost (with_processes i rows u) a0 a
-unfolding with_processes service_cost moved_of members_at tally of_service is_of service_of process_row process_count
+    service_cost (with_process_rows i rows t) a0 a ≡ service_cost (with_process_rows i rows u) a0 a
+unfolding with_process_rows service_cost moved_of members_at tally of_service is_of service_of process_row process_count
     service_count service_weight_of
 service_with i rows t u a0 a = refl
 
 way_with : (i : Tables) (rows : List ProcessRow) (t u : List ℕ) (a0 a : List Machine) →
-    machine_cost (with_processes i rows t) a0 a ≡ machine_cost (with_processes i rows u) a0 a
-unfolding with_processes machine_cost tally way_share way_cost_of process_count machine_count machine_weight_of
+    machine_cost (with_process_rows i rows t) a0 a ≡ machine_cost (with_process_rows i rows u) a0 a
+unfolding with_process_rows machine_cost tally way_share way_cost_of process_count machine_count machine_weight_of
 way_with i rows t u a0 a = refl
 
 pub renamed : (f : Tables → List Machine → List Machine → ℕ) (d e : Drafted) →
     ((i : Tables) (rows : List ProcessRow) (t u : List ℕ) (a0 a : List Machine) →
-    f (with_processes i rows t) a0 a ≡ f (with_processes i rows u) a0 a) → e.origin ≡ d.origin → e.rows ≡ d.rows →
+    f (with_process_rows i rows t) a0 a ≡ f (with_process_rows i rows u) a0 a) → e.origin ≡ d.origin → e.rows ≡ d.rows →
     e.initial ≡ d.initial → e.current ≡ d.current → f (instance_of d) d.initial d.current ≡
     f (instance_of e) e.initial e.current
 renamed f d e same origin rows initial current =
     same d.origin d.rows d.requirements e.requirements d.initial d.current
-    ∙ ap (λ (i : Tables). f (with_processes i d.rows e.requirements) d.initial d.current) (sym origin)
-    ∙ ap (λ (xs : List ProcessRow). f (with_processes e.origin xs e.requirements) d.initial d.current) (sym rows)
+    ∙ ap (λ (i : Tables). f (with_process_rows i d.rows e.requirements) d.initial d.current) (sym origin)
+    ∙ ap (λ (xs : List ProcessRow). f (with_process_rows e.origin xs e.requirements) d.initial d.current) (sym rows)
     ∙ ap (λ (a : List Machine). f (instance_of e) a d.current) (sym initial)
     ∙ ap (λ (a : List Machine). f (instance_of e) e.initial a) (sym current)
 
@@ -473,10 +473,12 @@ pub balance_counted : (d : Drafted) (m : ℕ) (costs : MachineCosts) → m < mac
 balance_counted d m costs within are = omega (arith, are.balance, balance_term d m within)
 
 -- the machine of a process exists
-pub here_in : (d : Drafted) (p : ℕ) → IsSound d → p < length d.rows → machine_at d.current p < machine_count d.origin
+pub here_in : (d : Drafted) (p : ℕ) → IsSoundDraft d → p < length d.rows →
+    machine_at d.current p < machine_count d.origin
 here_in d p sound within = in_range d d.current p sound.current.in_range within
 
-pub home_in : (d : Drafted) (p : ℕ) → IsSound d → p < length d.rows → machine_at d.initial p < machine_count d.origin
+pub home_in : (d : Drafted) (p : ℕ) → IsSoundDraft d → p < length d.rows →
+    machine_at d.initial p < machine_count d.origin
 home_in d p sound within = in_range d d.initial p sound.initial.in_range within
 
 -- a product of two numbers of files

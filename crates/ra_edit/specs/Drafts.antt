@@ -16,8 +16,8 @@ pub record Drafted : Type 0 where
   pub current : List Machine
 
 -- the instance with other processes: all its other lists stay
-unfoldable pub with_processes : Tables → List ProcessRow → List ℕ → Tables
-with_processes i rows requirements = record i {
+unfoldable pub with_process_rows : Tables → List ProcessRow → List ℕ → Tables
+with_process_rows i rows requirements = record i {
   raw = record i.raw {
     processes = record { items = rows; room = i.raw.processes.room };
     requirements = record { items = requirements; room = i.raw.requirements.room };
@@ -26,7 +26,7 @@ with_processes i rows requirements = record i {
 
 -- the instance of a draft
 abbrev pub instance_of : Drafted → Tables
-instance_of d = with_processes d.origin d.rows d.requirements
+instance_of d = with_process_rows d.origin d.rows d.requirements
 
 -- the draft of an instance and two lists
 abbrev pub draft_of : Tables → List Machine → List Machine → Drafted

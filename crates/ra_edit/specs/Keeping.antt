@@ -28,26 +28,26 @@ abbrev pub tables_with : Tables → Lists → Tables
 tables_with i l = instance_of (drafted i l)
 
 -- the lists have room for the most processes that an instance may have
-pub record HasRoom (i : Tables) (l : Lists) : Type 0 where
+pub record HasRoomForProcesses (i : Tables) (l : Lists) : Type 0 where
   pub rows : l.rows.room ≡ 50000
   pub requirements : l.requirements.room ≡ 50000 * resource_count i
   pub initial : l.initial.room ≡ 50000
   pub current : l.current.room ≡ 50000
 
 -- an instance within the limits, and two lists that fit it
-pub record IsSound (d : Drafted) : Type 0 where
+pub record IsSoundDraft (d : Drafted) : Type 0 where
   pub well_formed : WellFormed (instance_of d)
   pub initial : IsAssignment (instance_of d) d.initial
   pub current : IsAssignment (instance_of d) d.current
 
 -- a sound draft whose current list breaks no constraint and costs these parts
-pub record IsKept (d : Drafted) (parts : Parts) : Type 0 where
-  pub sound : IsSound d
+pub record IsKeptDraft (d : Drafted) (parts : Parts) : Type 0 where
+  pub sound : IsSoundDraft d
   pub unbroken : broken_in d ≡ None
   pub parts_are : parts ≡ parts_of (instance_of d) d.initial d.current
 
 -- what is known of a draft: its first broken constraint, or the parts of its cost
-abbrev pub IsJudged : Drafted → Judged → Type 0
-IsJudged d (Refused cause) = broken_in d ≡ Some cause
-IsJudged d (Fine parts) =
+abbrev pub IsJudgedDraft : Drafted → Judged → Type 0
+IsJudgedDraft d (Refused cause) = broken_in d ≡ Some cause
+IsJudgedDraft d (Fine parts) =
     (broken_in d ≡ None) × (parts ≡ parts_of (instance_of d) d.initial d.current)

@@ -10,9 +10,9 @@ use Rattle.ra_topology.specs.Fits.{IsTopologyOf}
 use Rattle.ra_edit.specs.declared.keeping.Kept.{Kept}
 use Rattle.ra_edit.specs.declared.loads.Loads.{Loads}
 use Rattle.ra_edit.specs.Drafts.{Drafted, instance_of}
-use Rattle.ra_edit.specs.Keeping.{drafted, HasRoom, IsKept}
+use Rattle.ra_edit.specs.Keeping.{drafted, HasRoomForProcesses, IsKeptDraft}
 use Rattle.ra_edit.specs.Members.{AreMembersOf}
-use Rattle.ra_edit.specs.Moved.{AreMovedOf}
+use Rattle.ra_edit.specs.Moved.{AreMovedOfDraft}
 
 -- one table has more than another by an amount of each resource at machine `at`, and by nothing elsewhere
 pub record HasMoreAt (width at : ℕ) (amount : ℕ → ℕ) (low high : List ℕ) : Type 0 where
@@ -28,7 +28,7 @@ pub record HasMoreBetween (width home at : ℕ) (amount : ℕ → ℕ) (low high
   pub same_length : length high ≡ length low
 
 -- one of two has in addition what a process uses, whose machine was `home` at first and is `at` now
-pub record HasMore (width home at : ℕ) (amount : ℕ → ℕ) (low high : Loads) : Type 0 where
+pub record HasMoreUse (width home at : ℕ) (amount : ℕ → ℕ) (low high : Loads) : Type 0 where
   pub used : HasMoreAt width at amount low.used.items high.used.items
   pub between : HasMoreBetween width home at amount low.between.items high.between.items
 
@@ -52,7 +52,7 @@ pub record IsUseRow (d : Drafted) (m : ℕ) (row : List ℕ) : Type 0 where
       → slice_index row r ≡ use_of (instance_of d) d.current m r
 
 -- the transient use of each resource of machine m
-pub record IsTransientRow (d : Drafted) (m : ℕ) (row : List ℕ) : Type 0 where
+pub record IsTransientRowOfDraft (d : Drafted) (m : ℕ) (row : List ℕ) : Type 0 where
   pub one_each : length row ≡ resource_count d.origin
   pub each : (r : ℕ) → r < resource_count d.origin
       → slice_index row r ≡ transient_of (instance_of d) d.initial d.current m r
@@ -68,9 +68,9 @@ draft_in k = drafted k.inst.now.tables k.lists
 -- what is kept belongs to one draft: the cost of its current list, what its processes use, where they are by service,
 -- the topology of its instance, and how many processes have moved
 pub record IsHeld (k : Kept) : Type 0 where
-  pub kept : IsKept (draft_in k) k.parts
+  pub kept : IsKeptDraft (draft_in k) k.parts
   pub loads_are : AreLoadsOf (draft_in k) k.loads
   pub members_are : AreMembersOf (draft_in k) k.members
   pub topology_is : IsTopologyOf k.topo.now k.inst.now.tables
-  pub moved_are : AreMovedOf (draft_in k) k.moved
-  pub room : HasRoom k.inst.now.tables k.lists
+  pub moved_are : AreMovedOfDraft (draft_in k) k.moved
+  pub room : HasRoomForProcesses k.inst.now.tables k.lists

@@ -41,7 +41,7 @@ pub record AreSameIn (old new : Members) : Type 0 where
   pub numbers : new.locations.numbers.items ≡ old.locations.numbers.items
 
 -- to count a process more of service s on machine m takes no memory
-pub record HasRoomFor (i : Tables) (s m : ℕ) (members : Members) : Type 0 where
+pub record HasCountsFor (i : Tables) (s m : ℕ) (members : Members) : Type 0 where
   pub machine : HasCount members.machines s m
   pub neighbourhood : HasCount members.neighbourhoods s (neighbourhood_of i m)
   pub location : HasCount members.locations.counts s (location_of i m)

@@ -16,13 +16,13 @@ use Rattle.ra_edit.specs.Editing.{edited}
 unfoldable pub broken_in : Drafted → Option Cause
 broken_in d = first_broken (instance_of d) d.initial d.current
 
-unfoldable pub cost_in : Drafted → ℕ
-cost_in d = objective (instance_of d) d.initial d.current
+unfoldable pub draft_cost : Drafted → ℕ
+draft_cost d = objective (instance_of d) d.initial d.current
 
 -- the answer for what an edit makes
-unfoldable pub judged : Option Cause → ℕ → EditReply
-judged (Some cause) cost = Broken cause
-judged None cost = Done cost
+unfoldable pub edit_reply : Option Cause → ℕ → EditReply
+edit_reply (Some cause) cost = Broken cause
+edit_reply None cost = Done cost
 
 -- why an edit makes nothing at all of this number of processes: its process doesn't exist, there is no room for one
 -- more, or it is the last one
@@ -34,7 +34,7 @@ barred count (Resize p) = if nat_lt p count then None else Some (NoProcess p)
 
 unfoldable pub answer : Option EditReply → Drafted → EditReply
 answer (Some reply) after = reply
-answer None after = judged (broken_in after) (cost_in after)
+answer None after = edit_reply (broken_in after) (draft_cost after)
 
 unfoldable pub edit_answer : Drafted → EditLists → ℕ → EditReply
 edit_answer d e k =

@@ -26,14 +26,14 @@ added_breaks i a0 a s m =
     (first (dependency_count i s) (far_from i a s (neighbourhood_of i m)))))
 
 -- no process of service s is in a neighbourhood that has one of service u, which depends on s
-unfoldable pub left_alone : Tables → List Machine → ℕ → ℕ → ℕ → Option Cause
-left_alone i a s label u =
+unfoldable pub cause_if_left_alone : Tables → List Machine → ℕ → ℕ → ℕ → Option Cause
+cause_if_left_alone i a s label u =
     cause_if (in_neighbourhood i a s label == 0 && nat_lt 0 (in_neighbourhood i a u label))
     (Dependency (record { 0 = u }) (record { 0 = s }) label)
 
 -- `left_alone`, asked only of a service u that depends on service s
 unfoldable pub left_by : Tables → List Machine → ℕ → ℕ → ℕ → Option Cause
-left_by i a s label u = if depends i u s then left_alone i a s label u else None
+left_by i a s label u = if depends i u s then cause_if_left_alone i a s label u else None
 
 -- a process less, of service s in a neighbourhood: the spread of its service, and the processes in the neighbourhood
 -- that depend on it

@@ -5,7 +5,7 @@ ghost use Rattle.ra_model.specs.Costs.{process_share};
 ghost use Rattle.ra_model.specs.Numbers.{resource_count, machine_count, way_cost_of, process_weight_of, machine_weight_of};
 ghost use Rattle.ra_edit.specs.Drafts.{Drafted};
 ghost use Rattle.ra_edit.specs.Loads.{AreLoadsOf, IsUseRow};
-ghost use Rattle.ra_edit.specs.Keeping.{drafted, tables_with, IsKept, IsSound};
+ghost use Rattle.ra_edit.specs.Keeping.{drafted, tables_with, IsKeptDraft, IsSoundDraft};
 ghost use Rattle.ra_edit.specs.MachineCosts.{AreCostsOn, AreCostsWith};
 
 use crate::lists::{Lists, machine_of};
@@ -46,7 +46,7 @@ pub(crate) fn costs_with(
     m: Machine,
     row: &[u64],
 ) -> MachineCosts
-    requires kept { IsKept (drafted inst.now.tables lists.now) cost }
+    requires kept { IsKeptDraft (drafted inst.now.tables lists.now) cost }
     requires loads { AreLoadsOf (drafted inst.now.tables lists.now) loads.now }
     requires machine { m.0 < machine_count inst.now.tables }
     requires one_each { length row.now ≡ resource_count inst.now.tables }
@@ -66,7 +66,7 @@ pub(crate) fn costs_with(
 
 /// What a process adds to the process cost.
 pub(crate) fn moved_share(inst: &Instance, lists: &Lists, p: Process) -> u128
-    requires sound { IsSound (drafted inst.now.tables lists.now) }
+    requires sound { IsSoundDraft (drafted inst.now.tables lists.now) }
     requires process { p.0 < length lists.now.rows.items }
     ensures { result ≡ process_weight_of inst.now.tables *
         process_share (tables_with inst.now.tables lists.now) lists.now.initial.items p.0
@@ -81,7 +81,7 @@ pub(crate) fn moved_share(inst: &Instance, lists: &Lists, p: Process) -> u128
 
 /// What a process adds to the machine cost.
 pub(crate) fn way_share(inst: &Instance, lists: &Lists, p: Process) -> u128
-    requires sound { IsSound (drafted inst.now.tables lists.now) }
+    requires sound { IsSoundDraft (drafted inst.now.tables lists.now) }
     requires process { p.0 < length lists.now.rows.items }
     ensures { result ≡ machine_weight_of inst.now.tables *
         way_cost_of inst.now.tables (machine_at lists.now.initial.items p.0)

@@ -7,7 +7,7 @@ ghost use Rattle.ra_model.specs.Limits.{Small, WellFormed};
 ghost use Rattle.ra_topology.specs.Fits.{IsTopologyOf};
 ghost use Rattle.ra_edit_read.specs.EditLists.{AreEditsFor};
 ghost use Rattle.ra_edit.specs.Drafts.{draft_of, instance_of};
-ghost use Rattle.ra_edit.specs.Keeping.{IsSound};
+ghost use Rattle.ra_edit.specs.Keeping.{IsSoundDraft};
 ghost use Rattle.ra_edit.specs.Leaving.{left_in};
 ghost use Rattle.ra_edit.specs.Replies.{barred, edit_answer, after_edit};
 ghost use Rattle.ra_edit.specs.SameLists.{AreSameLists};
@@ -135,7 +135,7 @@ impl<'a> Draft<'a> {
     /// small.
     pub fn leave(self) -> Left
         ensures lists { left_in self.entry.origin result ≡ self.entry }
-        ensures sound { IsSound self.entry }
+        ensures sound { IsSoundDraft self.entry }
         ensures small { Small (instance_of self.entry) }
         ensures feasible { Feasible (instance_of self.entry) self.entry.initial
             self.entry.current }

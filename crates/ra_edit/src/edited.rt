@@ -3,7 +3,7 @@ ghost use Rattle.std.specs.Prelude.{◌≡◌};
 ghost use Rattle.ra_model.specs.Costs.{parts_of};
 ghost use Rattle.ra_model.specs.Feasible.{Feasible};
 ghost use Rattle.ra_edit.specs.Drafts.{instance_of};
-ghost use Rattle.ra_edit.specs.Keeping.{IsSound};
+ghost use Rattle.ra_edit.specs.Keeping.{IsSoundDraft};
 ghost use Rattle.ra_edit.specs.Leaving.{left_in};
 ghost use Rattle.ra_edit.specs.SameLists.{AreSameLists};
 
@@ -31,7 +31,7 @@ pub struct Edited {
 impl Edited {
     /// An instance whose draft left these lists, with the processes in these lists instead of its own.
     pub fn of(instance: Instance, left: Left) -> Edited
-        requires sound { IsSound (left_in instance.tables left) }
+        requires sound { IsSoundDraft (left_in instance.tables left) }
         requires feasible { Feasible (instance_of (left_in instance.tables left))
             left.initial.items left.current.items }
         ensures lists { AreSameLists (instance_of (left_in instance.tables left))

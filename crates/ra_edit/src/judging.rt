@@ -7,12 +7,13 @@ ghost use Rattle.ra_model.specs.Usage.{use_of, transient_of};
 ghost use Rattle.ra_model.specs.Assignments.{machine_at};
 ghost use Rattle.ra_model.specs.Services.{locations_of};
 ghost use Rattle.ra_topology.specs.Fits.{IsTopologyOf};
-ghost use Rattle.ra_edit.specs.Keeping.{drafted, tables_with, IsSound};
+ghost use Rattle.ra_edit.specs.Keeping.{drafted, tables_with, IsSoundDraft};
 ghost use Rattle.ra_edit.specs.Drafts.{Drafted, instance_of};
 ghost use Rattle.ra_edit.specs.Kinds.{HasCome, HasGone, IsLeft};
 ghost use Rattle.ra_edit.specs.Members.{AreMembersOf};
-ghost use Rattle.ra_edit.specs.Loads.{IsUseRow, IsTransientRow};
-ghost use Rattle.ra_edit.specs.Touched.{far_from, added_breaks, left_alone, left_by, retired_breaks, resized_breaks};
+ghost use Rattle.ra_edit.specs.Loads.{IsUseRow, IsTransientRowOfDraft};
+ghost use Rattle.ra_edit.specs.Touched.{far_from, added_breaks, cause_if_left_alone, left_by, retired_breaks};
+ghost use Rattle.ra_edit.specs.Touched.{resized_breaks};
 
 use crate::lists::Lists;
 use crate::members::{Members, Spot};
@@ -34,7 +35,7 @@ pub(crate) fn added_breaks(
     requires used { length used.now ≡ resource_count inst.now.tables }
     requires between { length between.now ≡ resource_count inst.now.tables }
     ensures { (d e : Drafted) → d.origin ≡ inst.now.tables → AreMembersOf d members.now →
-        HasCome d e s.0 m.0 → IsUseRow e m.0 used.now → IsTransientRow e m.0 between.now →
+        HasCome d e s.0 m.0 → IsUseRow e m.0 used.now → IsTransientRowOfDraft e m.0 between.now →
         result ≡ added_breaks (instance_of e) e.initial e.current s.0 m.0 }
 {
     if let Some(cause) = row_capacity(inst, m, used) {
@@ -59,7 +60,7 @@ pub(crate) fn retired_breaks(
     s: Service,
     at: Machine,
 ) -> Option<Cause>
-    requires sound { IsSound (drafted inst.now.tables lists.now) }
+    requires sound { IsSoundDraft (drafted inst.now.tables lists.now) }
     requires members { AreMembersOf (drafted inst.now.tables lists.now) members.now }
     requires topology { IsTopologyOf topo.now inst.now.tables }
     requires service { s.0 < service_count inst.now.tables }
@@ -92,7 +93,7 @@ pub(crate) fn resized_breaks(
     requires at_home { length at_home.now ≡ resource_count inst.now.tables }
     requires at_here { length at_here.now ≡ resource_count inst.now.tables }
     ensures { (e : Drafted) → e.origin ≡ inst.now.tables → IsUseRow e here.0 used.now →
-        IsTransientRow e home.0 at_home.now → IsTransientRow e here.0 at_here.now →
+        IsTransientRowOfDraft e home.0 at_home.now → IsTransientRowOfDraft e here.0 at_here.now →
         result ≡ resized_breaks (instance_of e) e.initial e.current home.0 here.0 }
 {
     if let Some(cause) = row_capacity(inst, here, used) {
@@ -117,8 +118,8 @@ fn two_transients(
     requires second { n.0 < machine_count inst.now.tables }
     requires at_first { length at_m.now ≡ resource_count inst.now.tables }
     requires at_second { length at_n.now ≡ resource_count inst.now.tables }
-    ensures { (e : Drafted) → e.origin ≡ inst.now.tables → IsTransientRow e m.0 at_m.now →
-        IsTransientRow e n.0 at_n.now →
+    ensures { (e : Drafted) → e.origin ≡ inst.now.tables → IsTransientRowOfDraft e m.0 at_m.now →
+        IsTransientRowOfDraft e n.0 at_n.now →
         result ≡ or_else (row_transient (instance_of e) e.initial e.current m.0)
         (row_transient (instance_of e) e.initial e.current n.0) }
 {
@@ -168,7 +169,7 @@ fn capacity_test(inst: &Instance, m: Machine, r: Resource, used: u64) -> Option<
 fn row_transient(inst: &Instance, m: Machine, row: &[u64]) -> Option<Cause>
     requires machine { m.0 < machine_count inst.now.tables }
     requires one_each { length row.now ≡ resource_count inst.now.tables }
-    ensures { (e : Drafted) → e.origin ≡ inst.now.tables → IsTransientRow e m.0 row.now →
+    ensures { (e : Drafted) → e.origin ≡ inst.now.tables → IsTransientRowOfDraft e m.0 row.now →
         result ≡ row_transient (instance_of e) e.initial e.current m.0 }
 {
     for r in 0..inst.resources() {
@@ -279,7 +280,7 @@ fn spread_test(
     s: Service,
     at: Machine,
 ) -> Option<Cause>
-    requires sound { IsSound (drafted inst.now.tables lists.now) }
+    requires sound { IsSoundDraft (drafted inst.now.tables lists.now) }
     requires members { AreMembersOf (drafted inst.now.tables lists.now) members.now }
     requires service { s.0 < service_count inst.now.tables }
     requires process { p.0 < length lists.now.rows.items }
@@ -311,7 +312,7 @@ fn locations_without(
     s: Service,
     at: Machine,
 ) -> u32
-    requires sound { IsSound (drafted inst.now.tables lists.now) }
+    requires sound { IsSoundDraft (drafted inst.now.tables lists.now) }
     requires members { AreMembersOf (drafted inst.now.tables lists.now) members.now }
     requires service { s.0 < service_count inst.now.tables }
     requires process { p.0 < length lists.now.rows.items }
@@ -366,7 +367,7 @@ fn first_left(
 /// A service in a neighbourhood, if a service on which it depends has no process left there.
 fn left_alone(members: &Members, s: Service, label: u32, u: Service) -> Option<Cause>
     ensures { (d e : Drafted) → AreMembersOf d members.now → IsLeft d e s.0 label →
-        result ≡ left_alone (instance_of e) e.current s.0 label u.0 }
+        result ≡ cause_if_left_alone (instance_of e) e.current s.0 label u.0 }
 {
     if u.0 == s.0 {
         return None;

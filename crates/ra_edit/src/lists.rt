@@ -4,7 +4,7 @@ ghost use Rattle.ra_model.specs.Numbers.{resource_count};
 ghost use Rattle.ra_edit.specs.Drafts.{draft_of};
 ghost use Rattle.ra_edit.specs.Editing.{added, retired, resized, edited};
 ghost use Rattle.ra_edit.specs.Replies.{barred};
-ghost use Rattle.ra_edit.specs.Keeping.{drafted, HasRoom, IsSound};
+ghost use Rattle.ra_edit.specs.Keeping.{drafted, HasRoomForProcesses, IsSoundDraft};
 
 use crate::growing::Growing;
 use crate::tables::{processes_of, requirements_of};
@@ -52,7 +52,7 @@ impl Lists {
         requires fits { IsAssignment inst.now.tables a.now.items }
         ensures lists { IfOk result (λ lists. drafted inst.now.tables lists
             ≡ draft_of inst.now.tables a0.now.items a.now.items) }
-        ensures room { IfOk result (λ lists. HasRoom inst.now.tables lists) }
+        ensures room { IfOk result (λ lists. HasRoomForProcesses inst.now.tables lists) }
     {
         let rows = processes_of(alloc, inst)?;
         let requirements = requirements_of::<Brand>(alloc, inst, Blank::new(1))?;
@@ -89,13 +89,13 @@ impl Lists {
     /// Does an edit, if nothing bars it. It changes the lists in place, in a time that grows only with the resources.
     #[tactic(auto, unfolding(crate::specs::Editing::edited))]
     pub(crate) fn edit(&mut self, inst: &Instance, edit: Edit, requirements: &[u32])
-        requires sound { IsSound (drafted inst.now.tables self.old) }
-        requires room { HasRoom inst.now.tables self.old }
+        requires sound { IsSoundDraft (drafted inst.now.tables self.old) }
+        requires room { HasRoomForProcesses inst.now.tables self.old }
         requires free { barred (length self.old.rows.items) edit ≡ None }
         requires width { length requirements.now ≡ resource_count inst.now.tables }
         ensures lists { drafted inst.now.tables self.new
             ≡ edited (drafted inst.now.tables self.old) edit requirements.now }
-        ensures room { HasRoom inst.now.tables self.new }
+        ensures room { HasRoomForProcesses inst.now.tables self.new }
     {
         match edit {
             Edit::Add {
@@ -115,14 +115,14 @@ impl Lists {
 
     /// Adds a process.
     fn add(&mut self, inst: &Instance, row: ProcessRow, machine: Machine, requirements: &[u32])
-        requires sound { IsSound (drafted inst.now.tables self.old) }
-        requires room { HasRoom inst.now.tables self.old }
+        requires sound { IsSoundDraft (drafted inst.now.tables self.old) }
+        requires room { HasRoomForProcesses inst.now.tables self.old }
         requires few { length self.old.rows.items < 50000 }
         requires width { length requirements.now ≡ resource_count inst.now.tables }
         ensures lists { drafted inst.now.tables self.new
             ≡ added (drafted inst.now.tables self.old) row.service machine row.move_cost
             requirements.now }
-        ensures room { HasRoom inst.now.tables self.new }
+        ensures room { HasRoomForProcesses inst.now.tables self.new }
     {
         self.rows.push(row);
         self.requirements.extend_from_slice(requirements);
@@ -132,12 +132,12 @@ impl Lists {
 
     /// Removes a process. The last process takes its number.
     fn retire(&mut self, inst: &Instance, process: u32)
-        requires sound { IsSound (drafted inst.now.tables self.old) }
-        requires room { HasRoom inst.now.tables self.old }
+        requires sound { IsSoundDraft (drafted inst.now.tables self.old) }
+        requires room { HasRoomForProcesses inst.now.tables self.old }
         requires process { process < length self.old.rows.items }
         ensures lists { drafted inst.now.tables self.new
             ≡ retired (drafted inst.now.tables self.old) process }
-        ensures room { HasRoom inst.now.tables self.new }
+        ensures room { HasRoomForProcesses inst.now.tables self.new }
     {
         let p = process as usize;
         let width = inst.resources() as usize;
@@ -150,13 +150,13 @@ impl Lists {
 
     /// Gives a process other requirements.
     fn resize(&mut self, inst: &Instance, process: u32, requirements: &[u32])
-        requires sound { IsSound (drafted inst.now.tables self.old) }
-        requires room { HasRoom inst.now.tables self.old }
+        requires sound { IsSoundDraft (drafted inst.now.tables self.old) }
+        requires room { HasRoomForProcesses inst.now.tables self.old }
         requires process { process < length self.old.rows.items }
         requires width { length requirements.now ≡ resource_count inst.now.tables }
         ensures lists { drafted inst.now.tables self.new
             ≡ resized (drafted inst.now.tables self.old) process requirements.now }
-        ensures room { HasRoom inst.now.tables self.new }
+        ensures room { HasRoomForProcesses inst.now.tables self.new }
     {
         let start = process as usize * inst.resources() as usize;
         self.requirements.write(start, requirements);

@@ -6,9 +6,10 @@ ghost use Rattle.ra_check.specs.Made.{IsGrid};
 ghost use Rattle.ra_model.specs.Assignments.{machine_at};
 ghost use Rattle.ra_model.specs.Numbers.{resource_count, machine_count};
 ghost use Rattle.ra_edit.specs.Drafts.{Drafted};
-ghost use Rattle.ra_edit.specs.Keeping.{drafted, IsSound};
+ghost use Rattle.ra_edit.specs.Keeping.{drafted, IsSoundDraft};
 ghost use Rattle.ra_edit.specs.Kinds.{Asks, HasCome, HasGone, HasOther, IsEdited};
-ghost use Rattle.ra_edit.specs.Loads.{AreLoadsOf, HasCounted, HasMore, HasMoreAt, IsUseRow, IsTransientRow, IsThere};
+ghost use Rattle.ra_edit.specs.Loads.{AreLoadsOf, HasCounted, HasMoreUse, HasMoreAt, IsUseRow, IsTransientRowOfDraft};
+ghost use Rattle.ra_edit.specs.Loads.{IsThere};
 ghost use Rattle.ra_edit.specs.OneMore.{OneMore};
 ghost use Rattle.ra_edit.specs.Replies.{barred};
 ghost use Rattle.ra_edit_read.specs.EditLists.{FitsInstance};
@@ -41,7 +42,7 @@ impl Drop for Loads {
 impl Loads {
     /// What the processes of some lists use.
     pub(crate) fn of(alloc: Global, inst: &Instance, lists: &Lists) -> Result<Loads, NoMemory>
-        requires { IsSound (drafted inst.now.tables lists.now) }
+        requires { IsSoundDraft (drafted inst.now.tables lists.now) }
         ensures { IfOk result (λ loads. AreLoadsOf (drafted inst.now.tables lists.now) loads) }
     {
         let cells = inst.machines() as usize * inst.resources() as usize;
@@ -56,7 +57,7 @@ impl Loads {
 
     /// Adds what one process more uses.
     fn count(&mut self, inst: &Instance, lists: &Lists, p: Process)
-        requires sound { IsSound (drafted inst.now.tables lists.now) }
+        requires sound { IsSoundDraft (drafted inst.now.tables lists.now) }
         requires process { p.0 < length lists.now.rows.items }
         requires counted { HasCounted (drafted inst.now.tables lists.now) p.0 self.old }
         ensures { HasCounted (drafted inst.now.tables lists.now) (p.0 + 1) self.new }
@@ -84,7 +85,7 @@ impl Loads {
         requires grid { IsGrid inst.now.tables self.now.between.items }
         ensures one_each { length result.now ≡ resource_count inst.now.tables }
         ensures row { (d : Drafted) → d.origin ≡ inst.now.tables → AreLoadsOf d self.now →
-            IsTransientRow d m.0 result.now }
+            IsTransientRowOfDraft d m.0 result.now }
     {
         read_row(&self.between, inst.resources(), m.0)
     }
@@ -98,7 +99,7 @@ impl Loads {
         m: Machine,
         asked: &[u32],
     ) -> Result<Fixed<u64>, NoMemory>
-        requires sound { IsSound (drafted inst.now.tables lists.now) }
+        requires sound { IsSoundDraft (drafted inst.now.tables lists.now) }
         requires loads { AreLoadsOf (drafted inst.now.tables lists.now) self.now }
         requires machine { m.0 < machine_count inst.now.tables }
         requires asked { length asked.now ≡ resource_count inst.now.tables }
@@ -120,14 +121,14 @@ impl Loads {
         m: Machine,
         asked: &[u32],
     ) -> Result<Fixed<u64>, NoMemory>
-        requires sound { IsSound (drafted inst.now.tables lists.now) }
+        requires sound { IsSoundDraft (drafted inst.now.tables lists.now) }
         requires loads { AreLoadsOf (drafted inst.now.tables lists.now) self.now }
         requires machine { m.0 < machine_count inst.now.tables }
         requires asked { length asked.now ≡ resource_count inst.now.tables }
         ensures one_each { IfOk result (λ row. length row.items ≡ resource_count inst.now.tables) }
         ensures row { IfOk result (λ row. (e : Drafted) (p : ℕ) →
             OneMore (drafted inst.now.tables lists.now) e p → machine_at e.current p ≡ m.0 →
-            Asks e p asked.now → IsTransientRow e m.0 row.items) }
+            Asks e p asked.now → IsTransientRowOfDraft e m.0 row.items) }
     {
         small(inst, lists);
         Ok(row_with(alloc, self.transient_row(inst, m), asked)?)
@@ -142,7 +143,7 @@ impl Loads {
         p: Process,
         m: Machine,
     ) -> Result<Fixed<u64>, NoMemory>
-        requires sound { IsSound (drafted inst.now.tables lists.now) }
+        requires sound { IsSoundDraft (drafted inst.now.tables lists.now) }
         requires loads { AreLoadsOf (drafted inst.now.tables lists.now) self.now }
         requires process { p.0 < length lists.now.rows.items }
         requires here { m.0 ≡ machine_at lists.now.current.items p.0 }
@@ -163,14 +164,14 @@ impl Loads {
         p: Process,
         m: Machine,
     ) -> Result<Fixed<u64>, NoMemory>
-        requires sound { IsSound (drafted inst.now.tables lists.now) }
+        requires sound { IsSoundDraft (drafted inst.now.tables lists.now) }
         requires loads { AreLoadsOf (drafted inst.now.tables lists.now) self.now }
         requires process { p.0 < length lists.now.rows.items }
         requires machine { m.0 < machine_count inst.now.tables }
         requires there { IsThere (drafted inst.now.tables lists.now) p.0 m.0 }
         ensures one_each { IfOk result (λ row. length row.items ≡ resource_count inst.now.tables) }
         ensures row { IfOk result (λ row. (e : Drafted) →
-            OneMore e (drafted inst.now.tables lists.now) p.0 → IsTransientRow e m.0 row.items) }
+            OneMore e (drafted inst.now.tables lists.now) p.0 → IsTransientRowOfDraft e m.0 row.items) }
     {
         let asked = requirements_of(inst, lists, p);
         Ok(row_without(alloc, self.transient_row(inst, m), asked)?)
@@ -186,7 +187,7 @@ impl Loads {
         m: Machine,
         asked: &[u32],
     ) -> Result<Fixed<u64>, NoMemory>
-        requires sound { IsSound (drafted inst.now.tables lists.now) }
+        requires sound { IsSoundDraft (drafted inst.now.tables lists.now) }
         requires loads { AreLoadsOf (drafted inst.now.tables lists.now) self.now }
         requires process { p.0 < length lists.now.rows.items }
         requires here { m.0 ≡ machine_at lists.now.current.items p.0 }
@@ -211,7 +212,7 @@ impl Loads {
         m: Machine,
         asked: &[u32],
     ) -> Result<Fixed<u64>, NoMemory>
-        requires sound { IsSound (drafted inst.now.tables lists.now) }
+        requires sound { IsSoundDraft (drafted inst.now.tables lists.now) }
         requires loads { AreLoadsOf (drafted inst.now.tables lists.now) self.now }
         requires process { p.0 < length lists.now.rows.items }
         requires machine { m.0 < machine_count inst.now.tables }
@@ -220,7 +221,7 @@ impl Loads {
         ensures one_each { IfOk result (λ row. length row.items ≡ resource_count inst.now.tables) }
         ensures row { IfOk result (λ row. (e : Drafted) →
             HasOther (drafted inst.now.tables lists.now) e p.0 → Asks e p.0 asked.now →
-            IsTransientRow e m.0 row.items) }
+            IsTransientRowOfDraft e m.0 row.items) }
     {
         small(inst, lists);
         let rests = self.transient_retired(alloc, inst, lists, p, m)?;
@@ -229,7 +230,7 @@ impl Loads {
 
     /// Follows an edit of the lists, which gives these requirements.
     pub(crate) fn follow(&mut self, inst: &Instance, lists: &Lists, edit: Edit, asked: &[u32])
-        requires sound { IsSound (drafted inst.now.tables lists.now) }
+        requires sound { IsSoundDraft (drafted inst.now.tables lists.now) }
         requires loads { AreLoadsOf (drafted inst.now.tables lists.now) self.old }
         requires free { barred (length lists.now.rows.items) edit ≡ None }
         requires fits { FitsInstance inst.now.tables edit }
@@ -246,7 +247,7 @@ impl Loads {
 
     /// Follows the addition of a process on its initial machine.
     fn add(&mut self, inst: &Instance, lists: &Lists, m: Machine, asked: &[u32])
-        requires sound { IsSound (drafted inst.now.tables lists.now) }
+        requires sound { IsSoundDraft (drafted inst.now.tables lists.now) }
         requires loads { AreLoadsOf (drafted inst.now.tables lists.now) self.old }
         requires machine { m.0 < machine_count inst.now.tables }
         requires asked { length asked.now ≡ resource_count inst.now.tables }
@@ -259,7 +260,7 @@ impl Loads {
 
     /// Follows the removal of a process.
     fn retire(&mut self, inst: &Instance, lists: &Lists, p: Process)
-        requires sound { IsSound (drafted inst.now.tables lists.now) }
+        requires sound { IsSoundDraft (drafted inst.now.tables lists.now) }
         requires loads { AreLoadsOf (drafted inst.now.tables lists.now) self.old }
         requires process { p.0 < length lists.now.rows.items }
         ensures { (e : Drafted) → HasGone (drafted inst.now.tables lists.now) e p.0 →
@@ -272,7 +273,7 @@ impl Loads {
 
     /// Follows a change of a process's requirements.
     fn resize(&mut self, inst: &Instance, lists: &Lists, p: Process, asked: &[u32])
-        requires sound { IsSound (drafted inst.now.tables lists.now) }
+        requires sound { IsSoundDraft (drafted inst.now.tables lists.now) }
         requires loads { AreLoadsOf (drafted inst.now.tables lists.now) self.old }
         requires process { p.0 < length lists.now.rows.items }
         requires asked { length asked.now ≡ resource_count inst.now.tables }
@@ -296,7 +297,7 @@ impl Loads {
             length self.old.between.items }
         requires used_below { IsBelow (length amounts.now) (2 ^ 62) self.old.used.items }
         requires between_below { IsBelow (length amounts.now) (2 ^ 62) self.old.between.items }
-        ensures { HasMore (length amounts.now) home.0 here.0 (slice_index amounts.now) self.old
+        ensures { HasMoreUse (length amounts.now) home.0 here.0 (slice_index amounts.now) self.old
             self.new }
     {
         add_amounts(&mut self.used, here, amounts);
@@ -320,7 +321,7 @@ impl Loads {
             cell (length amounts.now) self.old.between.items home.0 r }
         requires here_enough { (r : ℕ) → r < length amounts.now → slice_index amounts.now r ≤
             cell (length amounts.now) self.old.between.items here.0 r }
-        ensures { HasMore (length amounts.now) home.0 here.0 (slice_index amounts.now) self.new
+        ensures { HasMoreUse (length amounts.now) home.0 here.0 (slice_index amounts.now) self.new
             self.old }
     {
         take_amounts(&mut self.used, here, amounts);

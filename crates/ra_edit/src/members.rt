@@ -3,10 +3,10 @@ ghost use Rattle.std.specs.Prelude.{◌≡◌, ℕ, ◌+◌, ◌<◌, List, leng
 ghost use Rattle.ra_model.specs.Numbers.{machine_count, service_count};
 ghost use Rattle.ra_model.specs.Services.{members_at, locations_of};
 ghost use Rattle.ra_edit.specs.Drafts.{Drafted, instance_of};
-ghost use Rattle.ra_edit.specs.Keeping.{drafted, IsSound};
+ghost use Rattle.ra_edit.specs.Keeping.{drafted, IsSoundDraft};
 ghost use Rattle.ra_edit.specs.Kinds.{HasCome, HasGone, IsEdited};
 ghost use Rattle.ra_edit.specs.Locations.{AreNumbered};
-ghost use Rattle.ra_edit.specs.Members.{members_in, AreFewIn, AreMembersOf, AreSameIn, HasMember, HasMembers, HasRoomFor};
+ghost use Rattle.ra_edit.specs.Members.{members_in, AreFewIn, AreMembersOf, AreSameIn, HasMember, HasMembers, HasCountsFor};
 ghost use Rattle.ra_edit.specs.Replies.{barred};
 ghost use Rattle.ra_edit.specs.Spots.{is_there};
 ghost use Rattle.ra_edit_read.specs.EditLists.{FitsInstance};
@@ -50,7 +50,7 @@ impl Drop for Members {
 impl Members {
     /// The processes of some lists.
     pub(crate) fn of(alloc: Global, inst: &Instance, lists: &Lists) -> Result<Members, NoMemory>
-        requires { IsSound (drafted inst.now.tables lists.now) }
+        requires { IsSoundDraft (drafted inst.now.tables lists.now) }
         ensures { IfOk result (λ made. AreMembersOf (drafted inst.now.tables lists.now) made) }
     {
         let mut members = Members {
@@ -66,7 +66,7 @@ impl Members {
 
     /// Counts one process more.
     fn count(&mut self, inst: &Instance, lists: &Lists, p: Process) -> Result<(), NoMemory>
-        requires sound { IsSound (drafted inst.now.tables lists.now) }
+        requires sound { IsSoundDraft (drafted inst.now.tables lists.now) }
         requires process { p.0 < length lists.now.rows.items }
         requires counted { HasMembers (drafted inst.now.tables lists.now) p.0 self.old }
         ensures { OnOk result (HasMembers (drafted inst.now.tables lists.now) (p.0 + 1) self.new) }
@@ -110,7 +110,7 @@ impl Members {
         lists: &Lists,
         edit: Edit,
     ) -> Result<(), NoMemory>
-        requires sound { IsSound (drafted inst.now.tables lists.now) }
+        requires sound { IsSoundDraft (drafted inst.now.tables lists.now) }
         requires members { AreMembersOf (drafted inst.now.tables lists.now) self.old }
         requires free { barred (length lists.now.rows.items) edit ≡ None }
         requires fits { FitsInstance inst.now.tables edit }
@@ -140,7 +140,7 @@ impl Members {
         s: Service,
         m: Machine,
     ) -> Result<(), NoMemory>
-        requires sound { IsSound (drafted inst.now.tables lists.now) }
+        requires sound { IsSoundDraft (drafted inst.now.tables lists.now) }
         requires members { AreMembersOf (drafted inst.now.tables lists.now) self.old }
         requires service { s.0 < service_count inst.now.tables }
         requires machine { m.0 < machine_count inst.now.tables }
@@ -155,7 +155,7 @@ impl Members {
 
     /// Follows the removal of a process.
     fn retire(&mut self, inst: &Instance, lists: &Lists, p: Process)
-        requires sound { IsSound (drafted inst.now.tables lists.now) }
+        requires sound { IsSoundDraft (drafted inst.now.tables lists.now) }
         requires members { AreMembersOf (drafted inst.now.tables lists.now) self.old }
         requires process { p.0 < length lists.now.rows.items }
         ensures { (e : Drafted) → HasGone (drafted inst.now.tables lists.now) e p.0 →
@@ -170,7 +170,7 @@ impl Members {
     fn admit(&mut self, inst: &Instance, s: Service, m: Machine) -> Result<(), NoMemory>
         requires { m.0 < machine_count inst.now.tables }
         ensures same { AreSameIn self.old self.new }
-        ensures room { OnOk result (HasRoomFor inst.now.tables s.0 m.0 self.new) }
+        ensures room { OnOk result (HasCountsFor inst.now.tables s.0 m.0 self.new) }
     {
         self.machines.admit(s, m.0)?;
         self.neighbourhoods.admit(s, inst.neighbourhood(m))?;
@@ -182,7 +182,7 @@ impl Members {
         requires service { s.0 < service_count inst.now.tables }
         requires machine { m.0 < machine_count inst.now.tables }
         requires numbered { AreNumbered (service_count inst.now.tables) self.old.locations }
-        requires room { HasRoomFor inst.now.tables s.0 m.0 self.old }
+        requires room { HasCountsFor inst.now.tables s.0 m.0 self.old }
         requires few { AreFewIn self.old }
         ensures member { HasMember inst.now.tables s.0 m.0 self.old self.new }
         ensures numbered { AreNumbered (service_count inst.now.tables) self.new.locations }

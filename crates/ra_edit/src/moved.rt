@@ -7,8 +7,8 @@ ghost use Rattle.ra_check.specs.Stands.{AddsMoved, AreBelow};
 ghost use Rattle.ra_cells.specs.Replaced.{IsChange, counted_after};
 ghost use Rattle.ra_edit.specs.Drafts.{Drafted, instance_of};
 ghost use Rattle.ra_edit.specs.Kinds.{HasGone, IsEdited};
-ghost use Rattle.ra_edit.specs.Keeping.{drafted, tables_with, IsSound};
-ghost use Rattle.ra_edit.specs.Moved.{AreMovedOf};
+ghost use Rattle.ra_edit.specs.Keeping.{drafted, tables_with, IsSoundDraft};
+ghost use Rattle.ra_edit.specs.Moved.{AreMovedOfDraft};
 ghost use Rattle.ra_edit.specs.Replies.{barred};
 
 use crate::lists::{Lists, machine_of};
@@ -25,9 +25,9 @@ pub(crate) fn moved_counts(
     inst: &Instance,
     lists: &Lists,
 ) -> Result<Greatest, NoMemory>
-    requires sound { IsSound (drafted inst.now.tables lists.now) }
+    requires sound { IsSoundDraft (drafted inst.now.tables lists.now) }
     requires few { length lists.now.rows.items ≤ process_count inst.now.tables }
-    ensures { IfOk result (λ moved. AreMovedOf (drafted inst.now.tables lists.now) moved) }
+    ensures { IfOk result (λ moved. AreMovedOfDraft (drafted inst.now.tables lists.now) moved) }
 {
     let mut moved = Greatest::make(alloc, inst)?;
     for p in 0..processes(inst, lists) {
@@ -38,7 +38,7 @@ pub(crate) fn moved_counts(
 
 /// Counts a process for its service, if it isn't on its initial machine.
 fn count_moved(moved: &mut Greatest, inst: &Instance, lists: &Lists, p: Process)
-    requires sound { IsSound (drafted inst.now.tables lists.now) }
+    requires sound { IsSoundDraft (drafted inst.now.tables lists.now) }
     requires process { p.0 < length lists.now.rows.items }
     requires slots { length moved.old.counts ≡ service_count inst.now.tables }
     requires below { AreBelow moved.old.limit moved.old.counts }
@@ -57,11 +57,11 @@ fn count_moved(moved: &mut Greatest, inst: &Instance, lists: &Lists, p: Process)
 
 /// Follows an edit of the lists. Only a process that goes changes a moved count, since one that comes hasn't moved.
 pub(crate) fn follow_moved(moved: &mut Greatest, inst: &Instance, lists: &Lists, edit: Edit)
-    requires sound { IsSound (drafted inst.now.tables lists.now) }
-    requires moved { AreMovedOf (drafted inst.now.tables lists.now) moved.old }
+    requires sound { IsSoundDraft (drafted inst.now.tables lists.now) }
+    requires moved { AreMovedOfDraft (drafted inst.now.tables lists.now) moved.old }
     requires free { barred (length lists.now.rows.items) edit ≡ None }
     ensures { (e : Drafted) (asked : List ℕ) →
-        IsEdited (drafted inst.now.tables lists.now) edit asked e → AreMovedOf e moved.new }
+        IsEdited (drafted inst.now.tables lists.now) edit asked e → AreMovedOfDraft e moved.new }
 {
     match edit {
         Edit::Add { .. } | Edit::Resize { .. } => {}
@@ -71,11 +71,11 @@ pub(crate) fn follow_moved(moved: &mut Greatest, inst: &Instance, lists: &Lists,
 
 /// Follows the removal of a process.
 fn follow_retired(moved: &mut Greatest, inst: &Instance, lists: &Lists, p: Process)
-    requires sound { IsSound (drafted inst.now.tables lists.now) }
-    requires moved { AreMovedOf (drafted inst.now.tables lists.now) moved.old }
+    requires sound { IsSoundDraft (drafted inst.now.tables lists.now) }
+    requires moved { AreMovedOfDraft (drafted inst.now.tables lists.now) moved.old }
     requires process { p.0 < length lists.now.rows.items }
     ensures { (e : Drafted) → HasGone (drafted inst.now.tables lists.now) e p.0 →
-        AreMovedOf e moved.new }
+        AreMovedOfDraft e moved.new }
 {
     if let Some(change) = change_without(moved, inst, lists, p) {
         moved.change(change.service, change.after);
@@ -89,8 +89,8 @@ pub(crate) fn service_cost_without(
     lists: &Lists,
     p: Process,
 ) -> u128
-    requires sound { IsSound (drafted inst.now.tables lists.now) }
-    requires moved { AreMovedOf (drafted inst.now.tables lists.now) moved.now }
+    requires sound { IsSoundDraft (drafted inst.now.tables lists.now) }
+    requires moved { AreMovedOfDraft (drafted inst.now.tables lists.now) moved.now }
     requires process { p.0 < length lists.now.rows.items }
     ensures value { (e : Drafted) → HasGone (drafted inst.now.tables lists.now) e p.0 →
         result ≡ service_cost (instance_of e) e.initial e.current }
@@ -109,8 +109,8 @@ fn change_without(
     lists: &Lists,
     p: Process,
 ) -> Option<MovedCount>
-    requires sound { IsSound (drafted inst.now.tables lists.now) }
-    requires moved { AreMovedOf (drafted inst.now.tables lists.now) moved.now }
+    requires sound { IsSoundDraft (drafted inst.now.tables lists.now) }
+    requires moved { AreMovedOfDraft (drafted inst.now.tables lists.now) moved.now }
     requires process { p.0 < length lists.now.rows.items }
     ensures change { IfSome result (λ c. IsChange moved.now c) }
     ensures counts { (e : Drafted) → HasGone (drafted inst.now.tables lists.now) e p.0 → (s : ℕ) →

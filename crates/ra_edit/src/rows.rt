@@ -2,7 +2,7 @@
 ghost use Rattle.std.specs.Prelude.{◌≡◌, ℕ, ◌+◌, ◌*◌, ◌^◌, ◌<◌, ◌≤◌, length, slice_index, IfOk};
 ghost use Rattle.std.specs.List.{slice_range};
 ghost use Rattle.ra_base.specs.Tables.{cell};
-ghost use Rattle.ra_edit.specs.Keeping.{drafted, IsSound};
+ghost use Rattle.ra_edit.specs.Keeping.{drafted, IsSoundDraft};
 ghost use Rattle.ra_edit.specs.Kinds.{Asks};
 
 use crate::lists::Lists;
@@ -12,7 +12,7 @@ use std::alloc::Global;
 
 /// What a process requires of each resource.
 pub(crate) fn requirements_of<'a>(inst: &Instance, lists: &'a Lists, p: Process) -> &'a [u32]
-    requires sound { IsSound (drafted inst.now.tables lists.now) }
+    requires sound { IsSoundDraft (drafted inst.now.tables lists.now) }
     requires process { p.0 < length lists.now.rows.items }
     ensures { Asks (drafted inst.now.tables lists.now) p.0 result.now }
 {

@@ -2,7 +2,7 @@
 ghost use Rattle.std.specs.Prelude.{◌≡◌, ℕ, ◌^◌, ◌<◌, ◌≤◌, length, slice_index};
 ghost use Rattle.ra_model.specs.Limits.{Small};
 ghost use Rattle.ra_model.specs.Numbers.{service_of};
-ghost use Rattle.ra_edit.specs.Keeping.{drafted, tables_with, IsSound};
+ghost use Rattle.ra_edit.specs.Keeping.{drafted, tables_with, IsSoundDraft};
 
 use crate::lists::Lists;
 use ra_base::{Process, Service};
@@ -11,7 +11,7 @@ use ra_model::Instance;
 /// How many processes there are.
 #[tactic(auto, using(crate::proofs::ScanLaws::readings))]
 pub(crate) fn processes(inst: &Instance, lists: &Lists) -> u32
-    requires { IsSound (drafted inst.now.tables lists.now) }
+    requires { IsSoundDraft (drafted inst.now.tables lists.now) }
     ensures value { result ≡ length lists.now.rows.items }
     ensures bound { result ≤ 50000 }
 {
@@ -21,7 +21,7 @@ pub(crate) fn processes(inst: &Instance, lists: &Lists) -> u32
 /// The service of a process.
 #[tactic(auto, using(crate::proofs::ScanLaws::readings))]
 pub(crate) fn service_of(inst: &Instance, lists: &Lists, p: Process) -> Service
-    requires sound { IsSound (drafted inst.now.tables lists.now) }
+    requires sound { IsSoundDraft (drafted inst.now.tables lists.now) }
     requires process { p.0 < length lists.now.rows.items }
     ensures { result.0 ≡ service_of (tables_with inst.now.tables lists.now) p.0 }
 {

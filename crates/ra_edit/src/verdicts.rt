@@ -5,7 +5,7 @@ ghost use Rattle.ra_model.specs.Assignments.{machine_at};
 ghost use Rattle.ra_model.specs.Costs.{parts_of};
 ghost use Rattle.ra_edit_read.specs.EditLists.{FitsInstance};
 ghost use Rattle.ra_edit.specs.Drafts.{Drafted, instance_of};
-ghost use Rattle.ra_edit.specs.Keeping.{IsJudged};
+ghost use Rattle.ra_edit.specs.Keeping.{IsJudgedDraft};
 ghost use Rattle.ra_edit.specs.Replies.{barred};
 ghost use Rattle.ra_edit.specs.Kinds.{Asks, HasCome, HasGone, HasOther, IsEdited};
 ghost use Rattle.ra_edit.specs.Loads.{IsHeld, draft_in};
@@ -40,7 +40,7 @@ pub(crate) fn judge(
     requires fits { FitsInstance kept.now.inst.now.tables edit }
     requires asked { length asked.now ≡ resource_count kept.now.inst.now.tables }
     ensures { IfOk result (λ judged. (e : Drafted) →
-        IsEdited (draft_in kept.now) edit asked.now e → IsJudged e judged) }
+        IsEdited (draft_in kept.now) edit asked.now e → IsJudgedDraft e judged) }
 {
     match edit {
         Edit::Add {
@@ -67,7 +67,7 @@ fn judge_added(
     requires asked { length asked.now ≡ resource_count kept.now.inst.now.tables }
     ensures { IfOk result (λ judged. (e : Drafted) →
         HasCome (draft_in kept.now) e s.0 m.0 →
-        Asks e (length kept.now.lists.rows.items) asked.now → IsJudged e judged) }
+        Asks e (length kept.now.lists.rows.items) asked.now → IsJudgedDraft e judged) }
 {
     let inst = kept.inst;
     let lists = &kept.lists;
@@ -109,7 +109,7 @@ fn judge_resized(
     requires asked { length asked.now ≡ resource_count kept.now.inst.now.tables }
     ensures { IfOk result (λ judged. (e : Drafted) →
         HasOther (draft_in kept.now) e p.0 → Asks e p.0 asked.now →
-        IsJudged e judged) }
+        IsJudgedDraft e judged) }
 {
     let inst = kept.inst;
     let lists = &kept.lists;
@@ -146,7 +146,7 @@ fn judge_retired(alloc: Global, kept: &Kept<'_>, p: Process) -> Result<Judged, N
     requires held { IsHeld kept.now }
     requires process { p.0 < length kept.now.lists.rows.items }
     ensures { IfOk result (λ judged. (e : Drafted) →
-        HasGone (draft_in kept.now) e p.0 → IsJudged e judged) }
+        HasGone (draft_in kept.now) e p.0 → IsJudgedDraft e judged) }
 {
     let inst = kept.inst;
     let lists = &kept.lists;

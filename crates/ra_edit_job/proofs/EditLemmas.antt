@@ -5,7 +5,7 @@ use Rattle.ra_base.specs.declared.causes.Cause.{Cause}
 use Rattle.ra_base.specs.declared.ids.Machine.{Machine}
 use Rattle.ra_base.specs.Searches.{first}
 use Rattle.ra_edit.specs.Drafts.{Drafted, draft_of, instance_of}
-use Rattle.ra_edit.specs.Keeping.{IsSound}
+use Rattle.ra_edit.specs.Keeping.{IsSoundDraft}
 use Rattle.ra_edit.specs.Leaving.{left_in}
 use Rattle.ra_edit.specs.Replies.{after_edits, replies_to}
 use Rattle.ra_edit.specs.SameLists.{HasLists, AreSameLists}
@@ -31,7 +31,8 @@ use Rattle.ra_model.specs.Numbers.{balance_weight_of, process_weight_of, service
 use Rattle.ra_model.specs.declared.raw.RawInstance.{RawInstance}
 use Rattle.ra_model.specs.declared.raw.Tables.{Tables}
 use Rattle.ra_model.proofs.BrokenLemmas.{unbroken_from_feasible}
-use Rattle.ra_model_read.specs.FieldOrder.{joined, resource_numbers, machine_numbers, service_numbers, process_numbers}
+use Rattle.ra_model_read.specs.FieldOrder.{end_to_end, resource_numbers, machine_numbers, service_numbers}
+use Rattle.ra_model_read.specs.FieldOrder.{process_numbers}
 use Rattle.ra_model_read.specs.Lists.{lists_of}
 use Rattle.ra_model_read.specs.ModelText.{model_refusal}
 use Rattle.ra_model_text.proofs.Meaning.{text_accepted_whole}
@@ -67,8 +68,9 @@ use Rattle.ra_jobs.proofs.RowLemmas.{raw_of, bare_raw, raw_same}
 use Rattle.ra_jobs.proofs.StageLemmas.{rose_later, breaks_role, can_tell, reason_more}
 use Rattle.ra_edit_job.specs.declared.edit.Outcome.{Outcome}
 use Rattle.ra_edit_job.specs.EditedTexts.{model_part, edited_lines, edited_text}
-use Rattle.ra_edit_job.specs.Outcomes.{IsOutcome, outcome_text}
-use Rattle.ra_edit_job.specs.Editing.{left_of, text_left, edits_output, IsEdited, IsTaken, Edited, EditsRefused}
+use Rattle.ra_edit_job.specs.Outcomes.{IsOutcome, edited_outcome_text}
+use Rattle.ra_edit_job.specs.Editing.{edited_draft, text_left, edits_output, IsRunOfEdits, IsTakenWithEdits, Edited}
+use Rattle.ra_edit_job.specs.Editing.{EditsRefused}
 use Rattle.ra_edit_job.specs.Editing.{EditsAccepted, EditOwn, EditComes, AreEditable, edits_as, EditsReason, HasEdits}
 use Rattle.ra_edit_job.specs.Editing.{editing}
 
@@ -97,7 +99,7 @@ open_bare raw = record { raw = bare_raw raw; closed = None }
 
 text_bare : (i : Tables) → model_text (open_bare i.raw) ≡ model_text i
 unfolding raw_of bare_raw model_text group_text resource_text machine_text service_text process_text balance_text
-    weights_text joined resource_numbers machine_numbers service_numbers process_numbers resource_row machine_row
+    weights_text end_to_end resource_numbers machine_numbers service_numbers process_numbers resource_row machine_row
     service_row process_row balance_row resource_count machine_count service_count process_count balance_count
     transient_at load_weight_of neighbourhood_of location_of capacity_of safety_of way_cost_of spread_of dependency_end
     dependency_start dependency_count need_at need_of service_of requirement_of process_cost_of first_of second_of
@@ -120,8 +122,8 @@ left_text d i a0 a replies same first second parts =
 
 -- the run of edits of an instance and two lists
 pub outcome_edited : (i : Tables) (a0 a : List Machine) (e : EditLists) (o : Outcome) (sent : List ℕ → Type 0) →
-    IsOutcome i a0 a e o → sent (outcome_text i o) → IsEdited i a0 a e sent
-unfolding left_of text_left edits_output outcome_text
+    IsOutcome i a0 a e o → sent (edited_outcome_text i o) → IsRunOfEdits i a0 a e sent
+unfolding edited_draft text_left edits_output edited_outcome_text
 outcome_edited i a0 a e o sent h text =
     let d : Drafted = left_in i o.left in
     record {
@@ -138,9 +140,9 @@ outcome_edited i a0 a e o sent h text =
 pub outcome_is : (i : Tables) (a0 a : List Machine) (e : EditLists) (made d : Drafted) (o : Outcome) →
     Feasible i a0 a0 → Feasible i a0 a → made ≡ draft_of i a0 a → d ≡ after_edits made e (length e.edits) →
     d.origin ≡ made.origin → left_in d.origin o.left ≡ d → o.replies.items ≡ replies_to made e (length e.edits) →
-    IsSound d → Small (instance_of d) → Feasible (instance_of d) d.initial d.current →
+    IsSoundDraft d → Small (instance_of d) → Feasible (instance_of d) d.initial d.current →
     o.parts ≡ parts_of (instance_of d) d.initial d.current → IsOutcome i a0 a e o
-unfolding left_of
+unfolding edited_draft
 outcome_is i a0 a e made d o start current from run origin lists answers sound small feasible parts =
     let same : d.origin ≡ i = origin ∙ ap (λ (x : Drafted). x.origin) from in
     let left : left_in i o.left ≡ d = subst (λ (j : Tables). left_in j o.left ≡ d) same lists in
@@ -150,7 +152,7 @@ outcome_is i a0 a e made d o start current from run origin lists answers sound s
       left = left ∙ (run ∙ ap (λ (x : Drafted). after_edits x e (length e.edits)) from);
       replies = answers ∙ ap (λ (x : Drafted). replies_to x e (length e.edits)) from;
       writable = record {
-        sound = subst IsSound (sym left) sound;
+        sound = subst IsSoundDraft (sym left) sound;
         small = subst (λ (x : Drafted). Small (instance_of x)) (sym left) small;
         feasible = subst (λ (x : Drafted). Feasible (instance_of x) x.initial x.current) (sym left) feasible;
         parts = subst (λ (x : Drafted). o.parts ≡ parts_of (instance_of x) x.initial x.current) (sym left) parts;
@@ -160,8 +162,8 @@ outcome_is i a0 a e made d o start current from run origin lists answers sound s
 pub outcome_written : (i j : Tables) (o : Outcome) (a0 a : List Machine) (sent : List ℕ → Type 0) →
     AreSameLists (instance_of (left_in i o.left)) j → a0 ≡ o.left.initial.items → a ≡ o.left.current.items →
     parts_of j a0 a ≡ parts_of (instance_of (left_in i o.left)) o.left.initial.items o.left.current.items →
-    sent (edited_text j a0 a o.replies.items) → sent (outcome_text i o)
-unfolding outcome_text
+    sent (edited_text j a0 a o.replies.items) → sent (edited_outcome_text i o)
+unfolding edited_outcome_text
 outcome_written i j o a0 a sent same first second parts text =
     subst sent (left_text (left_in i o.left) j a0 a o.replies.items same first second parts) text
 
@@ -207,7 +209,7 @@ reason_edits held later names i a0 a first before now written same never_fell na
 
 pub taken_all : (held later : Held) (names : Names) (i : Tables) (a0 a : List Machine) (e : EditLists) →
     ((other : List ℕ) → later other ≡ held other) → Accepts held names i a0 a → IsAssignment i a0 → IsAssignment i a →
-    HasEdits later (name_of names file.Edits) i e → IsTaken held names i a0 a e
+    HasEdits later (name_of names file.Edits) i e → IsTakenWithEdits held names i a0 a e
 taken_all held later names i a0 a e same accepts first second has = record {
   accepts = accepts;
   initial = first;
@@ -217,7 +219,7 @@ taken_all held later names i a0 a e same accepts first second has = record {
 }
 
 accepted_of : (held : Held) (names : Names) (i : Tables) (a0 a : List Machine) (e : EditLists) →
-    IsTaken held names i a0 a e → EditsAccepted held names
+    IsTakenWithEdits held names i a0 a e → EditsAccepted held names
 accepted_of held names i a0 a e taken = record {
   tables = i;
   a0 = a0;
@@ -230,7 +232,8 @@ accepted_of held names i a0 a e taken = record {
 -- a refusal of the run
 pub reason_run : (held : Held) (names : Names) (i : Tables) (a0 a : List Machine) (e : EditLists) (before now : Faults)
     (sent : List ℕ → Type 0) → IsNamed names file.Initial → IsNamed names file.Changed →
-    IsTaken held names i a0 a e → (refusal : Refusal) → JudgeReason i a0 a (IsEdited i a0 a e sent) refusal →
+    IsTakenWithEdits held names i a0 a e → (refusal : Refusal) →
+    JudgeReason i a0 a (IsRunOfEdits i a0 a e sent) refusal →
     Reason held names before now (EditOwn held names (Edited held names sent)) refusal
 reason_run held names i a0 a e before now sent initial changed taken (Broken which cause) reason = (
   accepted_of held names i a0 a e taken,
@@ -248,7 +251,8 @@ reason_run held names i a0 a e before now sent initial changed taken Memory reas
 reason_run held names i a0 a e before now sent initial changed taken refusal reason = absurd reason
 
 pub edited_all : (held : Held) (names : Names) (i : Tables) (a0 a : List Machine) (e : EditLists)
-    (sent : List ℕ → Type 0) → IsTaken held names i a0 a e → IsEdited i a0 a e sent → Edited held names sent
+    (sent : List ℕ → Type 0) → IsTakenWithEdits held names i a0 a e → IsRunOfEdits i a0 a e sent →
+    Edited held names sent
 edited_all held names i a0 a e sent taken run = record {
   tables = i;
   a0 = a0;

@@ -9,7 +9,7 @@ use Rattle.ra_model.specs.declared.raw.Tables.{Tables}
 use Rattle.ra_model.specs.Costs.{parts_of}
 use Rattle.ra_report_text.specs.declared.gathered.Gathered.{Gathered}
 use Rattle.ra_edit_job.specs.EditedTexts.{edit_line, reply_in, edits_text, edited_lines, edited_text}
-use Rattle.ra_report_text.specs.Gathering.{Adds}
+use Rattle.ra_report_text.specs.Gathering.{AddsText}
 use Rattle.ra_report_text.proofs.GatheringLemmas.{adds_more}
 
 -- the answer that was read
@@ -21,8 +21,8 @@ reply_read replies k x within read = get_or_read replies k x within read Full
 -- one more line
 pub adds_edit : {O : Type 0} (taken : O → Option (List ℕ)) (faults : O → ℕ) (replies : List EditReply) (n : ℕ)
     (a b c : Gathered O)
-    → Adds taken faults a b (edits_text replies n) → Adds taken faults b c (edit_line n (reply_in replies n)) →
-    Adds taken faults a c (edits_text replies (n + 1))
+    → AddsText taken faults a b (edits_text replies n) → AddsText taken faults b c (edit_line n (reply_in replies n)) →
+    AddsText taken faults a c (edits_text replies (n + 1))
 unfolding edits_text
 adds_edit taken faults replies n a b c first next =
     rw add-one (adds_more taken faults a b c (edits_text replies n) (edit_line n (reply_in replies n)) first next)

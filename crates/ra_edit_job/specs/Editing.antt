@@ -32,8 +32,8 @@ use Rattle.ra_jobs.specs.Refusals.{RoleBreaks}
 use Rattle.ra_edit_job.specs.EditedTexts.{edited_text}
 
 -- what is left of an instance and two lists after all edits
-unfoldable pub left_of : Tables → List Machine → List Machine → EditLists → Drafted
-left_of i a0 a e = after_edits (draft_of i a0 a) e (length e.edits)
+unfoldable pub edited_draft : Tables → List Machine → List Machine → EditLists → Drafted
+edited_draft i a0 a e = after_edits (draft_of i a0 a) e (length e.edits)
 
 -- the text of the run of edits on a draft: the edited instance and lists, and the answer to each edit
 unfoldable pub text_left : Drafted → Drafted → EditLists → List ℕ
@@ -41,19 +41,19 @@ text_left start left e =
     edited_text (instance_of left) left.initial left.current (replies_to start e (length e.edits))
 
 unfoldable pub edits_output : Tables → List Machine → List Machine → EditLists → List ℕ
-edits_output i a0 a e = text_left (draft_of i a0 a) (left_of i a0 a e) e
+edits_output i a0 a e = text_left (draft_of i a0 a) (edited_draft i a0 a e) e
 
 -- both lists are feasible, the edited instance is within the limits, and nothing is wrong with its text as a model
 -- file; the edited current list is feasible from the edited initial list, and the text of the run of edits was sent
-pub record IsEdited (i : Tables) (a0 a : List Machine) (e : EditLists) (sent : List ℕ → Type 0) :
+pub record IsRunOfEdits (i : Tables) (a0 a : List Machine) (e : EditLists) (sent : List ℕ → Type 0) :
     Type 0 where
   pub start : Feasible i a0 a0
   pub current : Feasible i a0 a
-  pub limits : WellFormed (instance_of (left_of i a0 a e))
-  pub accepted : model_refusal (model_text (instance_of (left_of i a0 a e))) ≡ None
+  pub limits : WellFormed (instance_of (edited_draft i a0 a e))
+  pub accepted : model_refusal (model_text (instance_of (edited_draft i a0 a e))) ≡ None
   pub left :
-      Feasible (instance_of (left_of i a0 a e)) (left_of i a0 a e).initial
-      (left_of i a0 a e).current
+      Feasible (instance_of (edited_draft i a0 a e)) (edited_draft i a0 a e).initial
+      (edited_draft i a0 a e).current
   pub text : sent (edits_output i a0 a e)
 
 -- the told bytes of the edits file mean these edits
@@ -61,7 +61,7 @@ abbrev pub EditsAre : Held → Names → Tables → EditLists → Type 0
 EditsAre held names i e = IfSome (held (name_of names file.Edits)) (λ bytes. AreEditsOf bytes i e)
 
 -- the model, the closed list and the lists are accepted, and the edits file means these edits of the instance
-pub record IsTaken (held : Held) (names : Names) (i : Tables) (a0 a : List Machine) (e : EditLists)
+pub record IsTakenWithEdits (held : Held) (names : Names) (i : Tables) (a0 a : List Machine) (e : EditLists)
     : Type 0 where
   pub accepts : Accepts held names i a0 a
   pub initial : IsAssignment i a0
@@ -75,8 +75,8 @@ pub record Edited (held : Held) (names : Names) (sent : List ℕ → Type 0) : T
   pub a0 : List Machine
   pub a : List Machine
   pub edits : EditLists
-  pub taken : IsTaken held names tables a0 a edits
-  pub run : IsEdited tables a0 a edits sent
+  pub taken : IsTakenWithEdits held names tables a0 a edits
+  pub run : IsRunOfEdits tables a0 a edits sent
 
 -- the lists were accepted, and the edits file is refused with this fault
 pub record EditsRefused (held : Held) (names : Names) (fault : EditsFault) : Type 0 where

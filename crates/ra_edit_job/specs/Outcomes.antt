@@ -2,7 +2,7 @@
 use Rattle.std.specs.Prelude.{◌≡◌, ℕ, List, length}
 use Rattle.ra_base.specs.declared.ids.Machine.{Machine}
 use Rattle.ra_edit.specs.Drafts.{draft_of, instance_of}
-use Rattle.ra_edit.specs.Keeping.{IsSound}
+use Rattle.ra_edit.specs.Keeping.{IsSoundDraft}
 use Rattle.ra_edit.specs.Leaving.{left_in}
 use Rattle.ra_edit.specs.Replies.{replies_to}
 use Rattle.ra_edit_read.specs.EditLists.{EditLists}
@@ -12,11 +12,11 @@ use Rattle.ra_model.specs.Feasible.{Feasible}
 use Rattle.ra_model.specs.Limits.{Small}
 use Rattle.ra_edit_job.specs.declared.edit.Outcome.{Outcome}
 use Rattle.ra_edit_job.specs.EditedTexts.{edited_text}
-use Rattle.ra_edit_job.specs.Editing.{left_of}
+use Rattle.ra_edit_job.specs.Editing.{edited_draft}
 
 -- the processes and lists are those of an instance within the limits, whose current list is feasible and has this cost
 pub record IsWritable (i : Tables) (o : Outcome) : Type 0 where
-  pub sound : IsSound (left_in i o.left)
+  pub sound : IsSoundDraft (left_in i o.left)
   pub small : Small (instance_of (left_in i o.left))
   pub feasible : Feasible (instance_of (left_in i o.left)) o.left.initial.items o.left.current.items
   pub parts :
@@ -27,12 +27,12 @@ pub record IsWritable (i : Tables) (o : Outcome) : Type 0 where
 pub record IsOutcome (i : Tables) (a0 a : List Machine) (e : EditLists) (o : Outcome) : Type 0 where
   pub start : Feasible i a0 a0
   pub current : Feasible i a0 a
-  pub left : left_in i o.left ≡ left_of i a0 a e
+  pub left : left_in i o.left ≡ edited_draft i a0 a e
   pub replies : o.replies.items ≡ replies_to (draft_of i a0 a) e (length e.edits)
   pub writable : IsWritable i o
 
 -- the text of what edits leave
-unfoldable pub outcome_text : Tables → Outcome → List ℕ
-outcome_text i o =
+unfoldable pub edited_outcome_text : Tables → Outcome → List ℕ
+edited_outcome_text i o =
     edited_text (instance_of (left_in i o.left)) o.left.initial.items o.left.current.items
     o.replies.items

@@ -10,8 +10,8 @@ ghost use Rattle.ra_jobs.specs.Files.{names_of, IsNamed, EndsAt};
 ghost use Rattle.ra_jobs.specs.Output.{output, BrokeOff};
 ghost use Rattle.ra_jobs.specs.Refusals.{Reason};
 ghost use Rattle.ra_jobs.specs.Stages.{Judged, JudgeReason, WriteReason};
-ghost use Rattle.ra_edit_job.specs.Editing.{EditOwn, EditsReason, HasEdits, IsEdited, IsTaken, edits_as, edit_command, editing};
-ghost use Rattle.ra_edit_job.specs.Outcomes.{IsOutcome, IsWritable, outcome_text};
+ghost use Rattle.ra_edit_job.specs.Editing.{EditOwn, EditsReason, HasEdits, IsRunOfEdits, IsTakenWithEdits, edits_as, edit_command, editing};
+ghost use Rattle.ra_edit_job.specs.Outcomes.{IsOutcome, IsWritable, edited_outcome_text};
 
 use crate::edited::write_edited;
 use ra_base::{Fixed, Name, NoMemory, Parts};
@@ -100,7 +100,7 @@ fn read_taken<F: Files>(
     requires initial { IsNamed (names_of names.now) File.Initial }
     requires changed { IsNamed (names_of names.now) File.Changed }
     requires edits { IsNamed (names_of names.now) File.Edits }
-    ensures read { IfOk result (λ t. IsTaken (F.held files.old) (names_of names.now)
+    ensures read { IfOk result (λ t. IsTakenWithEdits (F.held files.old) (names_of names.now)
         t.inst.tables t.lists.initial.items t.lists.changed.items t.edits) }
     ensures refused { IfErr result (Reason (F.held files.old) (names_of names.now)
         (F.faults files.old) (F.faults files.new)
@@ -148,11 +148,11 @@ fn edit_from<O: Sink>(alloc: Global, taken: Taken, out: &mut O) -> Result<(), Re
     requires a0_fits { IsAssignment taken.inst.tables taken.lists.initial.items }
     requires fits { IsAssignment taken.inst.tables taken.lists.changed.items }
     requires edits { AreEditsFor taken.inst.tables taken.edits }
-    ensures printed { OnOk result (IsEdited taken.inst.tables taken.lists.initial.items
+    ensures printed { OnOk result (IsRunOfEdits taken.inst.tables taken.lists.initial.items
         taken.lists.changed.items taken.edits (Took (writing O.Sink out.old out.new))) }
     ensures refused { IfErr result (JudgeReason taken.inst.tables taken.lists.initial.items
         taken.lists.changed.items
-        (IsEdited taken.inst.tables taken.lists.initial.items taken.lists.changed.items taken.edits
+        (IsRunOfEdits taken.inst.tables taken.lists.initial.items taken.lists.changed.items taken.edits
         (BrokeOff (writing O.Sink out.old out.new)))) }
     ensures no_output { IfErr result (λ refusal. refusal ≢ Refusal.Write → out.new ≡ out.old) }
     ensures out_never_falls { O.faults out.old ≤ O.faults out.new }
@@ -223,9 +223,9 @@ fn outcome_over(
 fn write_outcome<O: Sink>(inst: Instance, outcome: Outcome, out: &mut O) -> Result<(), Refusal>
     requires { IsWritable inst.tables outcome }
     ensures printed { OnOk result (Took (writing O.Sink out.old out.new)
-        (outcome_text inst.tables outcome)) }
+        (edited_outcome_text inst.tables outcome)) }
     ensures refused { IfErr result (WriteReason (BrokeOff (writing O.Sink out.old out.new)
-        (outcome_text inst.tables outcome))) }
+        (edited_outcome_text inst.tables outcome))) }
     ensures no_output { IfErr result (λ refusal. refusal ≢ Refusal.Write → out.new ≡ out.old) }
     ensures out_never_falls { O.faults out.old ≤ O.faults out.new }
 {

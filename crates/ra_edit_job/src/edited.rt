@@ -1,9 +1,9 @@
 ghost use Rattle.std.specs.Prelude.{◌≡◌, ◌≤◌, length, OnOk, OnErr};
 ghost use Rattle.std.specs.Io.KnownBytes.{Appends};
 ghost use Rattle.ra_model.specs.Costs.{parts_of};
-ghost use Rattle.ra_report_text.specs.Gathering.{Adds};
+ghost use Rattle.ra_report_text.specs.Gathering.{AddsText};
 ghost use Rattle.ra_report_text.specs.Notes.{note_text};
-ghost use Rattle.ra_report_text.specs.Pieces.{Breaks};
+ghost use Rattle.ra_report_text.specs.Pieces.{BreaksOff};
 ghost use Rattle.ra_edit_job.specs.EditedTexts.{initial_line, reply_text, edit_line, edits_text, model_part, edited_lines, edited_text};
 
 use ra_base::{Fixed, Machine, Parts};
@@ -30,7 +30,7 @@ pub fn write_edited<O: Sink>(
     ensures whole { OnOk result (Appends (O.taken sink.old) (O.taken sink.new)
         (edited_text edited.now.instance.tables edited.now.initial.items edited.now.current.items
         replies.now.items)) }
-    ensures part { OnErr result (Breaks (O.taken sink.old) (O.taken sink.new) (O.faults sink.old)
+    ensures part { OnErr result (BreaksOff (O.taken sink.old) (O.taken sink.new) (O.faults sink.old)
         (O.faults sink.new)
         (edited_text edited.now.instance.tables edited.now.initial.items edited.now.current.items
         replies.now.items)) }
@@ -48,7 +48,7 @@ fn add_edited<O: Sink>(
     edited: &Edited,
     replies: &Fixed<EditReply>,
 )
-    ensures { Adds O.taken O.faults text.old text.new
+    ensures { AddsText O.taken O.faults text.old text.new
         (edited_lines parts.now edited.now.initial.items edited.now.current.items replies.now.items
         edited.now.instance.tables) }
 {
@@ -61,7 +61,7 @@ fn add_edited<O: Sink>(
 
 /// Adds the line of the initial list.
 fn add_initial<O: Sink>(text: &mut Gathered<'_, O>, machines: &[Machine])
-    ensures { Adds O.taken O.faults text.old text.new (initial_line machines.now) }
+    ensures { AddsText O.taken O.faults text.old text.new (initial_line machines.now) }
 {
     text.add(b"initial");
     add_machines(text, machines);
@@ -70,7 +70,7 @@ fn add_initial<O: Sink>(text: &mut Gathered<'_, O>, machines: &[Machine])
 
 /// Adds a line for each edit, in order.
 fn add_edits<O: Sink>(text: &mut Gathered<'_, O>, replies: &Fixed<EditReply>)
-    ensures { Adds O.taken O.faults text.old text.new
+    ensures { AddsText O.taken O.faults text.old text.new
         (edits_text replies.now.items (length replies.now.items)) }
 {
     for place in 0..replies.len() {
@@ -81,7 +81,7 @@ fn add_edits<O: Sink>(text: &mut Gathered<'_, O>, replies: &Fixed<EditReply>)
 
 /// Adds the line of an edit.
 fn add_edit<O: Sink>(text: &mut Gathered<'_, O>, place: u64, reply: &EditReply)
-    ensures { Adds O.taken O.faults text.old text.new (edit_line place reply.now) }
+    ensures { AddsText O.taken O.faults text.old text.new (edit_line place reply.now) }
 {
     add_pieces(
         text,
@@ -111,7 +111,7 @@ fn reply_note(reply: &EditReply) -> Note<'static>
 
 /// Adds the line `model`, and the text of an instance.
 fn add_model_part<O: Sink>(text: &mut Gathered<'_, O>, inst: &Instance)
-    ensures { Adds O.taken O.faults text.old text.new (model_part inst.now.tables) }
+    ensures { AddsText O.taken O.faults text.old text.new (model_part inst.now.tables) }
 {
     add_pieces(text, &[Piece::Text("model\n")]);
     add_model(text, inst)

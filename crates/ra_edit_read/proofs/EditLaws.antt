@@ -15,7 +15,7 @@ use Rattle.ra_edit_read.specs.declared.edits.Edit.{Edit}
 use Rattle.ra_edit_read.specs.declared.edits.Edit.TheVariants.{Add, Retire, Resize}
 use Rattle.ra_edit_read.specs.declared.faults.EditsFault.{EditsFault}
 use Rattle.ra_edit_read.specs.declared.faults.EditsFault.TheVariants.{Range, TooMany}
-use Rattle.ra_edit_read.specs.EditTexts.{value_at, numbers_behind, edit_from, requirements_from, any_at, below_at}
+use Rattle.ra_edit_read.specs.EditTexts.{token_value_at, numbers_behind, edit_from, requirements_from, any_at, below_at}
 use Rattle.ra_edit_read.specs.EditTexts.{any_from, added_test, resized_test, numbers_test, kind_test, found_test}
 use Rattle.ra_edit_read.specs.Answers.{EditsSays}
 use Rattle.ra_edit_read.specs.Reading.{TakesNumber, TakesValues, TakesEdit, HasEdit}
@@ -127,11 +127,11 @@ unfolding numbers_test edit_from requirements_from numbers_behind
 takes_added bytes i k x y z u v s m c old new one s_in two m_in three four =
     let third = third_place bytes x y z s m one two in
     let R = resource_count i in
-    let e_s : value_at bytes (tokens_before bytes x) ≡ s = takes_value bytes x y s one in
-    let e_m : value_at bytes (tokens_before bytes x + 1) ≡ m =
-    subst (λ n. value_at bytes n ≡ m) one.next (takes_value bytes y z m two) in
-    let e_c : value_at bytes (tokens_before bytes x + 2 + R) ≡ c =
-    subst (λ n. value_at bytes n ≡ c) (three.next ∙ ap (λ n. n + R) third) (takes_value bytes u v c four) in
+    let e_s : token_value_at bytes (tokens_before bytes x) ≡ s = takes_value bytes x y s one in
+    let e_m : token_value_at bytes (tokens_before bytes x + 1) ≡ m =
+    subst (λ n. token_value_at bytes n ≡ m) one.next (takes_value bytes y z m two) in
+    let e_c : token_value_at bytes (tokens_before bytes x + 2 + R) ≡ c =
+    subst (λ n. token_value_at bytes n ≡ c) (three.next ∙ ap (λ n. n + R) third) (takes_value bytes u v c four) in
     record {
       sound = added_sound bytes i k x y z u v s m c old new one s_in two m_in three four;
       edit_is = rw (e_s, e_m, e_c) refl;
@@ -244,7 +244,7 @@ pub has_edit : (bytes : List ℕ) (i : Tables) (k x y z : ℕ) (t : Token) (old 
 unfolding found_test
 has_edit bytes i k x y z t old new edit found next few some kind takes =
     let behind : tokens_before bytes y ≡ suc (tokens_before bytes x) = next ∙ add-one (tokens_before bytes x) in
-    let worth : t.value ≡ value_at bytes (tokens_before bytes x) =
+    let worth : t.value ≡ token_value_at bytes (tokens_before bytes x) =
     sym (worth_of bytes (tokens_before bytes x) t found) in
     record {
       sound = rw found

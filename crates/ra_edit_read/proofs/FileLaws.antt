@@ -23,11 +23,13 @@ use Rattle.ra_edit_read.specs.declared.edits.Edit.TheVariants.{Retire}
 use Rattle.ra_edit_read.specs.declared.faults.EditsFault.{EditsFault}
 use Rattle.ra_edit_read.specs.declared.faults.EditsFault.TheVariants.{Range, TooMany}
 use Rattle.ra_edit_read.specs.EditLists.{AllFit, FitsInstance}
-use Rattle.ra_edit_read.specs.EditTexts.{value_at, numbers_behind, kind_place, edit_from, requirements_from, edits_to}
-use Rattle.ra_edit_read.specs.EditTexts.{requirements_to, edits_fault, numbers_test, found_test, edit_test, file_fault}
+use Rattle.ra_edit_read.specs.EditTexts.{token_value_at, numbers_behind, kind_place, edit_from, requirements_from}
+use Rattle.ra_edit_read.specs.EditTexts.{edits_to}
+use Rattle.ra_edit_read.specs.EditTexts.{requirements_to, edits_fault, numbers_test, found_test, edit_test}
+use Rattle.ra_edit_read.specs.EditTexts.{edits_file_fault}
 use Rattle.ra_edit_read.specs.EditTexts.{edits_refusal, IsEditsFile}
 use Rattle.ra_edit_read.specs.Answers.{EditsSays, IsEditsRefusal}
-use Rattle.ra_edit_read.specs.Reading.{HasEdit, HasEdits, EditStop, IsWhole}
+use Rattle.ra_edit_read.specs.Reading.{HasEdit, HasTakenEdits, EditStop, AreAllEdits}
 use Rattle.ra_edit_read.proofs.NumberLaws.{says_same, says_fault}
 use Rattle.ra_edit_read.proofs.Meaning.{kinds_ascend, file_at, each_passes, count_of}
 use Rattle.ra_edit_read.proofs.EditLaws.{kind_wrong, kind_behind, found_kind, found_behind}
@@ -93,7 +95,7 @@ all_sound bytes i k few all sound =
 file_refused : (bytes : List ℕ) (i : Tables) (k n : ℕ) (fault : TokenFault) → k < 100001 →
     n ≡ kind_place (resource_count i) bytes k → first k (edit_test bytes i) ≡ None → IsAnswer bytes n (Err fault) →
     EditsSays (edits_refusal bytes i) (edits_fault fault)
-unfolding edits_refusal file_fault
+unfolding edits_refusal edits_file_fault
 file_refused bytes i k n fault few due sound answer = says_fault (edits_refusal bytes i) fault (⊎_elim
     (λ (e : fault ≡ told.ReadFault). inl e)
     (λ (h : GaveAll bytes n × (first_fault bytes ≡ Some fault)).
@@ -108,7 +110,7 @@ stop_file bytes i k x fault h few due sound = subst (λ (f : EditsFault). EditsS
 -- the first edits
 
 pub has_none : (bytes : List ℕ) (i : Tables) (place : ℕ) (edits : List Edit) (requirements : List ℕ) →
-    tokens_before bytes place ≡ 0 → edits ≡ [] → requirements ≡ [] → HasEdits bytes i place 0 edits requirements
+    tokens_before bytes place ≡ 0 → edits ≡ [] → requirements ≡ [] → HasTakenEdits bytes i place 0 edits requirements
 unfolding kind_place edits_to requirements_to
 has_none bytes i place edits requirements start no_edits no_requirements = record {
   given = start;
@@ -118,30 +120,31 @@ has_none bytes i place edits requirements start no_edits no_requirements = recor
 }
 
 pub has_more : (bytes : List ℕ) (i : Tables) (x y k : ℕ) (edits after : List Edit) (old new : List ℕ) (edit : Edit) →
-    HasEdits bytes i x k edits old → HasEdit bytes i k x y old new edit → after ≡ edits ++ edit ∷ [] →
-    HasEdits bytes i y (k + 1) after new
+    HasTakenEdits bytes i x k edits old → HasEdit bytes i k x y old new edit → after ≡ edits ++ edit ∷ [] →
+    HasTakenEdits bytes i y (k + 1) after new
 unfolding kind_place edits_to requirements_to
 has_more bytes i x y k edits after old new edit before one pushed =
     let R = resource_count i in
     let due = before.given in
     record {
       given =
-          rw add-one (subst (λ n. tokens_before bytes y ≡ n + suc (numbers_behind R (value_at bytes n))) due one.next);
+          rw add-one (subst (λ n. tokens_before bytes y ≡ n + suc (numbers_behind R (token_value_at bytes n))) due
+          one.next);
       sound = first_more_none k (edit_test bytes i) before.sound (test_here bytes i k (tokens_before bytes x) due
           ∙ one.sound);
       edits_are = rw add-one (pushed ∙ ap (λ front. front ++ edit ∷ []) before.edits_are
           ∙ ap (λ e. edits_to R bytes k ++ e ∷ [])
-          (subst (λ n. edit ≡ edit_from R bytes (value_at bytes n) (suc n)) due one.edit_is));
+          (subst (λ n. edit ≡ edit_from R bytes (token_value_at bytes n) (suc n)) due one.edit_is));
       requirements_are =
-          rw add-one (subst (λ n. new ≡ old ++ requirements_from R bytes (value_at bytes n) (suc n)) due one.rows
-          ∙ ap (λ front. front ++ requirements_from R bytes (value_at bytes (kind_place R bytes k))
+          rw add-one (subst (λ n. new ≡ old ++ requirements_from R bytes (token_value_at bytes n) (suc n)) due one.rows
+          ∙ ap (λ front. front ++ requirements_from R bytes (token_value_at bytes (kind_place R bytes k))
           (suc (kind_place R bytes k))) before.requirements_are);
     }
 
 -- all edits
 pub has_all : (bytes : List ℕ) (i : Tables) (place k : ℕ) (edits : List Edit) (requirements : List ℕ) → k < 100001 →
-    HasEdits bytes i place k edits requirements → IsAnswer bytes (tokens_before bytes place) (Ok None) →
-    IsWhole bytes i edits requirements
+    HasTakenEdits bytes i place k edits requirements → IsAnswer bytes (tokens_before bytes place) (Ok None) →
+    AreAllEdits bytes i edits requirements
 has_all bytes i place k edits requirements few has answer =
     let all : kind_place (resource_count i) bytes k ≡ length (tokens bytes) = sym has.given ∙ answer.0 in
     record {
@@ -155,14 +158,14 @@ has_all bytes i place k edits requirements few has answer =
     }
 
 pub has_ended : (bytes : List ℕ) (i : Tables) (place k : ℕ) (edits : List Edit) (requirements after : List ℕ) →
-    k < 100001 → HasEdits bytes i place k edits requirements → IsAnswer bytes (tokens_before bytes place) (Ok None)
-    × (after ≡ requirements) → IsWhole bytes i edits after
+    k < 100001 → HasTakenEdits bytes i place k edits requirements → IsAnswer bytes (tokens_before bytes place) (Ok None)
+    × (after ≡ requirements) → AreAllEdits bytes i edits after
 has_ended bytes i place k edits requirements after few has end =
-    has_all bytes i place k edits after few (subst (λ (rs : List ℕ). HasEdits bytes i place k edits rs) (sym end.1) has)
-    end.0
+    has_all bytes i place k edits after few (subst (λ (rs : List ℕ). HasTakenEdits bytes i place k edits rs)
+    (sym end.1) has) end.0
 
 pub last_stop : (bytes : List ℕ) (i : Tables) (k place : ℕ) (edits : List Edit) (requirements : List ℕ)
-    (fault : EditsFault) → k ≡ 100000 → HasEdits bytes i place k edits requirements →
+    (fault : EditsFault) → k ≡ 100000 → HasTakenEdits bytes i place k edits requirements →
     EditStop bytes i 100000 place fault → IsEditsRefusal bytes i fault
 last_stop bytes i k place edits requirements fault same has stop =
     stop (subst (λ n. tokens_before bytes place ≡ kind_place (resource_count i) bytes n) same has.given)
@@ -185,13 +188,13 @@ fit_more i edits after edit before fits pushed = subst (AllFit i) (sym pushed) (
     (subst (FitsInstance i) (sym (get_or-append_seam edits edit [] (Retire 0))) fits))
     (cases_lt k (length edits)))
 
-no_fault : (fault : Option TokenFault) → file_fault fault ≡ None → fault ≡ None
-unfolding file_fault
+no_fault : (fault : Option TokenFault) → edits_file_fault fault ≡ None → fault ≡ None
+unfolding edits_file_fault
 no_fault None none = refl
 no_fault (Some fault) none = absurd (let e : Some (edits_fault fault) ≡ None = none in cc)
 
-no_fault_none : (fault : Option TokenFault) → fault ≡ None → file_fault fault ≡ None
-unfolding file_fault
+no_fault_none : (fault : Option TokenFault) → fault ≡ None → edits_file_fault fault ≡ None
+unfolding edits_file_fault
 no_fault_none fault none = rw none refl
 
 -- nothing is refused exactly if the bytes are a file of edits
@@ -200,7 +203,7 @@ pub edits_accept : (bytes : List ℕ) (i : Tables) →
 unfolding edits_refusal
 edits_accept bytes i = (there, back)
   where
-    there : or_else (first 100001 (edit_test bytes i)) (file_fault (first_fault bytes)) ≡ None → (count : ℕ)
+    there : or_else (first 100001 (edit_test bytes i)) (edits_file_fault (first_fault bytes)) ≡ None → (count : ℕ)
         × IsEditsFile bytes i count
     there none =
         let sound = left_none (first 100001 (edit_test bytes i)) _ none in
@@ -213,7 +216,7 @@ edits_accept bytes i = (there, back)
         )
 
     back : ((count : ℕ) × IsEditsFile bytes i count) →
-        or_else (first 100001 (edit_test bytes i)) (file_fault (first_fault bytes)) ≡ None
+        or_else (first 100001 (edit_test bytes i)) (edits_file_fault (first_fault bytes)) ≡ None
     back file = both_none _ _
         (all_sound bytes i file.0 (omega (arith, file.1.few)) file.1.all
         (first_none_from file.0 (edit_test bytes i) (each_passes bytes i file.0 file.1)))

@@ -14,8 +14,9 @@ use Rattle.ra_model.specs.declared.raw.Tables.{Tables}
 use Rattle.ra_model.specs.Numbers.{resource_count, machine_count, service_count}
 use Rattle.ra_edit_read.specs.declared.faults.EditsFault.TheVariants.{Range}
 use Rattle.ra_edit_read.specs.EditLists.{FitsInstance}
-use Rattle.ra_edit_read.specs.EditTexts.{value_at, numbers_behind, kind_place, edit_from, IsEdit, IsEditsFile}
-use Rattle.ra_edit_read.specs.EditTexts.{none_left, any_test, below_test, any_at, below_at, any_from, added_test}
+use Rattle.ra_edit_read.specs.EditTexts.{token_value_at, numbers_behind, kind_place, edit_from, IsEdit, IsEditsFile}
+use Rattle.ra_edit_read.specs.EditTexts.{none_left_in_edit, any_test, below_test, any_at, below_at, any_from}
+use Rattle.ra_edit_read.specs.EditTexts.{added_test}
 use Rattle.ra_edit_read.specs.EditTexts.{resized_test, numbers_test, kind_test, found_test, edit_test}
 use Rattle.ra_edit_read.proofs.NumberLaws.{worth_of, any_within, any_from_there, below_inside}
 use Rattle.ra_edit_read.proofs.EditLaws.{kind_sound, kind_wrong, kind_behind}
@@ -30,7 +31,7 @@ kinds_ascend R bytes k (suc d) = rw add-suc (omega (arith, kinds_ascend R bytes 
 any_told : (fault : Option TokenFault) (k : ℕ) (found : Option Token) → any_test fault k found ≡ None → (t : Token)
     × (found ≡ Some t)
 unfolding any_test
-any_told fault k None none = absurd (let e : Some (none_left fault k) ≡ None = none in cc)
+any_told fault k None none = absurd (let e : Some (none_left_in_edit fault k) ≡ None = none in cc)
 any_told fault k (Some t) none = (t, refl)
 
 any_there : (bytes : List ℕ) (k n : ℕ) → any_at bytes k n ≡ None → n < length (tokens bytes)
@@ -41,7 +42,7 @@ any_there bytes k n none = let found = any_told (first_fault bytes) k (slice_get
 below_told : (fault : Option TokenFault) (k count : ℕ) (found : Option Token) → below_test fault k count found ≡ None →
     (t : Token) × (found ≡ Some t) × (t.value < count)
 unfolding below_test
-below_told fault k count None none = absurd (let e : Some (none_left fault k) ≡ None = none in cc)
+below_told fault k count None none = absurd (let e : Some (none_left_in_edit fault k) ≡ None = none in cc)
 below_told fault k count (Some t) none = ⊎_elim
     (λ (inside : t.value < count). (t, refl, inside))
     (λ (outside : count ≤ t.value).
@@ -49,14 +50,14 @@ below_told fault k count (Some t) none = ⊎_elim
     (le-ltb t.value count outside) in cc))
     (cases_lt t.value count)
 
-below_there : (bytes : List ℕ) (k count n : ℕ) → below_at bytes k count n ≡ None → value_at bytes n < count
+below_there : (bytes : List ℕ) (k count n : ℕ) → below_at bytes k count n ≡ None → token_value_at bytes n < count
 unfolding below_at
 below_there bytes k count n none =
     let found = below_told (first_fault bytes) k count (slice_get (tokens bytes) n) none in
     omega (arith, worth_of bytes n found.0 found.1, found.2)
 
 -- and one that is there passes
-below_passes : (bytes : List ℕ) (k count n : ℕ) → n < length (tokens bytes) → value_at bytes n < count →
+below_passes : (bytes : List ℕ) (k count n : ℕ) → n < length (tokens bytes) → token_value_at bytes n < count →
     below_at bytes k count n ≡ None
 below_passes bytes k count n within inside =
     let none : Token = record { value = 0; at = 0 } in
@@ -186,7 +187,7 @@ edit_told bytes i k within none =
     let t = get_or (tokens bytes) n start in
     let found : slice_get (tokens bytes) n ≡ Some t = slice_get-get_or (tokens bytes) n start within in
     let told = found_told bytes i k n t found none in
-    let worth : t.value ≡ value_at bytes n = sym (worth_of bytes n t found) in
+    let worth : t.value ≡ token_value_at bytes n = sym (worth_of bytes n t found) in
     let has = subst (λ kind. HasNumbers bytes i kind (suc n)) worth told.1 in
     record {
       few = told.0.few;
@@ -204,9 +205,10 @@ edit_passes bytes i k has =
     let n = kind_place (resource_count i) bytes k in
     let start : Token = record { value = 0; at = 0 } in
     let t = get_or (tokens bytes) n start in
-    let end : n + suc (numbers_behind (resource_count i) (value_at bytes n)) ≤ length (tokens bytes) = has.within in
+    let end : n + suc (numbers_behind (resource_count i) (token_value_at bytes n)) ≤ length (tokens bytes) =
+    has.within in
     let found : slice_get (tokens bytes) n ≡ Some t = slice_get-get_or (tokens bytes) n start (omega arith) in
-    let worth : value_at bytes n ≡ t.value = worth_of bytes n t found in
+    let worth : token_value_at bytes n ≡ t.value = worth_of bytes n t found in
     let behind =
     subst (λ kind. HasNumbers bytes i kind (suc n)) worth (record { fits = has.is.fits; within = omega arith }) in
     rw found (both_none _ _
@@ -220,7 +222,7 @@ kind_before : (R : ℕ) (bytes : List ℕ) (k c : ℕ) → k < c → kind_place 
 unfolding kind_place
 kind_before R bytes k c below =
     let e : suc k + (c - suc k) ≡ c = omega arith in
-    let ascend : kind_place R bytes k + suc (numbers_behind R (value_at bytes (kind_place R bytes k))) ≤
+    let ascend : kind_place R bytes k + suc (numbers_behind R (token_value_at bytes (kind_place R bytes k))) ≤
     kind_place R bytes c =
     subst (λ n. kind_place R bytes (suc k) ≤ kind_place R bytes n) e (kinds_ascend R bytes (suc k) (c - suc k)) in
     (omega arith, ascend)

@@ -16,7 +16,8 @@ use Rattle.ra_token.specs.Moments.{HasNext, HasFault}
 use Rattle.ra_edit_read.specs.declared.faults.EditsFault.{EditsFault}
 use Rattle.ra_edit_read.specs.declared.faults.EditsFault.TheVariants.{ReadFault, BadByte, TooLarge, TooLong, Missing}
 use Rattle.ra_edit_read.specs.declared.faults.EditsFault.TheVariants.{Range, TooMany, NoMemory}
-use Rattle.ra_edit_read.specs.EditTexts.{value_at, edits_fault, none_left, any_test, below_test, any_at, below_at}
+use Rattle.ra_edit_read.specs.EditTexts.{token_value_at, edits_fault, none_left_in_edit, any_test, below_test, any_at}
+use Rattle.ra_edit_read.specs.EditTexts.{below_at}
 use Rattle.ra_edit_read.specs.EditTexts.{any_from}
 use Rattle.ra_edit_read.specs.Answers.{EditsSays}
 use Rattle.ra_edit_read.specs.Reading.{TakesNumber, TakesValues}
@@ -61,7 +62,7 @@ past_all bytes n all = slice_get_past (tokens bytes) n (omega (arith, all))
 -- a fault in the place of a number that may be any
 any_fault : (bytes : List ℕ) (k n : ℕ) (fault : TokenFault) → IsAnswer bytes n (Err fault) →
     EditsSays (any_at bytes k n) (edits_fault fault)
-unfolding any_at any_test none_left
+unfolding any_at any_test none_left_in_edit
 any_fault bytes k n fault answer =
     says_fault (any_at bytes k n) fault
     (⊎_elim (λ (e : fault ≡ told.ReadFault). inl e) (λ (h : GaveAll bytes n × (first_fault bytes ≡ Some fault)).
@@ -73,7 +74,7 @@ any_stopped bytes k x fault h = subst (λ (f : EditsFault). EditsSays (any_at by
     (sym h.same) (any_fault bytes k (tokens_before bytes x) h.token_fault h.answer)
 
 any_ended : (bytes : List ℕ) (k n : ℕ) → IsAnswer bytes n (Ok None) → any_at bytes k n ≡ Some (Missing k)
-unfolding any_at any_test none_left
+unfolding any_at any_test none_left_in_edit
 any_ended bytes k n answer = rw (past_all bytes n answer.0, answer.1) refl
 
 pub any_missing : (bytes : List ℕ) (k x y : ℕ) → HasNext bytes x y None → any_at bytes k (tokens_before bytes x) ≡
@@ -92,13 +93,14 @@ any_within bytes k n within =
 pub takes : (bytes : List ℕ) (x y : ℕ) (t : Token) → HasNext bytes x y (Some t) → TakesNumber bytes x y t.value
 takes bytes x y t h = record { token = t; found = h.answer; worth = refl; next = h.one_more }
 
-pub worth_of : (bytes : List ℕ) (n : ℕ) (t : Token) → slice_get (tokens bytes) n ≡ Some t → value_at bytes n ≡ t.value
-unfolding value_at
+pub worth_of : (bytes : List ℕ) (n : ℕ) (t : Token) → slice_get (tokens bytes) n ≡ Some t →
+    token_value_at bytes n ≡ t.value
+unfolding token_value_at
 worth_of bytes n t found =
     ap (λ (x : Token). x.value) (get_or_from_slice_get (tokens bytes) n t (record { value = 0; at = 0 }) found)
 
 pub takes_value : (bytes : List ℕ) (x y value : ℕ) → TakesNumber bytes x y value →
-    value_at bytes (tokens_before bytes x) ≡ value
+    token_value_at bytes (tokens_before bytes x) ≡ value
 takes_value bytes x y value h = worth_of bytes (tokens_before bytes x) h.token h.found ∙ sym h.worth
 
 pub takes_any : (bytes : List ℕ) (k x y value : ℕ) → TakesNumber bytes x y value →
@@ -108,7 +110,7 @@ takes_any bytes k x y value h = any_there bytes k (tokens_before bytes x) h.toke
 -- a number that is to be below a count
 below_fault : (bytes : List ℕ) (k count n : ℕ) (fault : TokenFault) → IsAnswer bytes n (Err fault) →
     EditsSays (below_at bytes k count n) (edits_fault fault)
-unfolding below_at below_test none_left
+unfolding below_at below_test none_left_in_edit
 below_fault bytes k count n fault answer =
     says_fault (below_at bytes k count n) fault
     (⊎_elim (λ (e : fault ≡ told.ReadFault). inl e) (λ (h : GaveAll bytes n × (first_fault bytes ≡ Some fault)).
@@ -122,7 +124,7 @@ below_stopped bytes k count x fault h =
 
 below_ended : (bytes : List ℕ) (k count n : ℕ) → IsAnswer bytes n (Ok None) →
     below_at bytes k count n ≡ Some (Missing k)
-unfolding below_at below_test none_left
+unfolding below_at below_test none_left_in_edit
 below_ended bytes k count n answer = rw (past_all bytes n answer.0, answer.1) refl
 
 pub below_missing : (bytes : List ℕ) (k count x y : ℕ) → HasNext bytes x y None →

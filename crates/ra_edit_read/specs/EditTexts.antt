@@ -19,8 +19,8 @@ use Rattle.ra_edit_read.specs.declared.faults.EditsFault.TheVariants.{Range, Too
 use Rattle.ra_edit_read.specs.EditLists.{EditLists, FitsInstance}
 
 -- what token n is worth, and zero past the last one
-unfoldable pub value_at : List ℕ → ℕ → ℕ
-value_at bytes n = (slice_index_or (tokens bytes) n (record { value = 0; at = 0 })).value
+unfoldable pub token_value_at : List ℕ → ℕ → ℕ
+token_value_at bytes n = (slice_index_or (tokens bytes) n (record { value = 0; at = 0 })).value
 
 -- how many numbers follow the kind of an edit, if there are R resources
 unfoldable pub numbers_behind : ℕ → ℕ → ℕ
@@ -30,16 +30,16 @@ numbers_behind R kind = if kind == 1 then R + 3 else if kind == 2 then 1 else R 
 unfoldable pub kind_place : ℕ → List ℕ → ℕ → ℕ
 kind_place R bytes zero = 0
 kind_place R bytes (suc k) =
-    kind_place R bytes k + suc (numbers_behind R (value_at bytes (kind_place R bytes k)))
+    kind_place R bytes k + suc (numbers_behind R (token_value_at bytes (kind_place R bytes k)))
 
 -- the edit of a kind whose numbers begin with token n, and its requirements
 unfoldable pub edit_from : ℕ → List ℕ → ℕ → ℕ → Edit
 edit_from R bytes kind n =
     if kind == 1
-    then Add (record { 0 = value_at bytes n }) (record { 0 = value_at bytes (n + 1) })
-    (value_at bytes (n + 2 + R))
-    else if kind == 2 then Retire (value_at bytes n)
-    else Resize (value_at bytes n)
+    then Add (record { 0 = token_value_at bytes n }) (record { 0 = token_value_at bytes (n + 1) })
+    (token_value_at bytes (n + 2 + R))
+    else if kind == 2 then Retire (token_value_at bytes n)
+    else Resize (token_value_at bytes n)
 
 unfoldable pub requirements_from : ℕ → List ℕ → ℕ → ℕ → List ℕ
 requirements_from R bytes kind n =
@@ -52,26 +52,26 @@ unfoldable pub edits_to : ℕ → List ℕ → ℕ → List Edit
 edits_to R bytes zero = []
 edits_to R bytes (suc k) =
     edits_to R bytes k
-    ++ edit_from R bytes (value_at bytes (kind_place R bytes k)) (suc (kind_place R bytes k)) ∷ []
+    ++ edit_from R bytes (token_value_at bytes (kind_place R bytes k)) (suc (kind_place R bytes k)) ∷ []
 
 unfoldable pub requirements_to : ℕ → List ℕ → ℕ → List ℕ
 requirements_to R bytes zero = []
 requirements_to R bytes (suc k) =
     requirements_to R bytes k
-    ++ requirements_from R bytes (value_at bytes (kind_place R bytes k))
+    ++ requirements_from R bytes (token_value_at bytes (kind_place R bytes k))
     (suc (kind_place R bytes k))
 
 -- the kind of edit k, and the edit
-abbrev pub kind_of : ℕ → List ℕ → ℕ → ℕ
-kind_of R bytes k = value_at bytes (kind_place R bytes k)
+abbrev pub edit_kind_of : ℕ → List ℕ → ℕ → ℕ
+edit_kind_of R bytes k = token_value_at bytes (kind_place R bytes k)
 
 abbrev pub edit_of : ℕ → List ℕ → ℕ → Edit
-edit_of R bytes k = edit_from R bytes (kind_of R bytes k) (suc (kind_place R bytes k))
+edit_of R bytes k = edit_from R bytes (edit_kind_of R bytes k) (suc (kind_place R bytes k))
 
 -- edit k is valid: its kind is 1, 2 or 3, and the service and the machine of an added process exist
 pub record IsEdit (bytes : List ℕ) (i : Tables) (k : ℕ) : Type 0 where
-  pub least : 1 ≤ kind_of (resource_count i) bytes k
-  pub most : kind_of (resource_count i) bytes k ≤ 3
+  pub least : 1 ≤ edit_kind_of (resource_count i) bytes k
+  pub most : edit_kind_of (resource_count i) bytes k ≤ 3
   pub fits : FitsInstance i (edit_of (resource_count i) bytes k)
 
 -- the bytes are a file of `count` edits, 100,000 at most: they have no fault, each edit is valid, and no token follows
@@ -91,17 +91,17 @@ edits_fault token.TooLong = TooLong
 edits_fault token.NoMemory = NoMemory
 
 -- if no token is left inside edit k: the first fault of the file, or else that the rest of the edit is missing
-unfoldable pub none_left : Option TokenFault → ℕ → EditsFault
-none_left None k = Missing k
-none_left (Some fault) k = edits_fault fault
+unfoldable pub none_left_in_edit : Option TokenFault → ℕ → EditsFault
+none_left_in_edit None k = Missing k
+none_left_in_edit (Some fault) k = edits_fault fault
 
 -- what is wrong with a number of edit k that may have any value, and with one that has to be below a count
 unfoldable pub any_test : Option TokenFault → ℕ → Option Token → Option EditsFault
-any_test fault k None = Some (none_left fault k)
+any_test fault k None = Some (none_left_in_edit fault k)
 any_test fault k (Some t) = None
 
 unfoldable pub below_test : Option TokenFault → ℕ → ℕ → Option Token → Option EditsFault
-below_test fault k count None = Some (none_left fault k)
+below_test fault k count None = Some (none_left_in_edit fault k)
 below_test fault k count (Some t) =
     if nat_lt t.value count then None else Some (Range t.at t.value 0 (count - 1))
 
@@ -150,14 +150,14 @@ edit_test bytes i k =
     (slice_get (tokens bytes) (kind_place (resource_count i) bytes k))
 
 -- the first fault of the file
-unfoldable pub file_fault : Option TokenFault → Option EditsFault
-file_fault None = None
-file_fault (Some fault) = Some (edits_fault fault)
+unfoldable pub edits_file_fault : Option TokenFault → Option EditsFault
+edits_file_fault None = None
+edits_file_fault (Some fault) = Some (edits_fault fault)
 
 -- the first refusal of a file of edits, in which there may be 100,000
 unfoldable pub edits_refusal : List ℕ → Tables → Option EditsFault
 edits_refusal bytes i =
-    or_else (first 100001 (edit_test bytes i)) (file_fault (first_fault bytes))
+    or_else (first 100001 (edit_test bytes i)) (edits_file_fault (first_fault bytes))
 
 -- the bytes mean these edits: they are a file of edits, and these are all of them in their order
 pub record AreEditsOf (bytes : List ℕ) (i : Tables) (e : EditLists) : Type 0 where

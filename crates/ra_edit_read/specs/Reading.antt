@@ -12,7 +12,8 @@ use Rattle.ra_edit_read.specs.declared.edits.Edit.{Edit}
 use Rattle.ra_edit_read.specs.declared.faults.EditsFault.{EditsFault}
 use Rattle.ra_edit_read.specs.Answers.{IsEditsRefusal}
 use Rattle.ra_edit_read.specs.EditLists.{AllFit, FitsInstance}
-use Rattle.ra_edit_read.specs.EditTexts.{value_at, numbers_behind, kind_place, edit_from, requirements_from, edits_to}
+use Rattle.ra_edit_read.specs.EditTexts.{token_value_at, numbers_behind, kind_place, edit_from, requirements_from}
+use Rattle.ra_edit_read.specs.EditTexts.{edits_to}
 use Rattle.ra_edit_read.specs.EditTexts.{requirements_to, numbers_test, edit_test, found_test, AreEditsOf}
 
 -- the next token was taken, and is worth this
@@ -46,14 +47,14 @@ pub record HasEdit (bytes : List ℕ) (i : Tables) (k before after : ℕ) (old n
       found_test bytes i k (tokens_before bytes before)
       (slice_get (tokens bytes) (tokens_before bytes before)) ≡ None
   pub edit_is :
-      edit ≡ edit_from (resource_count i) bytes (value_at bytes (tokens_before bytes before))
+      edit ≡ edit_from (resource_count i) bytes (token_value_at bytes (tokens_before bytes before))
       (suc (tokens_before bytes before))
   pub rows :
       new ≡ old ++ requirements_from (resource_count i) bytes
-      (value_at bytes (tokens_before bytes before)) (suc (tokens_before bytes before))
+      (token_value_at bytes (tokens_before bytes before)) (suc (tokens_before bytes before))
   pub next :
       tokens_before bytes after ≡ tokens_before bytes before + suc
-      (numbers_behind (resource_count i) (value_at bytes (tokens_before bytes before)))
+      (numbers_behind (resource_count i) (token_value_at bytes (tokens_before bytes before)))
 
 -- the next edit, or the end of the file
 abbrev pub NextEdit : List ℕ → Tables → ℕ → ℕ → ℕ → List ℕ → List ℕ → Option Edit → Type 0
@@ -62,7 +63,7 @@ NextEdit bytes i k before after old new None =
 NextEdit bytes i k before after old new (Some edit) = HasEdit bytes i k before after old new edit
 
 -- the first k edits were taken
-pub record HasEdits (bytes : List ℕ) (i : Tables) (place k : ℕ) (edits : List Edit)
+pub record HasTakenEdits (bytes : List ℕ) (i : Tables) (place k : ℕ) (edits : List Edit)
     (requirements : List ℕ) : Type 0 where
   pub given : tokens_before bytes place ≡ kind_place (resource_count i) bytes k
   pub sound : first k (edit_test bytes i) ≡ None
@@ -76,11 +77,11 @@ EditStop bytes i k before fault =
     → first k (edit_test bytes i) ≡ None → IsEditsRefusal bytes i fault
 
 -- no token and no fault is left
-pub record HasEnded (bytes : List ℕ) (place : ℕ) : Type 0 where
+pub record EditsHaveEnded (bytes : List ℕ) (place : ℕ) : Type 0 where
   pub answer : IsAnswer bytes (tokens_before bytes place) (Ok None)
 
 -- the lists are all edits of the bytes, whatever their type
-pub record IsWhole (bytes : List ℕ) (i : Tables) (edits : List Edit) (requirements : List ℕ) : Type
+pub record AreAllEdits (bytes : List ℕ) (i : Tables) (edits : List Edit) (requirements : List ℕ) : Type
     0 where
   pub lists :
       AreEditsOf bytes i
@@ -91,7 +92,7 @@ abbrev pub HasRowRoom : Tables → Fixed ℕ → Type 0
 HasRowRoom i list = length list.items + resource_count i ≤ list.room
 
 -- an edit was read that fits the instance, and a requirement for each resource was added to a list
-pub record AddsRow (i : Tables) (old new : Fixed ℕ) (answer : Result Edit EditsFault) : Type 0 where
+pub record AddsRequirements (i : Tables) (old new : Fixed ℕ) (answer : Result Edit EditsFault) : Type 0 where
   pub number : OnOk answer (length new.items ≡ length old.items + resource_count i)
   pub room : OnOk answer (new.room ≡ old.room)
   pub fits : IfOk answer (FitsInstance i)

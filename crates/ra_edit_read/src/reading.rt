@@ -5,7 +5,7 @@ ghost use Rattle.ra_token.specs.Moments.{moment, Stands, Went, Refuses};
 ghost use Rattle.ra_edit_read.specs.EditLists.{AreEditsFor};
 ghost use Rattle.ra_edit_read.specs.EditTexts.{AreEditsOf, numbers_test, added_test, resized_test, any_at};
 ghost use Rattle.ra_edit_read.specs.Answers.{IsEditsRefusal, EditsSays};
-ghost use Rattle.ra_edit_read.specs.Reading.{TakesEdit, NextEdit, EditStop, HasEnded, IsWhole, HasRowRoom, AddsRow, MayAddRow, AreFew, AreEmpty};
+ghost use Rattle.ra_edit_read.specs.Reading.{TakesEdit, NextEdit, EditStop, EditsHaveEnded, AreAllEdits, HasRowRoom, AddsRequirements, MayAddRow, AreFew, AreEmpty};
 
 use crate::edits::{Edit, Edits};
 use crate::faults::EditsFault;
@@ -93,7 +93,7 @@ fn read_all<F: Files>(
     requires start { (bytes : List ℕ) → tokens_before bytes tokens.old.place ≡ 0 }
     requires empty { AreEmpty inst.now.tables edits.old requirements.old }
     ensures gives { OnOk result (Went (λ bytes before after.
-        IsWhole bytes inst.now.tables edits.new.items requirements.new.items)
+        AreAllEdits bytes inst.now.tables edits.new.items requirements.new.items)
         (moment F.Files files.old tokens.old) (moment F.Files files.new tokens.new)) }
     ensures are { OnOk result (AreFew inst.now.tables edits.new.items requirements.new.items) }
     ensures refuses { IfErr result (λ fault. Refuses EditsFault.ReadFault (λ bytes before.
@@ -113,7 +113,7 @@ fn read_all<F: Files>(
 /// The end of the file, after the last edit that a file may have.
 fn read_end<F: Files>(files: &mut F, tokens: &mut Tokens, inst: &Instance) -> Result<(), EditsFault>
     requires stands { Stands (moment F.Files files.old tokens.old) }
-    ensures gives { OnOk result (Went (λ bytes before after. HasEnded bytes before)
+    ensures gives { OnOk result (Went (λ bytes before after. EditsHaveEnded bytes before)
         (moment F.Files files.old tokens.old) (moment F.Files files.new tokens.new)) }
     ensures refuses { IfErr result (λ fault. Refuses EditsFault.ReadFault (λ bytes before.
         EditStop bytes inst.now.tables 100000 before fault)
@@ -176,7 +176,7 @@ fn read_numbers<F: Files>(
         TakesEdit bytes inst.now.tables k kind before after
         requirements.old.items requirements.new.items edit)
         (moment F.Files files.old tokens.old) (moment F.Files files.new tokens.new)) }
-    ensures row { AddsRow inst.now.tables requirements.old requirements.new result }
+    ensures row { AddsRequirements inst.now.tables requirements.old requirements.new result }
     ensures refuses { IfErr result (λ fault. Refuses EditsFault.ReadFault (λ bytes before.
         EditsSays (numbers_test bytes inst.now.tables k kind (tokens_before bytes before)) fault)
         (moment F.Files files.old tokens.old) (moment F.Files files.new tokens.new) fault) }
@@ -202,7 +202,7 @@ fn read_added<F: Files>(
         TakesEdit bytes inst.now.tables k 1 before after
         requirements.old.items requirements.new.items edit)
         (moment F.Files files.old tokens.old) (moment F.Files files.new tokens.new)) }
-    ensures row { AddsRow inst.now.tables requirements.old requirements.new result }
+    ensures row { AddsRequirements inst.now.tables requirements.old requirements.new result }
     ensures refuses { IfErr result (λ fault. Refuses EditsFault.ReadFault (λ bytes before.
         EditsSays (added_test bytes inst.now.tables k (tokens_before bytes before)) fault)
         (moment F.Files files.old tokens.old) (moment F.Files files.new tokens.new) fault) }
@@ -232,7 +232,7 @@ fn read_retired<F: Files>(
         TakesEdit bytes inst.now.tables k 2 before after
         requirements.old.items requirements.new.items edit)
         (moment F.Files files.old tokens.old) (moment F.Files files.new tokens.new)) }
-    ensures row { AddsRow inst.now.tables requirements.old requirements.new result }
+    ensures row { AddsRequirements inst.now.tables requirements.old requirements.new result }
     ensures refuses { IfErr result (λ fault. Refuses EditsFault.ReadFault (λ bytes before.
         EditsSays (any_at bytes k (tokens_before bytes before)) fault)
         (moment F.Files files.old tokens.old) (moment F.Files files.new tokens.new) fault) }
@@ -256,7 +256,7 @@ fn read_resized<F: Files>(
         TakesEdit bytes inst.now.tables k 3 before after
         requirements.old.items requirements.new.items edit)
         (moment F.Files files.old tokens.old) (moment F.Files files.new tokens.new)) }
-    ensures row { AddsRow inst.now.tables requirements.old requirements.new result }
+    ensures row { AddsRequirements inst.now.tables requirements.old requirements.new result }
     ensures refuses { IfErr result (λ fault. Refuses EditsFault.ReadFault (λ bytes before.
         EditsSays (resized_test bytes inst.now.tables k (tokens_before bytes before)) fault)
         (moment F.Files files.old tokens.old) (moment F.Files files.new tokens.new) fault) }

@@ -17,7 +17,7 @@ use Rattle.ra_model.specs.Limits.{WellFormed}
 use Rattle.ra_model.specs.Relations.{are_joined}
 use Rattle.ra_moves.specs.declared.steps.Step.{Step}
 use Rattle.ra_moves.specs.Steps.{step_at, process_in, from_in, to_in}
-use Rattle.ra_moves.specs.Touched.{ends_at, service_in, moves_service, reads_service, guards_service}
+use Rattle.ra_moves.specs.Touched.{touches_machine, service_in, moves_service, reads_service, guards_service}
 use Rattle.ra_guards.specs.Guards.{AreKnown, AreWithin, writes, reads, is_guard, meets_step}
 use Rattle.ra_guards.specs.Versions.{Apart}
 
@@ -75,22 +75,22 @@ end_more steps m n s is before from to = record {
       (cases_lt j n);
 }
 
-pub end_all : (steps : List Step) (m n : ℕ) → n ≡ length steps → NoEnd steps m n → false ≡ ends_at steps m
-unfolding ends_at from_in to_in
+pub end_all : (steps : List Step) (m n : ℕ) → n ≡ length steps → NoEnd steps m n → false ≡ touches_machine steps m
+unfolding touches_machine from_in to_in
 end_all steps m n all none =
     sym (or_from _ _ (is_named_not (length steps) (from_in steps) m (λ j within. (none.each j (omega arith)).0))
     (is_named_not (length steps) (to_in steps) m (λ j within. (none.each j (omega arith)).1)))
 
 pub end_from : (steps : List Step) (m j : ℕ) (s : Step) → s ≡ step_at steps j → j < length steps → s.from.0 ≡ m →
-    true ≡ ends_at steps m
-unfolding ends_at from_in
+    true ≡ touches_machine steps m
+unfolding touches_machine from_in
 end_from steps m j s is within from =
     sym (or_left _ _
     (is_named_at (length steps) j (from_in steps) m within (ap (λ (t : Step). t.from.0) (sym is) ∙ from)))
 
 pub end_to : (steps : List Step) (m j : ℕ) (s : Step) → s ≡ step_at steps j → j < length steps → s.to.0 ≡ m →
-    true ≡ ends_at steps m
-unfolding ends_at to_in
+    true ≡ touches_machine steps m
+unfolding touches_machine to_in
 end_to steps m j s is within to =
     sym (or_right _ _ (is_named_at (length steps) j (to_in steps) m within (ap (λ (t : Step). t.to.0) (sym is) ∙ to)))
 
@@ -155,8 +155,8 @@ meets_more i steps others n before here = record {
 
 -- what a step that writes no guard keeps apart
 record Missed (i : Tables) (steps : List Step) (s : Step) : Type 0 where
-  from : ends_at steps s.from.0 ≡ false
-  to : ends_at steps s.to.0 ≡ false
+  from : touches_machine steps s.from.0 ≡ false
+  to : touches_machine steps s.to.0 ≡ false
   service : guards_service i steps (service_of i s.process.0) ≡ false
 
 missed : (i : Tables) (steps : List Step) (s : Step) → meets_step i steps s ≡ false → Missed i steps s
@@ -167,16 +167,16 @@ missed i steps s none =
     record { from = two.0; to = two.1; service = machines.1 }
 
 machine_apart : (i : Tables) (steps others : List Step) (m : ℕ) → NoneMeets i steps others (length others) →
-    ends_at steps m ≡ true → ends_at others m ≡ false
-unfolding ends_at from_in to_in
+    touches_machine steps m ≡ true → touches_machine others m ≡ false
+unfolding touches_machine from_in to_in
 machine_apart i steps others m none guarded = or_from _ _
     (is_named_not (length others) (from_in others) m
     (λ k within same.
-    both_ways (ends_at steps m) (ap (ends_at steps) (sym same)
+    both_ways (touches_machine steps m) (ap (touches_machine steps) (sym same)
     ∙ (missed i steps (step_at others k) (none.each k within)).from) guarded))
     (is_named_not (length others) (to_in others) m
     (λ k within same.
-    both_ways (ends_at steps m) (ap (ends_at steps) (sym same)
+    both_ways (touches_machine steps m) (ap (touches_machine steps) (sym same)
     ∙ (missed i steps (step_at others k) (none.each k within)).to) guarded))
 
 service_apart : (i : Tables) (steps others : List Step) (u : ℕ) → NoneMeets i steps others (length others) →
@@ -188,9 +188,9 @@ service_apart i steps others u none guarded =
     ∙ (missed i steps (step_at others k) (none.each k within)).service) guarded)
 
 pub machine_guard : (i : Tables) (steps : List Step) (m : Machine) → is_guard i steps (guard.Machine m) ≡
-    ends_at steps m.0
+    touches_machine steps m.0
 unfolding is_guard writes reads
-machine_guard i steps m = or-false (ends_at steps m.0)
+machine_guard i steps m = or-false (touches_machine steps m.0)
 
 pub service_guard : (i : Tables) (steps : List Step) (s : Service) → is_guard i steps (guard.Service s) ≡
     guards_service i steps s.0
@@ -208,16 +208,16 @@ none_written i steps others (guard.Service s) none guarded =
 -- the step writes a guard
 pub meets_written : (i : Tables) (steps others : List Step) (k : ℕ) → k < length others →
     meets_step i steps (step_at others k) ≡ true → Apart i steps others → ⊥
-unfolding meets_step writes ends_at moves_service from_in to_in service_in process_in
+unfolding meets_step writes touches_machine moves_service from_in to_in service_in process_in
 meets_written i steps others k within meets apart =
     let s = step_at others k in
     ⊎_elim
-    (λ (machines : (ends_at steps s.from.0 || ends_at steps s.to.0) ≡ true). ⊎_elim
-    (λ (from : ends_at steps s.from.0 ≡ true). both_ways (ends_at others s.from.0)
+    (λ (machines : (touches_machine steps s.from.0 || touches_machine steps s.to.0) ≡ true). ⊎_elim
+    (λ (from : touches_machine steps s.from.0 ≡ true). both_ways (touches_machine others s.from.0)
     (apart.each (guard.Machine s.from) (machine_guard i steps s.from ∙ from))
     (or_left _ _ (is_named_at (length others) k (from_in others) s.from.0 within refl)))
-    (λ (to : ends_at steps s.to.0 ≡ true).
-    both_ways (ends_at others s.to.0) (apart.each (guard.Machine s.to) (machine_guard i steps s.to ∙ to))
+    (λ (to : touches_machine steps s.to.0 ≡ true).
+    both_ways (touches_machine others s.to.0) (apart.each (guard.Machine s.to) (machine_guard i steps s.to ∙ to))
     (or_right _ _ (is_named_at (length others) k (to_in others) s.to.0 within refl)))
     (or_cases _ _ machines))
     (λ (service : guards_service i steps (service_of i s.process.0) ≡ true).

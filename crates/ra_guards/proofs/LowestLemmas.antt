@@ -20,7 +20,7 @@ use Rattle.ra_model.specs.Relations.{are_joined}
 use Rattle.ra_moves.specs.declared.steps.Step.{Step}
 use Rattle.ra_moves.specs.Steps.{step_at, process_in, from_in, to_in}
 use Rattle.ra_topology.specs.Lists.{service_at}
-use Rattle.ra_moves.specs.Touched.{ends_at, service_in, moves_service, reads_service}
+use Rattle.ra_moves.specs.Touched.{touches_machine, service_in, moves_service, reads_service}
 use Rattle.ra_guards.specs.declared.newest.Newer.{Newer}
 use Rattle.ra_guards.specs.Guards.{AreWithin, writes, reads, is_guard}
 use Rattle.ra_guards.specs.Order.{IsKnown, number_in, guard_of}
@@ -231,7 +231,7 @@ below_read_only i steps g below =
 -- a guard that is written
 written_below : (i : Tables) (steps : List Step) (g : Guard) → writes i steps g ≡ true →
     IsWrittenBelow i steps (length steps) g
-unfolding writes ends_at moves_service
+unfolding writes touches_machine moves_service
 written_below i steps (guard.Machine m) written = ⊎_elim
     (λ (named : is_named (length steps) (from_in steps) m.0 ≡ true). let found = is_named_from (length steps)
     (from_in steps) m.0 named in (found.0, found.1, inl (machine_is m (from_in steps found.0) (sym found.2))))
@@ -244,7 +244,7 @@ written_below i steps (guard.Service s) written =
 
 below_written : (i : Tables) (steps : List Step) (g : Guard) → IsWrittenBelow i steps (length steps) g →
     writes i steps g ≡ true
-unfolding writes ends_at moves_service
+unfolding writes touches_machine moves_service
 below_written i steps g below =
     let k = below.0 in
     ⊎_elim

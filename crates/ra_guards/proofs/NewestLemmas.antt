@@ -20,7 +20,7 @@ use Rattle.ra_model.specs.Relations.{depends, are_joined}
 use Rattle.ra_moves.specs.declared.steps.Step.{Step}
 use Rattle.ra_moves.specs.Steps.{process_in, from_in, to_in}
 use Rattle.ra_topology.proofs.NeedLemmas.{need_within}
-use Rattle.ra_moves.specs.Touched.{ends_at, service_in, moves_service, reads_service, guards_service}
+use Rattle.ra_moves.specs.Touched.{touches_machine, service_in, moves_service, reads_service, guards_service}
 use Rattle.ra_guards.specs.Guards.{AreWithin, writes, reads, is_guard}
 use Rattle.ra_guards.specs.Order.{IsKnown, guard_at, AreWrites}
 use Rattle.ra_guards.specs.Versions.{version, Untouched}
@@ -132,7 +132,7 @@ step_service i steps k limits within inside = limits.services (process_in steps 
 
 pub guard_known : (i : Tables) (steps : List Step) (g : Guard) → WellFormed i → AreWithin i steps →
     is_guard i steps g ≡ true → IsKnown i g
-unfolding IsKnown ends_at guards_service moves_service reads_service
+unfolding IsKnown touches_machine guards_service moves_service reads_service
 guard_known i steps (guard.Machine m) limits within guarded = ⊎_elim
     (λ (named : is_named (length steps) (from_in steps) m.0 ≡ true). let found = is_named_from (length steps)
     (from_in steps) m.0 named in omega (arith, within.from found.0 found.1, found.2))

@@ -14,7 +14,7 @@ use Rattle.ra_moves.specs.declared.steps.Step.{Step}
 use Rattle.ra_moves.specs.Steps.{process_in, from_in, to_in}
 use Rattle.ra_moves.specs.Replacing.{Applied, applied}
 use Rattle.ra_moves.proofs.Applying.{applied_at_once}
-use Rattle.ra_moves.specs.Touched.{ends_at, service_in, moves_service, reads_service, guards_service}
+use Rattle.ra_moves.specs.Touched.{touches_machine, service_in, moves_service, reads_service, guards_service}
 use Rattle.ra_moves.specs.Moving.{IsMove, IsOffered}
 use Rattle.ra_moves.specs.Alike.{SameOn, SameOf, HeldAlike}
 use Rattle.ra_moves.proofs.Determined.{weighing_is_determined}
@@ -56,8 +56,8 @@ module _ (i : Tables) (others : List Step) (a : List Machine) (here : StandsHere
       (is_named_at (length others) j (process_in others) p within same)))
 
   -- a machine that no step leaves or enters holds the same processes
-  free_machine : (m : ℕ) → ends_at others m ≡ false → SameOn a (applied a others) m
-  unfolding ends_at
+  free_machine : (m : ℕ) → touches_machine others m ≡ false → SameOn a (applied a others) m
+  unfolding touches_machine
   free_machine m free =
       let parts = or_parts (is_named (length others) (from_in others) m) (is_named (length others) (to_in others) m)
       free in

@@ -6,11 +6,11 @@ use Rattle.ra_model.specs.declared.raw.Tables.{Tables}
 use Rattle.ra_model.specs.Numbers.{machine_count, process_count, service_of}
 use Rattle.ra_moves.specs.declared.steps.Step.{Step}
 use Rattle.ra_moves.specs.Steps.{process_in, from_in, to_in}
-use Rattle.ra_moves.specs.Touched.{ends_at, moves_service, reads_service, guards_service}
+use Rattle.ra_moves.specs.Touched.{touches_machine, moves_service, reads_service, guards_service}
 
 -- the write guards of a move: the machines that its steps leave and enter, and the services of its processes
 unfoldable pub writes : Tables → List Step → Guard → Bool
-writes i steps (guard.Machine m) = ends_at steps m.0
+writes i steps (guard.Machine m) = touches_machine steps m.0
 writes i steps (guard.Service s) = moves_service i steps s.0
 
 -- the read guards of a move: the services on which a service of its processes depends, and those that depend on such a
@@ -36,5 +36,5 @@ pub record AreWithin (i : Tables) (steps : List Step) : Type 0 where
 -- a step of another move leaves or enters a machine that is a guard, or moves a process of a service that is one
 unfoldable pub meets_step : Tables → List Step → Step → Bool
 meets_step i steps other =
-    ends_at steps other.from.0 || ends_at steps other.to.0 || guards_service i steps
+    touches_machine steps other.from.0 || touches_machine steps other.to.0 || guards_service i steps
     (service_of i other.process.0)

@@ -1,6 +1,6 @@
 ghost use Rattle.std.specs.Prelude.{◌≡◌, ◌↔◌, ◌<◌, true};
 ghost use Rattle.ra_model.specs.Numbers.{process_count};
-ghost use Rattle.ra_moves.specs.Touched.{ends_at};
+ghost use Rattle.ra_moves.specs.Touched.{touches_machine};
 ghost use Rattle.ra_guards.specs.Guards.{AreKnown, meets_step};
 ghost use Rattle.ra_guards.specs.Versions.{Apart};
 
@@ -41,7 +41,7 @@ fn meets_step(inst: &Instance, mv: &Move, step: Step) -> bool
 /// Whether a move leaves or enters a machine.
 #[tactic(auto, using(crate::proofs::GuardLemmas::ends))]
 pub(crate) fn ends_at(mv: &Move, machine: Machine) -> bool
-    ensures { result ≡ ends_at mv.now.steps machine.0 }
+    ensures { result ≡ touches_machine mv.now.steps machine.0 }
 {
     for j in 0..mv.steps() {
         let step = mv.step(j);

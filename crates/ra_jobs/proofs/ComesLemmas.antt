@@ -27,7 +27,7 @@ use Rattle.ra_jobs.specs.Ends.{puts_first}
 use Rattle.ra_jobs.specs.Files.{Held, Faults, Names, name_of, file_of, rank_of, is_up_to, IsNamed, EndsAt, ModelIs}
 use Rattle.ra_jobs.specs.Files.{InstanceIs, NamedListIs, Accepts, Passes}
 use Rattle.ra_jobs.specs.Outputs.{CheckPrinted, BoundIs, BoundPrinted}
-use Rattle.ra_jobs.specs.Refusals.{Reason, Judges, OnlyWrites, ReadBefore, ReadFailed, ModelRefused, ClosedRefused}
+use Rattle.ra_jobs.specs.Refusals.{Reason, Judges, OnlyWrites, ReadBefore, FileReadFailed, ModelRefused, ClosedRefused}
 use Rattle.ra_jobs.specs.Refusals.{RoleRefused, RoleBreaks}
 use Rattle.ra_jobs.specs.Statuses.{status_of}
 use Rattle.ra_jobs.proofs.CompleteLemmas.{is_done}
@@ -57,7 +57,7 @@ passed_went held names i a0 a passes = record {
 
 -- what each status says that any job may have
 abbrev CauseOf : Held → Names → Faults → Faults → (Refusal → Type 0) → Status → Type 0
-CauseOf held names before now own ReadFault = (f : File) × ReadFailed held names before now f
+CauseOf held names before now own ReadFault = (f : File) × FileReadFailed held names before now f
 CauseOf held names before now own BadModel = (fault : ModelFault) × ModelRefused held names.model fault
 CauseOf held names before now own BadClosed = (fault : ClosedFault) × ClosedRefused held names.model names.closed fault
 CauseOf held names before now own BadAssignment =

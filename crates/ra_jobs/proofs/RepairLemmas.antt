@@ -38,7 +38,7 @@ use Rattle.ra_jobs.specs.Lines.{refusal_line}
 use Rattle.ra_jobs.specs.Refusals.{Reason, CanTell}
 use Rattle.ra_jobs.specs.Output.{Output, BrokeOff, Put}
 use Rattle.ra_jobs.specs.Repairing.{IsTried, RepairPrinted, RepairOwn, LeavesBroken, RepairComes, TryReason, repaired}
-use Rattle.ra_jobs.specs.Stages.{IsStart}
+use Rattle.ra_jobs.specs.Stages.{IsAcceptedStart}
 use Rattle.ra_jobs.specs.Statuses.{status_of}
 use Rattle.ra_jobs.proofs.CompleteLemmas.{is_done, complete_own, OwnRefused}
 use Rattle.ra_jobs.proofs.ComesLemmas.{Listed as AreListed, known_model, own_known, told_closed, told_role}
@@ -114,7 +114,7 @@ lot_alone l lot one is = subst IsLots (one_lot l lot one is) l.fitting
 -- what is said of the files
 
 pub tried_all : (held : Held) (names : Names) (l : Lots) (i : Tables) (a0 : List Machine) (lot : Lot)
-    (broken : Option Cause) (sent : List ℕ → Type 0) → IsStart held names i a0 → l.lots.items ≡ lot ∷ [] →
+    (broken : Option Cause) (sent : List ℕ → Type 0) → IsAcceptedStart held names i a0 → l.lots.items ≡ lot ∷ [] →
     IsTried i a0 lot broken sent → RepairPrinted held names l broken sent
 tried_all held names l i a0 lot broken sent start one is = record {
   tables = i;
@@ -126,8 +126,8 @@ tried_all held names l i a0 lot broken sent start one is = record {
 }
 
 pub reason_try : (held : Held) (names : Names) (l : Lots) (i : Tables) (a0 : List Machine) (lot : Lot)
-    (before now : Faults) (prints breaks : List ℕ → Type 0) → IsStart held names i a0 → l.lots.items ≡ lot ∷ [] →
-    (refusal : Refusal) → TryReason i a0 lot prints breaks refusal →
+    (before now : Faults) (prints breaks : List ℕ → Type 0) → IsAcceptedStart held names i a0 →
+    l.lots.items ≡ lot ∷ [] → (refusal : Refusal) → TryReason i a0 lot prints breaks refusal →
     Reason held names before now (RepairOwn held names l prints breaks) refusal
 reason_try held names l i a0 lot before now prints breaks start one (Left cause) reason =
     tried_all held names l i a0 lot (Some cause) prints start one reason

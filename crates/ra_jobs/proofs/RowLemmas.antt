@@ -11,7 +11,8 @@ use Rattle.ra_model.specs.declared.raw.RawInstance.{RawInstance}
 use Rattle.ra_model.specs.declared.raw.ResourceRow.{ResourceRow}
 use Rattle.ra_model.specs.declared.raw.ServiceRow.{ServiceRow}
 use Rattle.ra_model_read.specs.Lists.{ResourceNumbers, MachineNumbers, ServiceNumbers, ProcessNumbers, BalanceNumbers}
-use Rattle.ra_model_read.specs.Lists.{Lists, of_resource, of_machine, of_service, of_process, of_balance, lists_of}
+use Rattle.ra_model_read.specs.Lists.{Lists, of_resource, of_machine, service_numbers_of, of_process, of_balance}
+use Rattle.ra_model_read.specs.Lists.{lists_of}
 
 -- a number of the model file
 abbrev pub Word : Type 0
@@ -106,7 +107,7 @@ service_is : (x : ServiceRow) → x ≡ service_of (x.spread_min, x.small_spread
 unfolding service_of
 service_is x = refl
 
-service_same : (x y : ServiceRow) → of_service x ≡ of_service y → x ≡ y
+service_same : (x y : ServiceRow) → service_numbers_of x ≡ service_numbers_of y → x ≡ y
 service_same x y e = service_is x
     ∙ rw (
       word_same (x.spread_min, x.small_spread) (y.spread_min, y.small_spread)
@@ -174,7 +175,7 @@ raw_same x y e = rw (
   ap (λ (l : Lists). l.machines.capacities) e,
   ap (λ (l : Lists). l.machines.safeties) e,
   ap (λ (l : Lists). l.machines.move_costs) e,
-  map_same of_service service_same x.services.items y.services.items (ap (λ (l : Lists). l.services.rows) e),
+  map_same service_numbers_of service_same x.services.items y.services.items (ap (λ (l : Lists). l.services.rows) e),
   ap (λ (l : Lists). l.services.dependencies) e,
   map_same of_process process_same x.processes.items y.processes.items (ap (λ (l : Lists). l.processes.rows) e),
   ap (λ (l : Lists). l.processes.requirements) e,

@@ -28,10 +28,12 @@ use Rattle.ra_jobs.specs.declared.refusals.Role.TheVariants as role
 use Rattle.ra_jobs.specs.Files.{Held, Faults, Names, name_of, file_of, IsNamed, ModelIs, InstanceIs, ListIs}
 use Rattle.ra_jobs.specs.Files.{NamedListIs, Accepts, bound_names}
 use Rattle.ra_jobs.specs.Outputs.{CheckPrinted, BoundIs, BoundRead}
-use Rattle.ra_jobs.specs.Refusals.{Reason, Judges, OnlyWrites, Nothing, CanTell, ReadBefore, ReadFailed, RoleRefused}
+use Rattle.ra_jobs.specs.Refusals.{Reason, Judges, OnlyWrites, Nothing, CanTell, ReadBefore, FileReadFailed}
+use Rattle.ra_jobs.specs.Refusals.{RoleRefused}
 use Rattle.ra_jobs.specs.Refusals.{Breaks, RoleBreaks}
 use Rattle.ra_jobs.specs.Stages.{model_as, closed_as, list_as, ClosedReason, SourceReason, ListReason, ListsReason}
-use Rattle.ra_jobs.specs.Stages.{JudgeReason, StartReason, IsClosing, IsList, IsStart, ReadsLists, Passed, Judged}
+use Rattle.ra_jobs.specs.Stages.{JudgeReason, StartReason, IsClosing, IsList, IsAcceptedStart, ReadsLists, Passed}
+use Rattle.ra_jobs.specs.Stages.{Judged}
 use Rattle.ra_jobs.proofs.ComesLemmas.{list_none}
 use Rattle.ra_jobs.proofs.MeaningLemmas.{list_in}
 
@@ -213,7 +215,7 @@ pub reason_list : (held later : Held) (names : Names) (which : Role) (i : Tables
     (refusal : Refusal) → ListReason which later (name_of names (file_of which)) i before now refusal →
     Reason held names first now own refusal
 reason_list held later names which i a0 first before now own same never_fell named instance earlier (Read f) reason =
-    subst (ReadFailed held names first now) (sym reason.0) (record {
+    subst (FileReadFailed held names first now) (sym reason.0) (record {
       earlier = list_earlier held names which i a0 instance earlier;
       named = named;
       rose = rose_later _ _ _ (never_fell (name_of names (file_of which))) reason.1;
@@ -383,7 +385,7 @@ printed held names parts sent passed text = record {
 pub starts : (held later : Held) (names : Names) (i : Tables) (a0 : List Machine) →
     ((other : List ℕ) → later other ≡ held other) → IsNamed names file.Initial →
     (IsNamed names file.Changed → ⊥) → InstanceIs held names.model names.closed i →
-    IsList later (name_of names file.Initial) i a0 → IsStart held names i a0
+    IsList later (name_of names file.Initial) i a0 → IsAcceptedStart held names i a0
 starts held later names i a0 same initial alone instance list = record {
   accepts = record {
     instance = instance;

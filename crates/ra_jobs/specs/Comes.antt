@@ -14,11 +14,11 @@ use Rattle.ra_jobs.specs.declared.status.Status.{Status}
 use Rattle.ra_jobs.specs.declared.status.Status.TheVariants.{Done, ReadFault, BadModel, BadAssignment, Infeasible}
 use Rattle.ra_jobs.specs.declared.status.Status.TheVariants.{WriteFault, NoMemory, BadClosed, Unrepaired}
 use Rattle.ra_jobs.specs.Files.{Held, Faults, Names, name_of, file_of, is_up_to, IsNamed}
-use Rattle.ra_jobs.specs.Refusals.{ReadFailed, ModelRefused, ClosedRefused, RoleRefused, RoleBreaks}
+use Rattle.ra_jobs.specs.Refusals.{FileReadFailed, ModelRefused, ClosedRefused, RoleRefused, RoleBreaks}
 
 -- if a job has this file, its bytes are told, and no fault of it was counted
-abbrev pub IsKnown : Held → Names → Faults → Faults → File → Type 0
-IsKnown held names before now f =
+abbrev pub IsKnownFile : Held → Names → Faults → Faults → File → Type 0
+IsKnownFile held names before now f =
     IsNamed names f
     → IsSome (held (name_of names f))
     × (Rose (before (name_of names f)) (now (name_of names f)) → ⊥)
@@ -26,7 +26,7 @@ IsKnown held names before now f =
 -- this holds of all files that are read up to this one
 abbrev pub KnownTo : Held → Names → Faults → Faults → File → Type 0
 KnownTo held names before now last =
-    (f : File) → is_up_to f last ≡ true → IsKnown held names before now f
+    (f : File) → is_up_to f last ≡ true → IsKnownFile held names before now f
 
 -- a status comes only if its cause holds; and if its cause holds and the files are known, no other status comes except
 -- that of refused memory
@@ -59,7 +59,7 @@ pub record BadAssignmentComes (held : Held) (names : Names) (before now : Faults
 -- then nothing was written
 pub record Comes (held : Held) (names : Names) (before now : Faults) (own : Refusal → Type 0)
     (out_same : Type 0) (status : Status) : Type 0 where
-  pub read_fault : status ≡ ReadFault → (f : File) × ReadFailed held names before now f
+  pub read_fault : status ≡ ReadFault → (f : File) × FileReadFailed held names before now f
   pub bad_model : BadModelComes held names before now status
   pub bad_closed : BadClosedComes held names before now status
   pub bad_assignment : BadAssignmentComes held names before now status

@@ -37,7 +37,7 @@ ReadBefore held names file.Edits =
     (i : Tables) × (a0 : List Machine) × (a : List Machine) × Accepts held names i a0 a
 
 -- all files before it were read, reading the file failed, and its count of faults rose
-pub record ReadFailed (held : Held) (names : Names) (before now : Faults) (f : File) : Type 0 where
+pub record FileReadFailed (held : Held) (names : Names) (before now : Faults) (f : File) : Type 0 where
   pub earlier : ReadBefore held names f
   pub named : IsNamed names f
   pub rose : Rose (before (name_of names f)) (now (name_of names f))
@@ -94,7 +94,7 @@ pub record RoleBreaks (held : Held) (names : Names) (which : Role) (cause : Caus
 -- `own` has the job's own reasons: those of its refusals other than of the model, of the closed list, of the lists and
 -- of memory
 abbrev pub Reason : Held → Names → Faults → Faults → (Refusal → Type 0) → Refusal → Type 0
-Reason held names before now own (Read f) = ReadFailed held names before now f
+Reason held names before now own (Read f) = FileReadFailed held names before now f
 Reason held names before now own (Model fault) = ModelRefused held names.model fault
 Reason held names before now own (Closed fault) = ClosedRefused held names.model names.closed fault
 Reason held names before now own (Assign which fault) = RoleRefused held names which fault

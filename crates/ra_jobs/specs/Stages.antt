@@ -95,7 +95,7 @@ StartReason i a0 written (Broken role.Changed cause) = ⊥
 StartReason i a0 written refusal = WriteReason written refusal
 
 -- all files were accepted, and the initial list fits the instance
-pub record IsStart (held : Held) (names : Names) (i : Tables) (a0 : List Machine) : Type 0 where
+pub record IsAcceptedStart (held : Held) (names : Names) (i : Tables) (a0 : List Machine) : Type 0 where
   pub accepts : Accepts held names i a0 a0
   pub fits : IsAssignment i a0
 

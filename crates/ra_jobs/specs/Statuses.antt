@@ -20,16 +20,16 @@ status_of refusal.Write = WriteFault
 status_of refusal.Memory = NoMemory
 
 -- the exit status of the program
-unfoldable pub number_of : Status → ℕ
-number_of Done = 0
-number_of Usage = 2
-number_of ReadFault = 3
-number_of BadModel = 4
-number_of BadAssignment = 5
-number_of Infeasible = 6
-number_of WriteFault = 7
-number_of NoMemory = 8
-number_of BadClosed = 10
-number_of Wrong = 9
-number_of Unrepaired = 11
-number_of BadEdits = 12
+unfoldable pub status_number : Status → ℕ
+status_number Done = 0
+status_number Usage = 2
+status_number ReadFault = 3
+status_number BadModel = 4
+status_number BadAssignment = 5
+status_number Infeasible = 6
+status_number WriteFault = 7
+status_number NoMemory = 8
+status_number BadClosed = 10
+status_number Wrong = 9
+status_number Unrepaired = 11
+status_number BadEdits = 12

@@ -2,7 +2,7 @@ ghost use Rattle.std.specs.Prelude.{IfOk, IfErr};
 ghost use Rattle.ra_io.specs.Outside.{LeavesFiles, reading};
 ghost use Rattle.ra_jobs.specs.Files.{names_of, IsNamed};
 ghost use Rattle.ra_jobs.specs.Refusals.{Reason, Nothing};
-ghost use Rattle.ra_jobs.specs.Stages.{IsStart};
+ghost use Rattle.ra_jobs.specs.Stages.{IsAcceptedStart};
 
 use crate::lists::read_list;
 use crate::reading::read_instance;
@@ -27,7 +27,7 @@ pub fn read_start<F: Files>(
 ) -> Result<Start, Refusal>
     requires initial { IsNamed (names_of names.now) File.Initial }
     requires alone { IsNamed (names_of names.now) File.Changed → ⊥ }
-    ensures read { IfOk result (λ s. IsStart (F.held files.old) (names_of names.now)
+    ensures read { IfOk result (λ s. IsAcceptedStart (F.held files.old) (names_of names.now)
         s.inst.tables s.initial.items) }
     ensures refused { IfErr result (Reason (F.held files.old) (names_of names.now)
         (F.faults files.old) (F.faults files.new) Nothing) }

@@ -1,5 +1,5 @@
 ghost use Rattle.std.specs.Prelude.{◌≡◌};
-ghost use Rattle.ra_jobs.specs.Statuses.{number_of};
+ghost use Rattle.ra_jobs.specs.Statuses.{status_number};
 
 /// How a job ended.
 #[derive(Clone, Copy, Debug, PartialEq, Eq)]
@@ -32,9 +32,9 @@ pub enum Status {
 
 impl Status {
     /// The exit status of the program.
-    #[tactic(auto, unfolding(crate::specs::Statuses::number_of))]
+    #[tactic(auto, unfolding(crate::specs::Statuses::status_number))]
     pub fn number(self) -> u8
-        ensures { result ≡ number_of self }
+        ensures { result ≡ status_number self }
     {
         match self {
             Status::Done => 0,

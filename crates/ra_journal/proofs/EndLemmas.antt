@@ -29,9 +29,9 @@ use Rattle.ra_guards.proofs.ResidentLemmas.{untouched_is_right}
 use Rattle.ra_journal.specs.declared.book.Book.{Book}
 use Rattle.ra_journal.specs.declared.entries.Entry.{Entry}
 use Rattle.ra_journal.specs.Entries.{made_in, entries_of, words, allowed}
-use Rattle.ra_journal.specs.States.{state, cost_at}
+use Rattle.ra_journal.specs.States.{state, cost_of_state}
 use Rattle.ra_journal.specs.Legal.{Legal, IsLegalAt}
-use Rattle.ra_journal.specs.Laws.{IsSound}
+use Rattle.ra_journal.specs.Laws.{IsSoundAt}
 use Rattle.ra_journal.specs.Committing.{next_number, next_move, next_entry, newer_since, IsCommit}
 use Rattle.ra_journal.specs.Keeping.{IsStart, IsKept}
 use Rattle.ra_journal.proofs.Offers.{plan_offered}
@@ -42,7 +42,7 @@ use Rattle.ra_journal.proofs.StandingLemmas.{legal_moves}
 -- the states of a legal journal
 
 pub sound_at : (i : Tables) (a0 : List Machine) (l : Lots) (h : List Entry) (j : ℕ) → IsStart i a0 → Legal i a0 l h →
-    j ≤ length h → IsSound i a0 h j
+    j ≤ length h → IsSoundAt i a0 h j
 sound_at i a0 l h j start legal within =
     sound i a0 l h start.limits start.fits (feasible_from_unbroken i a0 a0 start.limits start.fits start.unbroken) legal
     j within
@@ -149,7 +149,7 @@ pub settling_now : (i : Tables) (a0 : List Machine) (l : Lots) (book : Book) (w 
     IsSettling (situation i a0 (state a0 book.entries.items (length book.entries.items))) plan.mv.steps book.greatest
     book.kept
     plan.weighed
-unfolding cost_at
+unfolding cost_of_state
 settling_now i a0 l book w plan start kept commit none =
     let h = book.entries.items in
     let end = planned_at_end i a0 l h w plan start kept.legal commit none in

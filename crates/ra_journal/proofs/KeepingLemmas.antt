@@ -25,11 +25,11 @@ use Rattle.ra_guards.specs.Versions.{touches}
 use Rattle.ra_journal.specs.declared.book.Book.{Book}
 use Rattle.ra_journal.specs.declared.entries.Entry.{Entry}
 use Rattle.ra_journal.specs.Entries.{steps_made, made_by, made_in, entries_of, allowed}
-use Rattle.ra_journal.specs.States.{state, after_made, kept_cost, cost_then, cost_at}
+use Rattle.ra_journal.specs.States.{state, after_made, kept_cost, cost_then, cost_of_state}
 use Rattle.ra_journal.specs.Best.{best_place, best_of}
 use Rattle.ra_journal.specs.Legal.{Legal, IsLegalAt}
 use Rattle.ra_journal.specs.Keeping.{IsStart, AreMadeBy, IsKept}
-use Rattle.ra_journal.specs.Recording.{IsAdded, AreChangedBy, AreTouched, IsTakenIn, IsBestKept}
+use Rattle.ra_journal.specs.Recording.{IsAdded, AreChangedBy, AreTouchedVersions, IsTakenIn, IsBestKept}
 use Rattle.ra_journal.proofs.AddedLemmas.{entries_added, state_added, kept_added, version_added}
 use Rattle.ra_journal.proofs.BestLemmas.{best_added, same_cost, best_within}
 use Rattle.ra_journal.proofs.NextLemmas.{next_legal}
@@ -42,7 +42,7 @@ pub record IsRecorded (i : Tables) (e : Entry) (weighed : Weighed) (before after
   pub entries : after.entries.items ≡ before.entries.items ++ e ∷ []
   pub room : after.entries.room ≡ before.entries.room
   pub made : after.made ≡ set before.made e.worker (get_or before.made e.worker 0 + 1)
-  pub versions : AreTouched i (made_by e) (suc (length before.entries.items)) before.versions after.versions
+  pub versions : AreTouchedVersions i (made_by e) (suc (length before.entries.items)) before.versions after.versions
   pub done : (cost : ℕ) → e.verdict ≡ Done cost → AreChangedBy i e.mv.steps weighed before.greatest after.greatest
   pub refused : (cause : Cause) → e.verdict ≡ Refused cause → after.greatest ≡ before.greatest
   pub kept : after.kept ≡ cost_then before.kept e.verdict
@@ -119,7 +119,7 @@ made_kept l h e before after made there is = record {
 
 -- the versions
 versions_kept : (i : Tables) (h : List Entry) (e : Entry) (before after : VersionTable) →
-    AreVersions i (made_in h) (length h) before → AreTouched i (made_by e) (suc (length h)) before after →
+    AreVersions i (made_in h) (length h) before → AreTouchedVersions i (made_by e) (suc (length h)) before after →
     AreVersions i (made_in (h ++ e ∷ [])) (suc (length h)) after
 versions_kept i h e before after versions is = record {
   sized = is.sized;
@@ -154,10 +154,10 @@ record IsKeptAt (i : Tables) (a0 : List Machine) (l : Lots) (g : List Entry) (n 
   made : AreMadeBy l g f.made
   cost : f.kept ≡ kept_cost i a0 g n
   best_at : f.best_at ≡ best_place i a0 g n
-  best_cost : f.best_cost ≡ cost_at i a0 g f.best_at
+  best_cost : f.best_cost ≡ cost_of_state i a0 g f.best_at
 
-best_cost_is : (better : Bool) (i : Tables) (a0 : List Machine) (g : List Entry) (n p x y : ℕ) → x ≡ cost_at i a0 g n →
-    y ≡ cost_at i a0 g p → cond better x y ≡ cost_at i a0 g (cond better n p)
+best_cost_is : (better : Bool) (i : Tables) (a0 : List Machine) (g : List Entry) (n p x y : ℕ) →
+    x ≡ cost_of_state i a0 g n → y ≡ cost_of_state i a0 g p → cond better x y ≡ cost_of_state i a0 g (cond better n p)
 best_cost_is true i a0 g n p x y x_is y_is = x_is
 best_cost_is false i a0 g n p x y x_is y_is = y_is
 
@@ -184,9 +184,10 @@ kept_at i a0 l e weighed b f start kept next recorded =
     let legal = next_legal i a0 l h e kept.legal next.legal in
     let cost : f.kept ≡ kept_cost i a0 g (suc n) = recorded.kept ∙ ap (λ c. cost_then c e.verdict) kept.cost
     ∙ sym (kept_added i a0 h e) in
-    let costs : f.kept ≡ cost_at i a0 g (suc n) = cost
+    let costs : f.kept ≡ cost_of_state i a0 g (suc n) = cost
     ∙ (sound_at i a0 l g (suc n) start legal (omega (arith, length_push h e))).kept in
-    let best : b.best_cost ≡ cost_at i a0 h (best_of i a0 h) = kept.best_cost ∙ ap (cost_at i a0 h) kept.best_at in
+    let best : b.best_cost ≡ cost_of_state i a0 h (best_of i a0 h) = kept.best_cost
+    ∙ ap (cost_of_state i a0 h) kept.best_at in
     let place : f.best_at ≡ best_place i a0 g (suc n) = recorded.best_at
     ∙ chosen f.kept _ b.best_cost _ (suc n) (suc n) b.best_at _ costs best refl kept.best_at
     ∙ sym (best_added i a0 h e) in
@@ -202,7 +203,7 @@ kept_at i a0 l e weighed b f start kept next recorded =
       best_at = place;
       best_cost = recorded.best_cost ∙ best_cost_is (ltb f.kept b.best_cost) i a0 g (suc n) b.best_at f.kept b.best_cost
           costs (kept.best_cost ∙ same_cost i a0 h g n b.best_at (same_added h e) there)
-          ∙ ap (cost_at i a0 g) (sym recorded.best_at);
+          ∙ ap (cost_of_state i a0 g) (sym recorded.best_at);
     }
 
 pub kept_more : (i : Tables) (a0 : List Machine) (l : Lots) (e : Entry) (weighed : Weighed) (b f : Book) →
@@ -227,5 +228,5 @@ kept_more i a0 l e weighed b f start kept next recorded =
       made = subst (λ (h : List Entry). AreMadeBy l h f.made) is at.made;
       cost = at.cost ∙ ap₂ (kept_cost i a0) is long;
       best_at = at.best_at ∙ ap₂ (best_place i a0) is long;
-      best_cost = at.best_cost ∙ ap (λ (h : List Entry). cost_at i a0 h f.best_at) is;
+      best_cost = at.best_cost ∙ ap (λ (h : List Entry). cost_of_state i a0 h f.best_at) is;
     }

@@ -16,7 +16,7 @@ use Rattle.ra_moves.specs.Steps.{process_in, from_in}
 use Rattle.ra_moves.specs.Options.{kind_of, shift_of, swap_of, chain_of, option_of, option_at, plan_of, plan_place}
 use Rattle.ra_moves.proofs.OptionLemmas.{option_stands, option_reaches}
 use Rattle.ra_moves.proofs.Repeats.{distinct_from_none}
-use Rattle.ra_moves.specs.Touched.{ends_at}
+use Rattle.ra_moves.specs.Touched.{touches_machine}
 use Rattle.ra_moves.specs.Moving.{IsOffered}
 use Rattle.ra_moves.specs.Alike.{HeldAlike}
 
@@ -57,8 +57,8 @@ plan_offered i a0 a x d rise limits fits = λ none.
     }
 
 -- a machine that a step leaves is an end of the move
-pub left_is_end : (steps : List Step) (j : ℕ) → j < length steps → ends_at steps (from_in steps j) ≡ true
-unfolding ends_at
+pub left_is_end : (steps : List Step) (j : ℕ) → j < length steps → touches_machine steps (from_in steps j) ≡ true
+unfolding touches_machine
 left_is_end steps j within = or_left _ _ (is_named_at (length steps) j (from_in steps) (from_in steps j) within refl)
 
 -- its processes stay where they are

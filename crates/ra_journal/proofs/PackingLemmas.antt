@@ -12,14 +12,14 @@ use Rattle.ra_journal.specs.declared.entries.Entry.{Entry}
 use Rattle.ra_journal.specs.declared.packed.Packed.{Packed}
 use Rattle.ra_journal.specs.Batches.{batch_from}
 use Rattle.ra_journal.specs.Entries.{entry_at}
-use Rattle.ra_journal.specs.Packing.{verdict_in, steps_in, unpacked}
+use Rattle.ra_journal.specs.Packing.{verdict_in, steps_of_kind, unpacked}
 use Rattle.ra_journal.proofs.BatchLemmas.{batch_is}
 
 -- the steps of a move are the first ones of its first, its second or last, and its last
 steps_back : (kind : MoveKind) (steps : List Step) → length steps ≡ step_count kind →
-    steps_in kind (step_at steps 0) (step_at steps (min (length steps - 1) 1)) (step_at steps (length steps - 1)) ≡
+    steps_of_kind kind (step_at steps 0) (step_at steps (min (length steps - 1) 1)) (step_at steps (length steps - 1)) ≡
     steps
-unfolding step_count steps_in step_at
+unfolding step_count steps_of_kind step_at
 steps_back Shift (one ∷ []) long = refl
 steps_back Swap (one ∷ two ∷ []) long = refl
 steps_back Chain (one ∷ two ∷ three ∷ []) long = refl
@@ -40,9 +40,10 @@ pub packed_back : (e : Entry) (p : Packed) (last : ℕ) → length e.mv.steps �
 unfolding unpacked
 packed_back e p last long last_is verdict worker kind k q first second third =
     let at : last ≡ length e.mv.steps - 1 = omega (arith, last_is) in
-    let steps : steps_in e.mv.kind (step_at e.mv.steps 0) (step_at e.mv.steps (min last 1)) (step_at e.mv.steps last) ≡
+    let steps : steps_of_kind e.mv.kind (step_at e.mv.steps 0) (step_at e.mv.steps (min last 1))
+    (step_at e.mv.steps last) ≡
     e.mv.steps =
-    ap (λ n. steps_in e.mv.kind (step_at e.mv.steps 0) (step_at e.mv.steps (min n 1)) (step_at e.mv.steps n)) at
+    ap (λ n. steps_of_kind e.mv.kind (step_at e.mv.steps 0) (step_at e.mv.steps (min n 1)) (step_at e.mv.steps n)) at
     ∙ steps_back e.mv.kind e.mv.steps long in
     rw (worker, kind, k, q, first, second, third, verdict, steps) refl
 

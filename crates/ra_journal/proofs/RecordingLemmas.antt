@@ -30,7 +30,7 @@ use Rattle.ra_journal.specs.Committing.{next_number, newer_since, IsCommit}
 use Rattle.ra_journal.specs.Keeping.{IsStart, IsKept}
 use Rattle.ra_journal.specs.Packing.{IsSmall}
 use Rattle.ra_journal.specs.SmallSteps.{AreSmallSteps}
-use Rattle.ra_journal.specs.Recording.{AreChangesOf, AreChangedBy, AreTouched, IsTakenIn}
+use Rattle.ra_journal.specs.Recording.{AreChangesOf, AreChangedBy, AreTouchedVersions, IsTakenIn}
 use Rattle.ra_journal.proofs.EndLemmas.{planned_within, planned_at_end, next_is_legal}
 use Rattle.ra_journal.proofs.KeepingLemmas.{IsNext}
 use Rattle.ra_journal.proofs.RoomLemmas.{AreNumbered, entries_within, entries_few, entries_fewer, proposals_few}
@@ -105,7 +105,7 @@ counts_fit i a0 a steps moved kept weighed limits settling =
 
 pub taken_done : (i : Tables) (steps : List Step) (weighed : Weighed) (verdict : Verdict) (cost number : ℕ)
     (before after : Book) → verdict ≡ Done cost → after.entries ≡ before.entries → after.made ≡ before.made →
-    number ≡ length before.entries.items → AreTouched i (Some steps) number before.versions after.versions →
+    number ≡ length before.entries.items → AreTouchedVersions i (Some steps) number before.versions after.versions →
     AreChangedBy i steps weighed before.greatest after.greatest → after.kept ≡ cost → after.best_at ≡ before.best_at →
     after.best_cost ≡ before.best_cost → IsTakenIn i steps weighed verdict before after
 unfolding steps_made cost_then
@@ -113,7 +113,7 @@ taken_done i steps weighed verdict cost number before after is entries made long
     rw is (record {
       entries = entries;
       made = made;
-      versions = subst (λ n. AreTouched i (Some steps) n before.versions after.versions) long versions;
+      versions = subst (λ n. AreTouchedVersions i (Some steps) n before.versions after.versions) long versions;
       done = λ other same. put;
       refused = λ cause same. absurd (cc (same));
       kept = kept;

@@ -30,7 +30,7 @@ use Rattle.ra_guards.specs.Guards.{AreKnown}
 use Rattle.ra_journal.specs.declared.entries.Entry.{Entry}
 use Rattle.ra_journal.specs.Entries.{entry_at, steps_made, made_by, words, allowed}
 use Rattle.ra_guards.specs.Made.{after_made}
-use Rattle.ra_journal.specs.States.{state, kept_cost, cost_then, cost_at}
+use Rattle.ra_journal.specs.States.{state, kept_cost, cost_then, cost_of_state}
 use Rattle.ra_journal.specs.Legal.{IsLegalAt, Legal}
 use Rattle.ra_journal.specs.Laws.{LegalIsSound}
 
@@ -167,7 +167,7 @@ good_up_to i a0 l h limits fits feasible legal (suc j) few k below = ⊎_elim
     (cases_lt k (suc j))
 
 pub sound : LegalIsSound
-unfolding cost_at
+unfolding cost_of_state
 sound i a0 l h limits fits feasible legal j within =
     let good = good_up_to i a0 l h limits fits feasible legal j within j (omega arith) in
     record { assignment = good.assignment; feasible = good.feasible; kept = good.kept }

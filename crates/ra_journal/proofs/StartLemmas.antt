@@ -16,7 +16,7 @@ use Rattle.ra_journal.specs.declared.entries.Entry.{Entry}
 use Rattle.ra_journal.specs.Best.{best_place, best_of}
 use Rattle.ra_journal.specs.Entries.{made_in, entry_at, entries_of, proposal_count}
 use Rattle.ra_journal.specs.Keeping.{IsKept}
-use Rattle.ra_journal.specs.States.{state, kept_cost, cost_at}
+use Rattle.ra_journal.specs.States.{state, kept_cost, cost_of_state}
 use Rattle.ra_journal.proofs.AddedLemmas.{version_few}
 use Rattle.ra_journal.proofs.BestLemmas.{best_start}
 use Rattle.ra_journal.proofs.RecordingLemmas.{worker_below}
@@ -30,7 +30,7 @@ pub kept_start : (i : Tables) (a0 : List Machine) (l : Lots) (book : Book) → b
     book.greatest.counts ≡ replicate (service_count i) 0 → book.greatest.limit ≡ process_count i →
     book.made ≡ replicate 16 0 → book.kept ≡ objective i a0 a0 → book.best_at ≡ 0 → book.best_cost ≡ objective i a0 a0 →
     IsKept i a0 l book
-unfolding state kept_cost cost_at best_of
+unfolding state kept_cost cost_of_state best_of
 kept_start i a0 l book entries room zero_versions counts limit made kept best_at best_cost =
     let h = book.entries.items in
     let none : 0 ≡ length h = ap (λ (xs : List Entry). length xs) (sym entries) in
@@ -55,5 +55,5 @@ kept_start i a0 l book entries room zero_versions counts limit made kept best_at
       };
       cost = kept ∙ ap (kept_cost i a0 h) none;
       best_at = best_at ∙ sym (best_start i a0 h) ∙ ap (best_place i a0 h) none;
-      best_cost = best_cost ∙ ap (cost_at i a0 h) (sym best_at);
+      best_cost = best_cost ∙ ap (cost_of_state i a0 h) (sym best_at);
     }

@@ -12,13 +12,13 @@ use Rattle.ra_model.specs.Limits.{WellFormed}
 use Rattle.ra_model.specs.Numbers.{machine_count, service_count}
 use Rattle.ra_moves.specs.declared.steps.Step.{Step}
 use Rattle.ra_moves.specs.Steps.{process_in, from_in, to_in}
-use Rattle.ra_moves.specs.Touched.{ends_at, service_in, moves_service}
+use Rattle.ra_moves.specs.Touched.{touches_machine, service_in, moves_service}
 use Rattle.ra_guards.specs.Guards.{writes, AreWithin}
 use Rattle.ra_guards.specs.Order.{AreWrites}
 use Rattle.ra_guards.specs.VersionTable.{VersionTable}
 use Rattle.ra_guards.specs.Kept.{HasGuard, version_in, IsTableOf, IsTouched}
 use Rattle.ra_guards.specs.Versions.{touches}
-use Rattle.ra_journal.specs.Recording.{AreTouched}
+use Rattle.ra_journal.specs.Recording.{AreTouchedVersions}
 
 -- what is written is a guard of the instance
 named_below : (n m : ℕ) (e : ℕ → ℕ) (x : ℕ) → is_named n e x ≡ true → ((k : ℕ) → k < n → e k < m) → x < m
@@ -31,7 +31,7 @@ end_below false enters x m one other is = other is
 
 written_known : (i : Tables) (steps : List Step) (v : VersionTable) (g : Guard) → WellFormed i → AreWithin i steps →
     IsTableOf i v → writes i steps g ≡ true → HasGuard v g
-unfolding writes HasGuard ends_at moves_service service_in
+unfolding writes HasGuard touches_machine moves_service service_in
 written_known i steps v (guard.Machine m) limits within sized is =
     let below = end_below (is_named (length steps) (from_in steps) m.0) (is_named (length steps) (to_in steps) m.0) m.0
     (machine_count i)
@@ -52,7 +52,7 @@ writes_known i steps v guards limits within sized are k d there =
 
 pub touched : (i : Tables) (steps : List Step) (before after : VersionTable) (guards : List Guard) (number : ℕ) →
     IsTableOf i before → AreWrites i steps guards → IsTouched before after guards number →
-    AreTouched i (Some steps) number before after
+    AreTouchedVersions i (Some steps) number before after
 unfolding touches
 touched i steps before after guards number sized are is = record {
   sized = record { machines = is.machines ∙ sized.machines; services = is.services ∙ sized.services };
@@ -65,6 +65,7 @@ touched i steps before after guards number sized are is = record {
       (cases_Bool (writes i steps g));
 }
 
-pub touched_nothing : (i : Tables) (number : ℕ) (v : VersionTable) → IsTableOf i v → AreTouched i None number v v
+pub touched_nothing : (i : Tables) (number : ℕ) (v : VersionTable) → IsTableOf i v →
+    AreTouchedVersions i None number v v
 unfolding touches
 touched_nothing i number v sized = record { sized = sized; each = λ g. refl }

@@ -12,7 +12,7 @@ use Rattle.ra_guards.specs.Kept.{AreVersions}
 use Rattle.ra_journal.specs.declared.book.Book.{Book}
 use Rattle.ra_journal.specs.declared.entries.Entry.{Entry}
 use Rattle.ra_journal.specs.Entries.{made_in, entries_of, worker_count, proposal_count}
-use Rattle.ra_journal.specs.States.{state, kept_cost, cost_at}
+use Rattle.ra_journal.specs.States.{state, kept_cost, cost_of_state}
 use Rattle.ra_journal.specs.Best.{best_of}
 use Rattle.ra_journal.specs.Legal.{Legal}
 
@@ -39,4 +39,4 @@ pub record IsKept (i : Tables) (a0 : List Machine) (l : Lots) (book : Book) : Ty
   pub made : AreMadeBy l book.entries.items book.made
   pub cost : book.kept ≡ kept_cost i a0 book.entries.items (length book.entries.items)
   pub best_at : book.best_at ≡ best_of i a0 book.entries.items
-  pub best_cost : book.best_cost ≡ cost_at i a0 book.entries.items book.best_at
+  pub best_cost : book.best_cost ≡ cost_of_state i a0 book.entries.items book.best_at

@@ -11,21 +11,21 @@ use Rattle.ra_moves.specs.Moving.{IsMove, IsOffered}
 use Rattle.ra_journal.specs.declared.entries.Entry.{Entry}
 use Rattle.ra_journal.specs.Committing.{next_number, committed}
 use Rattle.ra_journal.specs.Entries.{entry_at, made_by, worker_count, budget}
-use Rattle.ra_journal.specs.States.{state, kept_cost, cost_at}
+use Rattle.ra_journal.specs.States.{state, kept_cost, cost_of_state}
 use Rattle.ra_journal.specs.Legal.{IsLegalAt, Legal, Whole}
 use Rattle.ra_journal.specs.Solo.{solo}
 
 -- what holds of the state at place j
-pub record IsSound (i : Tables) (a0 : List Machine) (h : List Entry) (j : ℕ) : Type 0 where
+pub record IsSoundAt (i : Tables) (a0 : List Machine) (h : List Entry) (j : ℕ) : Type 0 where
   pub assignment : IsAssignment i (state a0 h j)
   pub feasible : Feasible i a0 (state a0 h j)
-  pub kept : kept_cost i a0 h j ≡ cost_at i a0 h j
+  pub kept : kept_cost i a0 h j ≡ cost_of_state i a0 h j
 
 -- if the start is feasible and the journal legal, every state is feasible, and the kept cost is its objective
 abbrev pub LegalIsSound : Type 0
 LegalIsSound =
     (i : Tables) (a0 : List Machine) (l : Lots) (h : List Entry) → WellFormed i → IsAssignment i a0
-    → Feasible i a0 a0 → Legal i a0 l h → (j : ℕ) → j ≤ length h → IsSound i a0 h j
+    → Feasible i a0 a0 → Legal i a0 l h → (j : ℕ) → j ≤ length h → IsSoundAt i a0 h j
 
 -- what the first n entries make are moves of the states before them: each process is named once, is on the machine that
 -- its step leaves, and enters a machine of the instance

@@ -38,10 +38,10 @@ verdict_in (outcome.Rise allowed before after) = verdict.Refused (cause.Rise all
 verdict_in (outcome.Closed process machine) = verdict.Refused (cause.Closed process machine)
 
 -- the steps of a move of a kind: as many of these three as the kind has
-unfoldable pub steps_in : MoveKind → Step → Step → Step → List Step
-steps_in Shift one two three = one ∷ []
-steps_in Swap one two three = one ∷ two ∷ []
-steps_in Chain one two three = one ∷ two ∷ three ∷ []
+unfoldable pub steps_of_kind : MoveKind → Step → Step → Step → List Step
+steps_of_kind Shift one two three = one ∷ []
+steps_of_kind Swap one two three = one ∷ two ∷ []
+steps_of_kind Chain one two three = one ∷ two ∷ three ∷ []
 
 -- the entry that was packed
 unfoldable pub unpacked : Packed → Entry
@@ -49,7 +49,7 @@ unpacked p = record {
   worker = p.worker;
   k = p.k;
   q = p.q;
-  mv = record { kind = p.kind; steps = steps_in p.kind p.first p.second p.third };
+  mv = record { kind = p.kind; steps = steps_of_kind p.kind p.first p.second p.third };
   verdict = verdict_in p.outcome;
 }
 

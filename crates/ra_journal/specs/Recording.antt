@@ -75,7 +75,7 @@ pub record AreChangedBy (i : Tables) (steps : List Step) (weighed : Weighed)
       → AreMovedOf (situation i a0 (applied a steps)) after
 
 -- each touched guard has this version, and the others keep theirs
-pub record AreTouched (i : Tables) (made : Option (List Step)) (number : ℕ)
+pub record AreTouchedVersions (i : Tables) (made : Option (List Step)) (number : ℕ)
     (before after : VersionTable) : Type 0 where
   pub sized : IsTableOf i after
   pub each : (g : Guard)
@@ -87,7 +87,7 @@ pub record IsTakenIn (i : Tables) (steps : List Step) (weighed : Weighed) (verdi
   pub entries : after.entries ≡ before.entries
   pub made : after.made ≡ before.made
   pub versions :
-      AreTouched i (steps_made verdict steps) (length before.entries.items) before.versions
+      AreTouchedVersions i (steps_made verdict steps) (length before.entries.items) before.versions
       after.versions
   pub done : (cost : ℕ) → verdict ≡ Done cost
       → AreChangedBy i steps weighed before.greatest after.greatest

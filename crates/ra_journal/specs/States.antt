@@ -31,5 +31,5 @@ kept_cost i a0 h zero = objective i a0 a0
 kept_cost i a0 h (suc j) = cost_then (kept_cost i a0 h j) (entry_at h j).verdict
 
 -- the challenge's objective of the state at place j, computed from scratch
-unfoldable pub cost_at : Tables → List Machine → List Entry → ℕ → ℕ
-cost_at i a0 h j = objective i a0 (state a0 h j)
+unfoldable pub cost_of_state : Tables → List Machine → List Entry → ℕ → ℕ
+cost_of_state i a0 h j = objective i a0 (state a0 h j)

@@ -41,7 +41,7 @@ impl<'a> Journal<'a> {
     ghost use Rattle.ra_journal.specs.Journals.{instance_in, tables_in, topology_in, start_in, lots_in, list_in, entries_in, newer_in, MayHandIn, HasHeld, IsOpened, Answers};
     ghost use Rattle.ra_journal.specs.Quiet.{AreRefused};
     ghost use Rattle.ra_topology.specs.Starts.{IsFeasibleStart};
-    ghost use Rattle.ra_journal.specs.States.{kept_cost, cost_at};
+    ghost use Rattle.ra_journal.specs.States.{kept_cost, cost_of_state};
 
     /// The journal without entries, over a feasible initial assignment whose cost has these parts.
     pub fn make(
@@ -202,7 +202,7 @@ impl<'a> Journal<'a> {
 
     /// The cost of that state.
     pub fn best_cost(&self) -> u128
-        ensures { result ≡ cost_at (tables_in self.now) (start_in self.now) (entries_in self.now)
+        ensures { result ≡ cost_of_state (tables_in self.now) (start_in self.now) (entries_in self.now)
             (best_of (tables_in self.now) (start_in self.now) (entries_in self.now)) }
     {
         self.book.best_cost

@@ -69,7 +69,7 @@ pub(crate) fn unpack(packed: &Packed) -> Entry
 }
 
 /// The move that was packed.
-#[tactic(auto, unfolding(crate::specs::Packing::unpacked, crate::specs::Packing::steps_in))]
+#[tactic(auto, unfolding(crate::specs::Packing::unpacked, crate::specs::Packing::steps_of_kind))]
 fn move_in(packed: &Packed) -> Move
     ensures { result ≡ (unpacked packed.now).mv }
 {

@@ -7,7 +7,7 @@ ghost use Rattle.ra_guards.specs.Order.{AreWrites};
 ghost use Rattle.ra_journal.specs.Entries.{allowed, steps_made};
 ghost use Rattle.ra_journal.specs.Keeping.{IsStart, IsKept};
 ghost use Rattle.ra_journal.specs.Packing.{IsSmall};
-ghost use Rattle.ra_journal.specs.Recording.{MayRecord, HasRecorded, IsAdded, AreChangesOf, AreTouched, IsTakenIn, IsBestKept};
+ghost use Rattle.ra_journal.specs.Recording.{MayRecord, HasRecorded, IsAdded, AreChangesOf, AreTouchedVersions, IsTakenIn, IsBestKept};
 ghost use Rattle.ra_journal.specs.States.{state};
 ghost use Rattle.ra_model.specs.Situations.{situation};
 
@@ -134,7 +134,7 @@ fn touch(
     requires within { AreWithin inst.now.tables mv.now.steps }
     requires held { IfSome (option_copied held) (AreWrites inst.now.tables mv.now.steps) }
     requires sized { IsTableOf inst.now.tables versions.old }
-    ensures { AreTouched inst.now.tables (Some mv.now.steps) version versions.old versions.new }
+    ensures { AreTouchedVersions inst.now.tables (Some mv.now.steps) version versions.old versions.new }
 {
     match held {
         Some(guards) => versions.touch(guards, version),
@@ -152,7 +152,7 @@ fn touch_gathered(
 )
     requires within { AreWithin inst.now.tables mv.now.steps }
     requires sized { IsTableOf inst.now.tables versions.old }
-    ensures { AreTouched inst.now.tables (Some mv.now.steps) version versions.old versions.new }
+    ensures { AreTouchedVersions inst.now.tables (Some mv.now.steps) version versions.old versions.new }
 {
     let guards = writes(topo, inst, mv);
     versions.touch(&guards, version);

@@ -5,7 +5,7 @@ use Rattle.ra_base.proofs.Least.{least_means, least_none_from, least_there}
 use Rattle.ra_model.specs.Numbers.{machine_count}
 use Rattle.ra_model.specs.Situations.{situation}
 use Rattle.ra_moves.specs.Options.{option_count, option_cost, plan_place, plan_of}
-use Rattle.ra_journal.specs.States.{cost_at}
+use Rattle.ra_journal.specs.States.{cost_of_state}
 use Rattle.ra_journal.specs.Best.{best_place, best_of}
 use Rattle.ra_repair.specs.Runs.{try_count, option_penalty, chosen}
 use Rattle.ra_laws.specs.LeastLaws.{IsChosen, PlanIsLeast, BestIsLeast, ChoiceIsLeast}
@@ -44,7 +44,7 @@ plan_is_least i a0 a x d allowed = (
 
 pub best_is_least : BestIsLeast
 unfolding best_of best_place
-best_is_least i a0 h = least_of_all (length h) (cost_at i a0 h)
+best_is_least i a0 h = least_of_all (length h) (cost_of_state i a0 h)
 
 pub choice_is_least : ChoiceIsLeast
 unfolding chosen

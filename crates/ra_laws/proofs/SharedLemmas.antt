@@ -9,7 +9,7 @@ use Rattle.ra_moves.specs.declared.steps.Step.{Step}
 use Rattle.ra_guards.specs.Order.{IsKnown}
 use Rattle.ra_guards.specs.Versions.{made_at, touches, stamp, version}
 use Rattle.ra_turn.specs.Notes.{IsVersion}
-use Rattle.ra_shared.specs.Numbers.{number_of, touches_number}
+use Rattle.ra_shared.specs.Numbers.{number_of_guard, touches_number}
 use Rattle.ra_laws.specs.SharedLaws.{VersionsAgree}
 use Rattle.ra_base.proofs.Greatest.{greatest_at, greatest_least}
 use Rattle.ra_shared.proofs.Agree.{touches_agree}
@@ -32,13 +32,13 @@ unfolding stamp
 stamp_untouched i made g j untouched = cond-false _ (suc j) 0 untouched
 
 module _ {N : Type 0} (i : Tables) (makes : N → Option (List Step)) (history : List N) (g : Guard) (v : ℕ)
-    (known : IsKnown i g) (is : IsVersion (λ x. touches_number i (makes x) (number_of i g)) history v) where
+    (known : IsKnown i g) (is : IsVersion (λ x. touches_number i (makes x) (number_of_guard i g)) history v) where
   abbrev made : List (Option (List Step))
   made = map makes history
 
   -- the entry at a place touches the guard if it touches its number
   there : (j : ℕ) (x : N) → slice_get history j ≡ Some x → touches i (made_at made j) g ≡ touches_number i (makes x)
-      (number_of i g)
+      (number_of_guard i g)
   there j x e = ap (λ (m : Option (List Step)). touches i m g) (made_there makes history j x e)
       ∙ sym (touches_agree i (makes x) g known)
 

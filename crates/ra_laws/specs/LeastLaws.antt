@@ -8,7 +8,7 @@ use Rattle.ra_model.specs.Numbers.{machine_count}
 use Rattle.ra_model.specs.Situations.{situation}
 use Rattle.ra_moves.specs.Options.{option_count, option_at, option_cost, plan_of}
 use Rattle.ra_journal.specs.declared.entries.Entry.{Entry}
-use Rattle.ra_journal.specs.States.{cost_at}
+use Rattle.ra_journal.specs.States.{cost_of_state}
 use Rattle.ra_journal.specs.Best.{best_of}
 use Rattle.ra_repair.specs.Runs.{try_count, try_option, option_penalty, chosen}
 
@@ -29,7 +29,8 @@ PlanIsLeast =
 abbrev pub BestIsLeast : Type 0
 BestIsLeast =
     (i : Tables) (a0 : List Machine) (h : List Entry)
-    → IsLeast (suc (length h)) (λ j. Some (cost_at i a0 h j)) (best_of i a0 h) (cost_at i a0 h (best_of i a0 h))
+    → IsLeast (suc (length h)) (λ j. Some (cost_of_state i a0 h j)) (best_of i a0 h)
+    (cost_of_state i a0 h (best_of i a0 h))
 
 -- the option that a try of a repair chooses is the first with the least penalty after it among those that neither
 -- repeat a process nor stay, and option 0 if all do

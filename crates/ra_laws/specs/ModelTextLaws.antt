@@ -3,12 +3,12 @@ use Rattle.std.specs.Prelude.{◌≡◌, ◌↔◌, None}
 use Rattle.ra_model.specs.declared.raw.Tables.{Tables}
 use Rattle.ra_model.specs.Limits.{WellFormed, Small}
 use Rattle.ra_model_read.specs.ModelText.{IsModel, model_refusal}
-use Rattle.ra_model_text.specs.ModelTexts.{IsOpened, model_text}
+use Rattle.ra_model_text.specs.ModelTexts.{IsOpenToAll, model_text}
 
 -- the text means the instance with no machine closed, and no other
 abbrev pub ModelTextsAreModels : Type 0
 ModelTextsAreModels =
-    (i opened : Tables) → WellFormed i → Small i → IsModel (model_text i) opened ↔ IsOpened i opened
+    (i opened : Tables) → WellFormed i → Small i → IsModel (model_text i) opened ↔ IsOpenToAll i opened
 
 -- nothing is wrong with the text
 abbrev pub ModelTextsAreAccepted : Type 0

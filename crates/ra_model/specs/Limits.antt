@@ -71,8 +71,8 @@ pub record Small (i : Tables) : Type 0 where
   pub machine_weight : machine_weight_of i < 2 ^ 32
 
 -- a flag for each machine, unless the flags are left out
-abbrev pub IsFlagged : Tables → Type 0
-IsFlagged i = IfSome i.closed (λ flags. length flags.items ≡ machine_count i)
+abbrev pub HasMachineFlags : Tables → Type 0
+HasMachineFlags i = IfSome i.closed (λ flags. length flags.items ≡ machine_count i)
 
 -- each number of a table is below 2^32
 pub record IsSmallTable (table : List ℕ) : Type 0 where

@@ -1,6 +1,6 @@
 ghost use Rattle.std.specs.Prelude.{◌≡◌, ℕ, ◌+◌, ◌-◌, ◌*◌, ◌<◌, ◌≤◌, length, slice_index, slice_index_or, IfOk};
 ghost use Rattle.std.proofs.Props.{props};
-ghost use Rattle.ra_model.specs.Limits.{WellFormed, Small, IsFlagged};
+ghost use Rattle.ra_model.specs.Limits.{WellFormed, Small, HasMachineFlags};
 ghost use Rattle.ra_model.specs.Numbers.{all_open, with_closed, with_processes, resource_count, machine_count, service_count, process_count, balance_count, resource_row, machine_row, service_row, process_row, balance_row, transient_at, load_weight_of, neighbourhood_of, location_of, capacity_of, safety_of, way_cost_of, spread_of, dependency_count, dependency_start, dependency_end, need_of, service_of, requirement_of, process_cost_of, process_weight_of, service_weight_of, machine_weight_of, closed_at};
 
 use crate::raw::{
@@ -19,7 +19,7 @@ pub struct Instance {
     tables: Tables,
     pub ghost well_formed: { WellFormed tables },
     pub ghost small: { Small tables },
-    pub ghost flagged: { IsFlagged tables } by { Prim.hlevel props },
+    pub ghost flagged: { HasMachineFlags tables } by { Prim.hlevel props },
 }
 
 impl Instance {

@@ -10,7 +10,7 @@ use Rattle.ra_model_read.specs.declared.faults.Field.{Field}
 use Rattle.ra_model_read.specs.declared.faults.ModelFault.{ModelFault}
 use Rattle.ra_model_read.specs.Formats.{Left, Read, Format, pure, ◌>>=◌, next_token, take_token, any, field, flag_value}
 use Rattle.ra_model_read.specs.Formats.{flag, along, ends, take_end}
-use Rattle.ra_model_read.specs.FieldOrder.{joined}
+use Rattle.ra_model_read.specs.FieldOrder.{end_to_end}
 use Rattle.ra_model_read.proofs.Outcomes.{bind_read}
 use Rattle.ra_model_read.proofs.Limited.{limited_fits}
 
@@ -102,8 +102,8 @@ accepts_flag r b = accepts_token _ r (one_if b) _ b (λ t e. flag_is b t.value _
 
 pub accepts_along : {X : Type 0} (step : ℕ → X → Format X) (made : ℕ → X) (text : ℕ → List ℕ) (n : ℕ) →
     ((k : ℕ) → k < n → Accepts (step k (made k)) (text k) (made (suc k))) →
-    Accepts (along n step (made 0)) (joined n text) (made n)
-unfolding along joined
+    Accepts (along n step (made 0)) (end_to_end n text) (made n)
+unfolding along end_to_end
 accepts_along step made text zero each = accepts_pure (made 0)
 accepts_along step made text (suc n) each =
     accepts_bind (step n) (accepts_along step made text n (λ k within. each k (omega arith))) (each n (omega arith))

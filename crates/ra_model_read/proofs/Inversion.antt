@@ -10,7 +10,7 @@ use Rattle.ra_model_read.specs.declared.faults.Field.{Field}
 use Rattle.ra_model_read.specs.declared.faults.ModelFault.{ModelFault}
 use Rattle.ra_model_read.specs.Formats.{Left, Outcome, Read, Refused, Format, pure, refuse, go_on, ◌>>=◌, next_token}
 use Rattle.ra_model_read.specs.Formats.{take_token, any, limited, field, flag_value, flag, along, ends, take_end}
-use Rattle.ra_model_read.specs.FieldOrder.{joined}
+use Rattle.ra_model_read.specs.FieldOrder.{end_to_end}
 
 -- tokens of these values were taken
 pub record Took (l m : Left) (text : List ℕ) : Type 0 where
@@ -140,8 +140,8 @@ pub along_back : {X : Type 0} (step : ℕ → X → Format X) (made : ℕ → X)
     ((k : ℕ) (y z : X) (l m : Left) → Known k y → step k y l ≡ Read z m → Known (suc k) z) → (n : ℕ) →
     ((k : ℕ) (y : X) (l m : Left) → k < n → Known k y → step k y l ≡ Read (made (suc k)) m → (y ≡ made k)
     × Took l m (text k)) → (x : X) (l m : Left) → Known 0 x → along n step x l ≡ Read (made n) m → (x ≡ made 0)
-    × Took l m (joined n text)
-unfolding along joined
+    × Took l m (end_to_end n text)
+unfolding along end_to_end
 along_back step made text Known more zero each x l m known e =
     let same = pure_back x (made 0) l m e in
     (same.0, subst (λ n. Took l n []) same.1 (took_none l))
@@ -152,7 +152,7 @@ along_back step made text Known more (suc n) each x l m known e =
     let so_far : along n step x l ≡ Read (made n) through.left = through.first ∙ ap (λ y. Read y through.left) last.0 in
     let before = along_back step made text Known more n (λ k y a b below. each k y a b (omega arith)) x l through.left
     known so_far in
-    (before.0, took_then l through.left m (joined n text) (text n) before.1 last.1)
+    (before.0, took_then l through.left m (end_to_end n text) (text n) before.1 last.1)
 
 -- the last of a list
 

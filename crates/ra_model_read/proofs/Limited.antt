@@ -6,7 +6,7 @@ use Rattle.ra_model_read.specs.declared.faults.ModelFault.{ModelFault}
 use Rattle.ra_model_read.specs.declared.faults.ModelFault.TheVariants.{Range, Flag}
 use Rattle.ra_model_read.specs.Formats.{pure, refuse, limited, flag_value}
 use Rattle.ra_token.specs.Moments.{Here, Stands}
-use Rattle.ra_model_read.specs.Reading.{Refuses}
+use Rattle.ra_model_read.specs.Reading.{FormatRefuses}
 use Rattle.ra_model_read.proofs.Steps.{refuses_here}
 
 pub limited_fits : (what : Field) (least most : ℕ) (t : Token) → least ≤ t.value → t.value ≤ most →
@@ -20,7 +20,7 @@ unfolding limited
 limited_out what least most t out = grind arith
 
 pub limited_refuses : (what : Field) (least most : ℕ) (t : Token) (a : Here) → Stands a → (t.value < least)
-    ⊎ (most < t.value) → Refuses (limited what least most t) a a (Range what t.at t.value least most)
+    ⊎ (most < t.value) → FormatRefuses (limited what least most t) a a (Range what t.at t.value least most)
 limited_refuses what least most t a stands out =
     refuses_here _ (Range what t.at t.value least most) stands (limited_out what least most t out) (λ e. cc)
 
@@ -31,7 +31,7 @@ flag_out (suc zero) fault some more = absurd (more refl)
 flag_out (suc (suc value)) fault some more = refl
 
 pub flag_refuses : (t : Token) (a : Here) → Stands a → t.value ≢ 0 → t.value ≢ 1 →
-    Refuses (flag_value t.value (Flag t.at t.value)) a a (Flag t.at t.value)
+    FormatRefuses (flag_value t.value (Flag t.at t.value)) a a (Flag t.at t.value)
 flag_refuses t a stands some more =
     refuses_here _ (Flag t.at t.value) stands (flag_out t.value (Flag t.at t.value) some more) (λ e. cc)
 

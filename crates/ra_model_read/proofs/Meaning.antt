@@ -17,7 +17,7 @@ use Rattle.ra_model_read.proofs.ModelLimits.{model_well_formed}
 use Rattle.ra_model_read.proofs.TextAccepted.{text_accepted}
 use Rattle.ra_model_read.proofs.TextTakenParts.{text_taken}
 use Rattle.ra_token.specs.Moments.{Here}
-use Rattle.ra_model_read.specs.Reading.{left_from, left_of, Gives, Refuses, is_by_content}
+use Rattle.ra_model_read.specs.Reading.{left_from, left_of, Gives, FormatRefuses, is_by_content}
 
 all_left : (place : ℕ) (bytes : List ℕ) → tokens_before bytes place ≡ 0 → left_from place bytes ≡ all_of bytes
 unfolding left_from all_of
@@ -57,7 +57,8 @@ means a b name lists e start gives =
     rw (← e) (told_lists (a.held a.tokens.name) a.tokens.place lists (left_of b) start gives.value)
 
 pub refuses_as : (a b : Here) (name : List ℕ) (fault : ModelFault) → a.tokens.name ≡ name →
-    ((bytes : List ℕ) → tokens_before bytes a.tokens.place ≡ 0) → Refuses model a b fault → is_by_content fault ≡ true →
+    ((bytes : List ℕ) → tokens_before bytes a.tokens.place ≡ 0) → FormatRefuses model a b fault →
+    is_by_content fault ≡ true →
     IfSome (a.held name) (λ bytes. model_refusal bytes ≡ Some fault)
 unfolding left_of
 refuses_as a b name fault e start refuses by_content =

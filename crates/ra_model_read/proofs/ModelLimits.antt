@@ -19,12 +19,12 @@ use Rattle.ra_model_read.specs.declared.faults.Field.TheVariants.{ProcessCost, B
 use Rattle.ra_model_read.specs.declared.faults.Field.TheVariants.{BalanceSecond, BalanceTarget, BalanceWeight}
 use Rattle.ra_model_read.specs.Formats.{Left, Outcome, Read, Refused, any, field, flag, along, numbers}
 use Rattle.ra_model_read.specs.Lists.{ResourceNumbers, ServiceNumbers, ProcessNumbers, BalanceNumbers, MachineLists}
-use Rattle.ra_model_read.specs.Lists.{ServiceLists, ProcessLists, Lists, of_resource, of_machine, of_service}
+use Rattle.ra_model_read.specs.Lists.{ServiceLists, ProcessLists, Lists, of_resource, of_machine, service_numbers_of}
 use Rattle.ra_model_read.specs.Lists.{of_process, of_balance, lists_of}
 use Rattle.ra_model_read.specs.ModelText.{resource, resources, machine, machines, dependency, service, services}
 use Rattle.ra_model_read.specs.ModelText.{process, processes, balance, balances, model, all_of, answer_of, model_of}
 use Rattle.ra_model_read.proofs.Inversion.{bind_back, pure_back, along_known}
-use Rattle.ra_model_read.specs.TableShapes.{end_in}
+use Rattle.ra_model_read.specs.TableShapes.{dependency_end_in}
 use Rattle.ra_model_read.proofs.Parts.{model_parts}
 use Rattle.ra_model_read.proofs.ReadLimits.{Within, within_back, Counted, counted_known, numbers_length}
 
@@ -264,34 +264,34 @@ balances_known R l m all some e = counted_known BalanceCount 0 10 (λ c. balance
 
 unfoldable start_after : ℕ → List ServiceRow → ℕ → ℕ
 start_after first rows zero = first
-start_after first rows (suc s) = end_in rows s
+start_after first rows (suc s) = dependency_end_in rows s
 
 start_later : (row : ServiceRow) (rows : List ServiceRow) (s : ℕ) → start_after row.dependency_end rows s ≡
-    end_in (row ∷ rows) s
-unfolding start_after end_in
+    dependency_end_in (row ∷ rows) s
+unfolding start_after dependency_end_in
 start_later row rows zero = refl
 start_later row rows (suc s) = refl
 
 -- from where the dependencies of a service start to where they end
 record InOrder (from : ℕ) (rows : List ServiceRow) (to s : ℕ) : Type 0 where
-  pub rising : start_after from rows s ≤ end_in rows s
-  pub inside : end_in rows s ≤ to
+  pub rising : start_after from rows s ≤ dependency_end_in rows s
+  pub inside : dependency_end_in rows s ≤ to
 
-ascends_at : (from : ℕ) (rows : List ServiceRow) (to s : ℕ) → Ascends from (map of_service rows) to → s < length rows →
-    InOrder from rows to s
-unfolding Ascends start_after end_in
+ascends_at : (from : ℕ) (rows : List ServiceRow) (to s : ℕ) → Ascends from (map service_numbers_of rows) to →
+    s < length rows → InOrder from rows to s
+unfolding Ascends start_after dependency_end_in
 ascends_at from [] to s known within = absurd (omega arith)
 ascends_at from (row ∷ rows) to zero known within = record {
   rising = known.0;
-  inside = ascends_up row.dependency_end (map of_service rows) to known.1;
+  inside = ascends_up row.dependency_end (map service_numbers_of rows) to known.1;
 }
 ascends_at from (row ∷ rows) to (suc s) known within =
     let rest = ascends_at row.dependency_end rows to s known.1 (omega arith) in record {
-      rising = subst (λ n. n ≤ end_in rows s) (start_later row rows s) rest.rising;
+      rising = subst (λ n. n ≤ dependency_end_in rows s) (start_later row rows s) rest.rising;
       inside = rest.inside;
     }
 
-ascends_end : (from : ℕ) (rows : List ServiceRow) (to : ℕ) → Ascends from (map of_service rows) to →
+ascends_end : (from : ℕ) (rows : List ServiceRow) (to : ℕ) → Ascends from (map service_numbers_of rows) to →
     start_after from rows (length rows) ≡ to
 unfolding Ascends start_after
 ascends_end from [] to known = known
@@ -299,18 +299,18 @@ ascends_end from (row ∷ rows) to known =
     sym (start_later row rows (length rows)) ∙ ascends_end row.dependency_end rows to known.1
 
 start_as : (raw : RawInstance) (s : ℕ) → dependency_start (all_open raw) s ≡ start_after 0 raw.services.items s
-unfolding dependency_start dependency_end service_row start_after end_in
+unfolding dependency_start dependency_end service_row start_after dependency_end_in
 start_as raw zero = refl
 start_as raw (suc s) = refl
 
 rises : (raw : RawInstance) (s : ℕ) → InOrder 0 raw.services.items (length raw.dependencies.items) s →
     dependency_start (all_open raw) s ≤ dependency_end (all_open raw) s
-unfolding dependency_end service_row end_in
+unfolding dependency_end service_row dependency_end_in
 rises raw s h = omega (arith, start_as raw s, h.rising)
 
 ends_within : (raw : RawInstance) (s : ℕ) → InOrder 0 raw.services.items (length raw.dependencies.items) s →
     dependency_end (all_open raw) s ≤ length raw.dependencies.items
-unfolding dependency_end service_row end_in
+unfolding dependency_end service_row dependency_end_in
 ends_within raw s h = h.inside
 
 needed : (raw : RawInstance) (S place : ℕ) → All (λ (s : Service). s.0 < S) raw.dependencies.items →
@@ -351,7 +351,7 @@ limits_of raw resources machines services processes balances =
     let M : machines.count ≡ length raw.machines.items = sym machines.known.rows
     ∙ length-map raw.machines.items of_machine in
     let S : services.count ≡ length raw.services.items = sym services.known.rows
-    ∙ length-map raw.services.items of_service in
+    ∙ length-map raw.services.items service_numbers_of in
     let P : processes.count ≡ length raw.processes.items = sym processes.known.rows
     ∙ length-map raw.processes.items of_process in
     let B : balances.count ≡ length raw.balances.items = sym balances.known.size
@@ -385,7 +385,7 @@ model_limits raw l m e =
     let parts = model_parts raw l m e in
     let R : length (lists_of raw).resources ≡ length raw.resources.items = length-map raw.resources.items of_resource in
     let S : length (lists_of raw).services.rows ≡ length raw.services.items =
-    length-map raw.services.items of_service in
+    length-map raw.services.items service_numbers_of in
     let resource_limits = subst (Within 1 20) R (resources_known l parts.after_resources _ parts.resource_part) in
     let service_limits = services_known parts.after_machines parts.after_services _ parts.service_part in
     let some_service : 1 ≤ length raw.services.items =

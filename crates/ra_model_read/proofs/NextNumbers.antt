@@ -18,7 +18,7 @@ use Rattle.ra_model_read.specs.declared.faults.ModelFault.TheVariants.{Missing}
 use Rattle.ra_model_read.specs.Formats.{Left, Read, Refused, pure, go_on, ◌>>=◌, next_token, take_token, token_fault}
 use Rattle.ra_model_read.specs.Formats.{any, along, number_more, numbers}
 use Rattle.ra_token.specs.Moments.{Here, Goes}
-use Rattle.ra_model_read.specs.Reading.{left_from, left_of, Gives, Refuses}
+use Rattle.ra_model_read.specs.Reading.{left_from, left_of, Gives, FormatRefuses}
 use Rattle.ra_model_read.proofs.Outcomes.{bind_read, bind_refused}
 use Rattle.ra_model_read.proofs.NextToken.{told_read, told_refused, if_both, if_one, same_file, token_missing, no_fault}
 use Rattle.ra_model_read.proofs.NextToken.{by_content_read, content_not_read, shown_fault}
@@ -124,7 +124,7 @@ pub refuses_few : (what : Field) (first n count : ℕ) (xs ys : List ℕ) (a b :
     length ys ≡ length xs + n →
     IfSome (a.held a.tokens.name) (λ bytes. AddsValues bytes a.tokens.place b.tokens.place n xs ys) →
     IfSome (a.held a.tokens.name) (λ bytes. IsAnswer bytes (tokens_before bytes b.tokens.place) (Ok None)) →
-    Refuses (numbers what first count xs) a b (Missing what (first + n))
+    FormatRefuses (numbers what first count xs) a b (Missing what (first + n))
 unfolding left_of
 refuses_few what first n count xs ys a b goes few added adds answer = record {
   goes = goes;
@@ -145,7 +145,7 @@ pub refuses_fault : (what : Field) (first n count : ℕ) (xs ys : List ℕ) (a b
     IfSome (a.held a.tokens.name) (λ bytes. AddsValues bytes a.tokens.place b.tokens.place n xs ys) →
     IfSome (a.held a.tokens.name) (λ bytes. IsAnswer bytes (tokens_before bytes b.tokens.place) (Err fault)) →
     (fault ≡ told.ReadFault → Rose (a.faults a.tokens.name) (b.faults a.tokens.name)) →
-    Refuses (numbers what first count xs) a b told_as
+    FormatRefuses (numbers what first count xs) a b told_as
 unfolding left_of
 refuses_fault what first n count xs ys a b fault told_as as_model goes few added adds answer rose = rw as_model record {
   goes = goes;

@@ -16,7 +16,7 @@ use Rattle.ra_model_read.specs.declared.faults.ModelFault.TheVariants.{Missing, 
 use Rattle.ra_model_read.specs.Formats.{Read, Refused, Format, next_token, take_token, fault_or, token_fault, take_end}
 use Rattle.ra_model_read.specs.Formats.{ends}
 use Rattle.ra_token.specs.Moments.{Here, Goes}
-use Rattle.ra_model_read.specs.Reading.{left_from, left_of, Gives, Refuses, is_by_content}
+use Rattle.ra_model_read.specs.Reading.{left_from, left_of, Gives, FormatRefuses, is_by_content}
 
 -- a token is the first of those left, and the others come after it
 drop_from : {X : Type 0} → (xs : List X) (n : ℕ) (x : X) → slice_get xs n ≡ Some x → drop n xs ≡ x ∷ drop (suc n) xs
@@ -114,7 +114,7 @@ no_fault fault otherwise e = rw e refl
 -- no token is left, and no fault
 pub refuses_missing : (what : Field) (item : ℕ) (a b : Here) → Goes a b →
     IfSome (a.held a.tokens.name) (λ bytes. IsAnswer bytes (tokens_before bytes a.tokens.place) (Ok None)) →
-    Refuses (next_token what item) a b (Missing what item)
+    FormatRefuses (next_token what item) a b (Missing what item)
 unfolding left_of
 refuses_missing what item a b goes answer = record {
   goes = goes;
@@ -150,7 +150,7 @@ pub refuses_token : (what : Field) (item : ℕ) (a b : Here) (fault : TokenFault
     told_as ≡ token_fault fault → Goes a b →
     IfSome (a.held a.tokens.name) (λ bytes. IsAnswer bytes (tokens_before bytes a.tokens.place) (Err fault)) →
     (fault ≡ told.ReadFault → Rose (a.faults a.tokens.name) (b.faults a.tokens.name)) →
-    Refuses (next_token what item) a b told_as
+    FormatRefuses (next_token what item) a b told_as
 unfolding left_of
 refuses_token what item a b fault told_as as_model goes answer rose = rw as_model record {
   goes = goes;
@@ -179,7 +179,7 @@ gives_end a b goes stays answer = record {
 
 pub refuses_extra : (a b : Here) (t : Token) → Goes a b →
     IfSome (a.held a.tokens.name) (λ bytes. IsAnswer bytes (tokens_before bytes a.tokens.place) (Ok (Some t))) →
-    Refuses ends a b (Extra t.at)
+    FormatRefuses ends a b (Extra t.at)
 unfolding left_of
 refuses_extra a b t goes answer = record {
   goes = goes;
@@ -190,7 +190,7 @@ refuses_extra a b t goes answer = record {
 
 pub refuses_end : (a b : Here) (fault : TokenFault) (told_as : ModelFault) → told_as ≡ token_fault fault → Goes a b →
     IfSome (a.held a.tokens.name) (λ bytes. IsAnswer bytes (tokens_before bytes a.tokens.place) (Err fault)) →
-    (fault ≡ told.ReadFault → Rose (a.faults a.tokens.name) (b.faults a.tokens.name)) → Refuses ends a b told_as
+    (fault ≡ told.ReadFault → Rose (a.faults a.tokens.name) (b.faults a.tokens.name)) → FormatRefuses ends a b told_as
 unfolding left_of
 refuses_end a b fault told_as as_model goes answer rose = rw as_model record {
   goes = goes;

@@ -3,7 +3,7 @@ use Rattle.std.proofs.Common.{◌≡◌, ℕ, ap, ap₂, ◌∙◌, sym, [], len
 use Rattle.std.proofs.lemmas.List.{length-map}
 use Rattle.ra_model.specs.declared.raw.RawInstance.{RawInstance}
 use Rattle.ra_model_read.specs.Formats.{Left, Read, ends}
-use Rattle.ra_model_read.specs.Lists.{Rest, Lists, of_resource, of_service, lists_of}
+use Rattle.ra_model_read.specs.Lists.{Rest, Lists, of_resource, service_numbers_of, lists_of}
 use Rattle.ra_model_read.specs.ModelText.{resources, machines, services, processes, balances, weights, rest, model}
 use Rattle.ra_model_read.proofs.Inversion.{bind_back, pure_back, ends_back}
 
@@ -73,7 +73,7 @@ model_parts raw l m e =
     let R : length one.value ≡ length raw.resources.items = ap (λ t. length t.resources) made.0
     ∙ length-map raw.resources.items of_resource in
     let S : length three.value.rows ≡ length raw.services.items = ap (λ t. length t.services.rows) made.0
-    ∙ length-map raw.services.items of_service in record {
+    ∙ length-map raw.services.items service_numbers_of in record {
       after_resources = one.left;
       after_machines = two.left;
       after_services = three.left;

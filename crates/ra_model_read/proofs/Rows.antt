@@ -15,10 +15,12 @@ use Rattle.ra_model.specs.declared.raw.ServiceRow.{ServiceRow}
 use Rattle.ra_model_read.specs.declared.tables.MachineTables.{MachineTables}
 use Rattle.ra_model_read.specs.declared.tables.ServiceTables.{ServiceTables}
 use Rattle.ra_model_read.specs.declared.tables.ProcessTables.{ProcessTables}
-use Rattle.ra_model_read.specs.Lists.{of_resource, of_machine, of_service, of_process, of_balance}
+use Rattle.ra_model_read.specs.Lists.{of_resource, of_machine, service_numbers_of, of_process, of_balance}
 use Rattle.ra_model_read.specs.TableShapes.{machine_lists, service_lists, process_lists, HasMachines, HasProcesses}
-use Rattle.ra_model_read.specs.TableShapes.{IsMachines, IsServices, IsProcesses, end_in, start_in, needed_in}
-use Rattle.ra_model_read.specs.TableShapes.{AreServices, HasDependencies, HasServices, service_in, first_in, second_in}
+use Rattle.ra_model_read.specs.TableShapes.{IsMachines, IsServices, IsProcesses, dependency_end_in, dependency_start_in}
+use Rattle.ra_model_read.specs.TableShapes.{needed_in}
+use Rattle.ra_model_read.specs.TableShapes.{AreServices, HasDependencies, HasServices, row_service_in, first_in}
+use Rattle.ra_model_read.specs.TableShapes.{second_in}
 use Rattle.ra_model_read.specs.TableShapes.{AreBalances, HasBalances}
 
 pub resource_pushed : (rows new : List ResourceRow) (row : ResourceRow) → new ≡ rows ++ row ∷ [] →
@@ -30,8 +32,8 @@ pub machine_pushed : (rows new : List MachineRow) (row : MachineRow) → new ≡
 machine_pushed rows new row e = ap (map of_machine) e ∙ map-append of_machine rows (row ∷ [])
 
 pub service_pushed : (rows new : List ServiceRow) (row : ServiceRow) → new ≡ rows ++ row ∷ [] →
-    map of_service new ≡ map of_service rows ++ of_service row ∷ []
-service_pushed rows new row e = ap (map of_service) e ∙ map-append of_service rows (row ∷ [])
+    map service_numbers_of new ≡ map service_numbers_of rows ++ service_numbers_of row ∷ []
+service_pushed rows new row e = ap (map service_numbers_of) e ∙ map-append service_numbers_of rows (row ∷ [])
 
 pub process_pushed : (rows new : List ProcessRow) (row : ProcessRow) → new ≡ rows ++ row ∷ [] →
     map of_process new ≡ map of_process rows ++ of_process row ∷ []
@@ -82,12 +84,13 @@ has_machine R M m t new row h e capacities safeties move_costs rows_room capacit
 -- the services of processes
 
 service_before : (rows : List ProcessRow) (row : ProcessRow) (k : ℕ) → k < length rows →
-    service_in (rows ++ row ∷ []) k ≡ service_in rows k
-unfolding service_in
+    row_service_in (rows ++ row ∷ []) k ≡ row_service_in rows k
+unfolding row_service_in
 service_before rows row k within = ap (λ r. r.service.0) (get_or_append_left rows (row ∷ []) _ k within)
 
-service_here : (rows : List ProcessRow) (row : ProcessRow) → service_in (rows ++ row ∷ []) (length rows) ≡ row.service.0
-unfolding service_in
+service_here : (rows : List ProcessRow) (row : ProcessRow) →
+    row_service_in (rows ++ row ∷ []) (length rows) ≡ row.service.0
+unfolding row_service_in
 service_here rows row = ap (λ r. r.service.0) (get_or-append_seam rows row [] _)
 
 pub has_process : (S R P p : ℕ) (t new : ProcessTables) (row : ProcessRow) → HasProcesses S R P p t →
@@ -101,9 +104,9 @@ has_process S R P p t new row h e wider here rows_room room = let full : length 
   requirements = omega (arith, h.requirements, wider);
   rows_room = rows_room ∙ h.rows_room;
   requirements_room = room ∙ h.requirements_room;
-  services = rw e (below_next (λ k. service_in (t.rows.items ++ row ∷ []) k < S) p
+  services = rw e (below_next (λ k. row_service_in (t.rows.items ++ row ∷ []) k < S) p
       (λ k within. omega (arith, service_before t.rows.items row k (omega arith), h.services k within))
-      (omega (arith, service_here t.rows.items row, ap (service_in (t.rows.items ++ row ∷ [])) full)));
+      (omega (arith, service_here t.rows.items row, ap (row_service_in (t.rows.items ++ row ∷ [])) full)));
 }
 
 -- the resources of balance objectives
@@ -186,27 +189,28 @@ has_dependency S old new one h e room below here = record {
 -- where the dependencies of services end
 
 end_before : (rows : List ServiceRow) (row : ServiceRow) (k : ℕ) → k < length rows →
-    end_in (rows ++ row ∷ []) k ≡ end_in rows k
-unfolding end_in
+    dependency_end_in (rows ++ row ∷ []) k ≡ dependency_end_in rows k
+unfolding dependency_end_in
 end_before rows row k within = ap (λ r. r.dependency_end) (get_or_append_left rows (row ∷ []) _ k within)
 
-end_here : (rows : List ServiceRow) (row : ServiceRow) → end_in (rows ++ row ∷ []) (length rows) ≡ row.dependency_end
-unfolding end_in
+end_here : (rows : List ServiceRow) (row : ServiceRow) →
+    dependency_end_in (rows ++ row ∷ []) (length rows) ≡ row.dependency_end
+unfolding dependency_end_in
 end_here rows row = ap (λ r. r.dependency_end) (get_or-append_seam rows row [] _)
 
 start_before : (rows : List ServiceRow) (row : ServiceRow) (k : ℕ) → k ≤ length rows →
-    start_in (rows ++ row ∷ []) k ≡ start_in rows k
-unfolding start_in
+    dependency_start_in (rows ++ row ∷ []) k ≡ dependency_start_in rows k
+unfolding dependency_start_in
 start_before rows row zero within = refl
 start_before rows row (suc k) within = end_before rows row k (omega arith)
 
-start_next : (rows : List ServiceRow) (s : ℕ) → start_in rows (s + 1) ≡ end_in rows s
-unfolding start_in
+start_next : (rows : List ServiceRow) (s : ℕ) → dependency_start_in rows (s + 1) ≡ dependency_end_in rows s
+unfolding dependency_start_in
 start_next rows s = rw add-one refl
 
 pub has_none : (S : ℕ) (t : ServiceTables) → t.rows.items ≡ [] → t.dependencies.items ≡ [] → t.rows.room ≡ S →
     t.dependencies.room ≡ 100000 → HasServices S 0 t
-unfolding start_in
+unfolding dependency_start_in
 has_none S t none no_need rows_room room = record {
   rows = rw none refl;
   rows_room = rows_room;
@@ -228,7 +232,8 @@ has_service S s t new row h e ends more rows_room dependencies = let full : leng
   rows = ap length e ∙ length_push t.rows.items row ∙ ap (λ n. n + 1) h.rows;
   rows_room = rows_room ∙ h.rows_room;
   dependencies = dependencies;
-  in_order = rw e (below_next (λ k. start_in (t.rows.items ++ row ∷ []) k ≤ end_in (t.rows.items ++ row ∷ []) k) s
+  in_order = rw e (below_next (λ k. dependency_start_in (t.rows.items ++ row ∷ []) k ≤
+      dependency_end_in (t.rows.items ++ row ∷ []) k) s
       (λ k within.
       omega (
         arith,
@@ -241,13 +246,14 @@ has_service S s t new row h e ends more rows_room dependencies = let full : leng
         arith,
         start_before t.rows.items row (length t.rows.items) (omega arith),
         end_here t.rows.items row,
-        ap (start_in t.rows.items) full,
+        ap (dependency_start_in t.rows.items) full,
         h.all_owned,
       ))));
-  within = rw e (below_next (λ k. end_in (t.rows.items ++ row ∷ []) k ≤ length new.dependencies.items) s
+  within = rw e (below_next (λ k. dependency_end_in (t.rows.items ++ row ∷ []) k ≤ length new.dependencies.items) s
       (λ k within. omega (arith, end_before t.rows.items row k (omega arith), h.within k within))
       (rw (← full) (omega (arith, end_here t.rows.items row))));
-  all_owned = rw e (start_next (t.rows.items ++ row ∷ []) s ∙ ap (end_in (t.rows.items ++ row ∷ [])) (sym full)
+  all_owned = rw e (start_next (t.rows.items ++ row ∷ []) s
+      ∙ ap (dependency_end_in (t.rows.items ++ row ∷ [])) (sym full)
       ∙ end_here t.rows.items row ∙ ends);
 }
 
@@ -268,7 +274,7 @@ no_machines R M t h = rw (
 
 pub no_services : (S : ℕ) (t : ServiceTables) → HasServices S 0 t →
     service_lists t ≡ record { rows = []; dependencies = [] }
-unfolding start_in
+unfolding dependency_start_in
 no_services S t h =
     rw (nil_from_length t.rows.items h.rows, nil_from_length t.dependencies.items (sym h.all_owned)) refl
 

@@ -8,7 +8,7 @@ use Rattle.ra_model_read.specs.declared.faults.ModelFault.{ModelFault}
 use Rattle.ra_model_read.specs.declared.faults.ModelFault.TheVariants.{NoMemory, ReadFault}
 use Rattle.ra_model_read.specs.Formats.{Left, Read, Refused, Format, pure, refuse, ◌>>=◌, along}
 use Rattle.ra_token.specs.Moments.{Here, Stands, Goes}
-use Rattle.ra_model_read.specs.Reading.{left_of, Gives, Refuses, is_by_content}
+use Rattle.ra_model_read.specs.Reading.{left_of, Gives, FormatRefuses, is_by_content}
 use Rattle.ra_model_read.proofs.Outcomes.{told_bind, told_refused_first, told_refused_next}
 
 pub goes_on : {a b c : Here} → Goes a b → Goes b c → Goes a c
@@ -47,7 +47,7 @@ gives_then {X} {Y} {f} next {a} {b} {x} {y} one made =
     gives_bind next one (subst (λ g. Gives g b b y) (sym made) (gives_pure b y one.goes.stands))
 
 pub refuses_first : {X Y : Type 0} {f : Format X} (next : X → Format Y) {a b : Here} {fault : ModelFault} →
-    Refuses f a b fault → Refuses (f >>= next) a b fault
+    FormatRefuses f a b fault → FormatRefuses (f >>= next) a b fault
 refuses_first {X} {Y} {f} next {a} {b} {fault} one = record {
   goes = one.goes;
   rose = one.rose;
@@ -58,7 +58,7 @@ rose_later : (m n k : ℕ) → m ≤ n → Rose n k → Rose m k
 rose_later m n k grew rose = ⊎_elim (λ (h : n < k). inl (omega arith)) (λ (h : k ≡ 2 ^ 64 - 1). inr h) rose
 
 pub refuses_next : {X Y : Type 0} {f : Format X} (next : X → Format Y) {a b c : Here} {x : X} {fault : ModelFault} →
-    Gives f a b x → Refuses (next x) b c fault → Refuses (f >>= next) a c fault
+    Gives f a b x → FormatRefuses (next x) b c fault → FormatRefuses (f >>= next) a c fault
 refuses_next {X} {Y} {f} next {a} {b} {c} {x} {fault} one two = record {
   goes = goes_on one.goes two.goes;
   rose = λ e. rose_later _ _ _ (one.goes.never_fall a.tokens.name)
@@ -67,7 +67,7 @@ refuses_next {X} {Y} {f} next {a} {b} {c} {x} {fault} one two = record {
 }
 
 -- a refusal for memory tells nothing of the file
-pub refuses_memory : {X : Type 0} (f : Format X) {a b : Here} → Goes a b → Refuses f a b NoMemory
+pub refuses_memory : {X : Type 0} (f : Format X) {a b : Here} → Goes a b → FormatRefuses f a b NoMemory
 unfolding is_by_content
 refuses_memory f goes = record { goes = goes; rose = λ e. cc; told = λ e. cc }
 
@@ -83,8 +83,8 @@ unfolding along
 gives_more step k x so_far more = rw add-one (gives_bind (step k) so_far more)
 
 pub refuses_step : {X : Type 0} (step : ℕ → X → Format X) (n k : ℕ) (x : X) {a b c : Here} {y : X}
-    {fault : ModelFault} → k < n → Gives (along k step x) a b y → Refuses (step k y) b c fault →
-    Refuses (along n step x) a c fault
+    {fault : ModelFault} → k < n → Gives (along k step x) a b y → FormatRefuses (step k y) b c fault →
+    FormatRefuses (along n step x) a c fault
 unfolding along
 refuses_step step zero k x within so_far here = absurd (omega arith)
 refuses_step step (suc n) k x {a} {b} {c} {y} {fault} within so_far here = ⊎_elim
@@ -92,7 +92,7 @@ refuses_step step (suc n) k x {a} {b} {c} {y} {fault} within so_far here = ⊎_e
     (λ (last : n ≤ k).
     let e : k ≡ n = omega arith in
     refuses_next (step n) (subst (λ j. Gives (along j step x) a b y) e so_far)
-    (subst (λ j. Refuses (step j y) b c fault) e here))
+    (subst (λ j. FormatRefuses (step j y) b c fault) e here))
     (cases_lt k n)
 
 -- the exit of a `?`
@@ -102,9 +102,9 @@ at_exit (Ok x) Q fault why holds = tt
 at_exit (Err e) Q fault why holds = subst Q (sym why.1) holds
 
 pub refused_at_exit : {X T : Type 0} {f : Format X} {a b : Here} (r : Result T ModelFault) {fault : ModelFault} →
-    IsErr r × IsErrAnd r (λ e. e ≡ fault) → Refuses f a b fault → IfErr r (Refuses f a b)
+    IsErr r × IsErrAnd r (λ e. e ≡ fault) → FormatRefuses f a b fault → IfErr r (FormatRefuses f a b)
 refused_at_exit (Ok x) why refuses = tt
-refused_at_exit {X} {T} {f} {a} {b} (Err e) why refuses = subst (Refuses f a b) (sym why.1) refuses
+refused_at_exit {X} {T} {f} {a} {b} (Err e) why refuses = subst (FormatRefuses f a b) (sym why.1) refuses
 
 -- a refusal at once
 told_at_once : {X : Type 0} → (fault : ModelFault) (o : Option Left) → option_map (refuse {X = X} fault) o ≡
@@ -114,7 +114,7 @@ told_at_once fault None = refl
 told_at_once fault (Some l) = refl
 
 pub refuses_here : {X : Type 0} → (f : Format X) (fault : ModelFault) {a : Here} → Stands a → f ≡ refuse fault →
-    (fault ≡ ReadFault → ⊥) → Refuses f a a fault
+    (fault ≡ ReadFault → ⊥) → FormatRefuses f a a fault
 refuses_here {X} f fault {a} stands is no_read = rw is record {
   goes = goes_nowhere stands;
   rose = λ e. absurd (no_read e);
@@ -137,6 +137,6 @@ gives_all step n k x {a} {b} {y} low high all =
 pub gives_same : {X : Type 0} {f g : Format X} {a b : Here} {x : X} → f ≡ g → Gives f a b x → Gives g a b x
 gives_same {X} {f} {g} {a} {b} {x} e h = subst (λ k. Gives k a b x) e h
 
-pub refuses_same : {X : Type 0} {f g : Format X} {a b : Here} {fault : ModelFault} → f ≡ g → Refuses f a b fault →
-    Refuses g a b fault
-refuses_same {X} {f} {g} {a} {b} {fault} e h = subst (λ k. Refuses k a b fault) e h
+pub refuses_same : {X : Type 0} {f g : Format X} {a b : Here} {fault : ModelFault} → f ≡ g → FormatRefuses f a b fault →
+    FormatRefuses g a b fault
+refuses_same {X} {f} {g} {a} {b} {fault} e h = subst (λ k. FormatRefuses k a b fault) e h

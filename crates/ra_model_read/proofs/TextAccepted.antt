@@ -21,21 +21,22 @@ use Rattle.ra_model_read.specs.declared.faults.Field.TheVariants.{ProcessCost, B
 use Rattle.ra_model_read.specs.declared.faults.Field.TheVariants.{BalanceSecond, BalanceTarget, BalanceWeight}
 use Rattle.ra_model_read.specs.declared.faults.Field.TheVariants.{ProcessWeight, ServiceWeight, MachineWeight}
 use Rattle.ra_model_read.specs.Formats.{Format, pure, along, number_more, numbers, ends}
-use Rattle.ra_model_read.specs.Lists.{MachineLists, ServiceLists, ProcessLists, of_resource, of_machine, of_service}
+use Rattle.ra_model_read.specs.Lists.{MachineLists, ServiceLists, ProcessLists, of_resource, of_machine}
+use Rattle.ra_model_read.specs.Lists.{service_numbers_of}
 use Rattle.ra_model_read.specs.Lists.{of_process, of_balance, lists_of}
 use Rattle.ra_model_read.specs.ModelText.{resource, resources, machine, machines, dependency, service, services}
 use Rattle.ra_model_read.specs.ModelText.{process, processes, balance, balances, weights, rest, model, all_of}
 use Rattle.ra_model_read.specs.ModelText.{answer_of, model_of}
-use Rattle.ra_model_read.specs.FieldOrder.{joined, row_of, resource_numbers, machine_numbers, service_numbers}
-use Rattle.ra_model_read.specs.FieldOrder.{process_numbers, balance_numbers, numbers_of, IsTextOf}
+use Rattle.ra_model_read.specs.FieldOrder.{end_to_end, row_numbers, resource_numbers, machine_numbers, service_numbers}
+use Rattle.ra_model_read.specs.FieldOrder.{process_numbers, balance_numbers, all_numbers_of, IsTextOf}
 use Rattle.ra_model_read.proofs.Acceptance.{Accepts, accepts_bind, accepts_then, accepts_any, accepts_field}
 use Rattle.ra_model_read.proofs.Acceptance.{accepts_flag, accepts_along, AcceptsAll, all_bind, all_then, all_ends}
 
 accepts_steps : {X : Type 0} (step : ℕ → X → Format X) (made : ℕ → X) (text : ℕ → List ℕ) (n : ℕ) (x y : X) →
     made 0 ≡ x → made n ≡ y → ((k : ℕ) → k < n → Accepts (step k (made k)) (text k) (made (suc k))) →
-    Accepts (along n step x) (joined n text) y
-accepts_steps step made text n x y from to each = subst (λ z. Accepts (along n step z) (joined n text) y) from
-    (subst (Accepts (along n step (made 0)) (joined n text)) to (accepts_along step made text n each))
+    Accepts (along n step x) (end_to_end n text) y
+accepts_steps step made text n x y from to each = subst (λ z. Accepts (along n step z) (end_to_end n text) y) from
+    (subst (Accepts (along n step (made 0)) (end_to_end n text)) to (accepts_along step made text n each))
 
 -- one more of a list
 
@@ -54,7 +55,7 @@ all_rows f rows = ap (map f) (take_all (length rows) rows (omega arith))
 -- a row of a table
 
 numbers_accepted : (what : Field) (first n last : ℕ) (T : List ℕ) (f : ℕ → ℕ) → first + n ≡ last → last ≤ length T →
-    ((k : ℕ) → k < n → f k ≡ get_or T (first + k) 0) → Accepts (numbers what first n (take first T)) (row_of n f)
+    ((k : ℕ) → k < n → f k ≡ get_or T (first + k) 0) → Accepts (numbers what first n (take first T)) (row_numbers n f)
     (take last T)
 unfolding numbers number_more
 numbers_accepted what first n last T f ends within each =
@@ -80,7 +81,7 @@ resource_accepted raw r within = accepts_bind _ (accepts_flag r (transient_at (a
 
 resources_accepted : (raw : RawInstance) → WellFormed (all_open raw) →
     Accepts resources
-    (resource_count (all_open raw) ∷ joined (resource_count (all_open raw)) (resource_numbers (all_open raw)))
+    (resource_count (all_open raw) ∷ end_to_end (resource_count (all_open raw)) (resource_numbers (all_open raw)))
     (map of_resource raw.resources.items)
 unfolding resources resource_count
 resources_accepted raw h =
@@ -157,7 +158,7 @@ all_machines raw h =
 
 machines_accepted : (raw : RawInstance) → WellFormed (all_open raw) →
     Accepts (machines (length raw.resources.items))
-    (machine_count (all_open raw) ∷ joined (machine_count (all_open raw)) (machine_numbers (all_open raw)))
+    (machine_count (all_open raw) ∷ end_to_end (machine_count (all_open raw)) (machine_numbers (all_open raw)))
     (lists_of raw).machines
 unfolding machines machine_count
 machines_accepted raw h =
@@ -171,7 +172,7 @@ machines_accepted raw h =
 dependencies_accepted : (raw : RawInstance) (S first n last : ℕ) (f : ℕ → ℕ) → first + n ≡ last →
     last ≤ length raw.dependencies.items → ((k : ℕ) → k < n → f k ≡ need_at (all_open raw) (first + k)) →
     ((place : ℕ) → place < length raw.dependencies.items → need_at (all_open raw) place < S) →
-    Accepts (along n (dependency S first) (take first raw.dependencies.items)) (row_of n f)
+    Accepts (along n (dependency S first) (take first raw.dependencies.items)) (row_numbers n f)
     (take last raw.dependencies.items)
 unfolding dependency need_at
 dependencies_accepted raw S first n last f ends within each needs =
@@ -191,7 +192,7 @@ dependencies_accepted raw S first n last f ends within each needs =
 
 unfoldable pub services_to : RawInstance → ℕ → ServiceLists
 services_to raw s = record {
-  rows = map of_service (take s raw.services.items);
+  rows = map service_numbers_of (take s raw.services.items);
   dependencies = take (dependency_start (all_open raw) s) raw.dependencies.items;
 }
 
@@ -216,7 +217,7 @@ service_accepted raw h s within =
     (omega (arith, h.in_order s within)) (h.within s within) (λ k below. refl) h.needs)
     (rw (
       front_length raw.dependencies.items (dependency_end (all_open raw) s) (h.within s within),
-      row_more of_service raw.services.items s _ within,
+      row_more service_numbers_of raw.services.items s _ within,
     ) refl))))
 
 pub all_services : (raw : RawInstance) → WellFormed (all_open raw) → services_to raw (length raw.services.items) ≡
@@ -224,14 +225,14 @@ pub all_services : (raw : RawInstance) → WellFormed (all_open raw) → service
 unfolding services_to service_count
 all_services raw h =
     rw (
-      all_rows of_service raw.services.items,
+      all_rows service_numbers_of raw.services.items,
       take_all (dependency_start (all_open raw) (length raw.services.items))
           raw.dependencies.items (omega (arith, h.all_owned)),
     ) refl
 
 services_accepted : (raw : RawInstance) → WellFormed (all_open raw) →
     Accepts services
-    (service_count (all_open raw) ∷ joined (service_count (all_open raw)) (service_numbers (all_open raw)))
+    (service_count (all_open raw) ∷ end_to_end (service_count (all_open raw)) (service_numbers (all_open raw)))
     (lists_of raw).services
 unfolding services service_count services_to dependency_start
 services_accepted raw h =
@@ -285,7 +286,7 @@ all_processes raw h =
 
 processes_accepted : (raw : RawInstance) → WellFormed (all_open raw) →
     Accepts (processes (length raw.services.items) (length raw.resources.items))
-    (process_count (all_open raw) ∷ joined (process_count (all_open raw)) (process_numbers (all_open raw)))
+    (process_count (all_open raw) ∷ end_to_end (process_count (all_open raw)) (process_numbers (all_open raw)))
     (lists_of raw).processes
 unfolding processes process_count
 processes_accepted raw h =
@@ -312,7 +313,7 @@ balance_accepted raw h b within =
 
 balances_accepted : (raw : RawInstance) → WellFormed (all_open raw) →
     Accepts (balances (length raw.resources.items))
-    (balance_count (all_open raw) ∷ joined (balance_count (all_open raw)) (balance_numbers (all_open raw)))
+    (balance_count (all_open raw) ∷ end_to_end (balance_count (all_open raw)) (balance_numbers (all_open raw)))
     (map of_balance raw.balances.items)
 unfolding balances balance_count
 balances_accepted raw h =
@@ -336,8 +337,8 @@ accepts_same {X} {f} {g} {u} {x} e h = subst (λ k. Accepts k u x) e h
 
 rest_accepted : (raw : RawInstance) → WellFormed (all_open raw) →
     AcceptsAll (rest (length raw.services.items) (length raw.resources.items))
-    ((process_count (all_open raw) ∷ joined (process_count (all_open raw)) (process_numbers (all_open raw)))
-    ++ ((balance_count (all_open raw) ∷ joined (balance_count (all_open raw)) (balance_numbers (all_open raw)))
+    ((process_count (all_open raw) ∷ end_to_end (process_count (all_open raw)) (process_numbers (all_open raw)))
+    ++ ((balance_count (all_open raw) ∷ end_to_end (balance_count (all_open raw)) (balance_numbers (all_open raw)))
     ++ (process_weight_of (all_open raw) ∷ service_weight_of (all_open raw) ∷ machine_weight_of (all_open raw) ∷ [])))
     (record {
       processes = (lists_of raw).processes;
@@ -354,14 +355,14 @@ all_same : {X : Type 0} {f g : Format X} {u : List ℕ} {x : X} → f ≡ g → 
 all_same {X} {f} {g} {u} {x} e h = subst (λ k. AcceptsAll k u x) e h
 
 all_accepted : (raw : RawInstance) → WellFormed (all_open raw) →
-    AcceptsAll model (numbers_of (all_open raw)) (lists_of raw)
-unfolding model numbers_of
+    AcceptsAll model (all_numbers_of (all_open raw)) (lists_of raw)
+unfolding model all_numbers_of
 all_accepted raw h = all_bind _ (resources_accepted raw h)
     (all_bind _ (accepts_same (ap machines (sym (length-map raw.resources.items of_resource)))
     (machines_accepted raw h))
     (all_bind _ (services_accepted raw h)
     (all_then _ (all_same
-    (ap₂ rest (sym (length-map raw.services.items of_service))
+    (ap₂ rest (sym (length-map raw.services.items service_numbers_of))
     (sym (length-map raw.resources.items of_resource))) (rest_accepted raw h))
     refl)))
 

@@ -10,7 +10,7 @@ use Rattle.ra_model_read.specs.declared.faults.Field.TheVariants.{ResourceCount,
 use Rattle.ra_model_read.specs.Formats.{Left, Read, Format, ◌>>=◌, any, field, flag, along, number_more, numbers, ends}
 use Rattle.ra_model_read.specs.Lists.{ResourceNumbers, of_resource}
 use Rattle.ra_model_read.specs.ModelText.{resource, resources}
-use Rattle.ra_model_read.specs.FieldOrder.{joined, row_of, resource_numbers}
+use Rattle.ra_model_read.specs.FieldOrder.{end_to_end, row_numbers, resource_numbers}
 use Rattle.ra_model_read.proofs.Inversion.{Took, took_then, bind_back, pure_back, any_back, field_back, flag_back}
 use Rattle.ra_model_read.proofs.Inversion.{along_known, along_back, snoc_same}
 use Rattle.ra_model_read.proofs.TextAccepted.{front_more, row_more, all_rows}
@@ -44,7 +44,7 @@ number_back what first k y T l m within e =
 
 pub numbers_back : (what : Field) (first n last : ℕ) (y T : List ℕ) (f : ℕ → ℕ) (l m : Left) → first + n ≡ last →
     last ≤ length T → ((k : ℕ) → k < n → f k ≡ get_or T (first + k) 0) →
-    numbers what first n y l ≡ Read (take last T) m → (y ≡ take first T) × Took l m (row_of n f)
+    numbers what first n y l ≡ Read (take last T) m → (y ≡ take first T) × Took l m (row_numbers n f)
 unfolding numbers nothing_known
 numbers_back what first n last y T f l m ends within each e =
     let at_end : along n (number_more what first) y l ≡ Read (take (first + n) T) m = rw ends e in
@@ -98,7 +98,7 @@ pub counted_back : {X : Type 0} (what : Field) (least most : ℕ) (step : ℕ �
     → ((k : ℕ) (y : X) (l m : Left) → k < n → Known k y → step n k y l ≡ Read (made (suc k)) m → (y ≡ made k)
     × Took l m (text k))
     → (l m : Left) → (field what 0 least most >>= λ count. along count (step count) start) l ≡ Read (made n) m →
-    Took l m (n ∷ joined n text)
+    Took l m (n ∷ end_to_end n text)
 counted_back what least most step start made text Known size n more sized whole known each l m e =
     let through = bind_back (field what 0 least most) (λ count. along count (step count) start) l m (made n) e in
     let full : through.value ≡ n =
@@ -107,13 +107,14 @@ counted_back what least most step start made text Known size n more sized whole 
     known through.second)) ∙ whole in
     let steps : along n (step n) start through.left ≡ Read (made n) m =
     subst (λ c. along c (step c) start through.left ≡ Read (made n) m) full through.second in
-    took_then l through.left m (n ∷ []) (joined n text)
+    took_then l through.left m (n ∷ []) (end_to_end n text)
     (took_value l through.left through.value n full
     (field_back what 0 least most l through.left through.value through.first))
     (along_back (step n) made text Known (more n) n each start through.left m known steps).1
 
 pub resources_back : (raw : RawInstance) (l m : Left) → resources l ≡ Read (map of_resource raw.resources.items) m →
-    Took l m (resource_count (all_open raw) ∷ joined (resource_count (all_open raw)) (resource_numbers (all_open raw)))
+    Took l m (resource_count (all_open raw) ∷ end_to_end (resource_count (all_open raw))
+    (resource_numbers (all_open raw)))
 unfolding resources resource_count
 resources_back raw l m e =
     counted_back ResourceCount 1 20 (λ c. resource) [] (λ k. map of_resource (take k raw.resources.items))

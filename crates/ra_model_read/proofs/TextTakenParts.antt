@@ -22,11 +22,11 @@ use Rattle.ra_model_read.specs.declared.faults.Field.TheVariants.{BalanceTarget,
 use Rattle.ra_model_read.specs.declared.faults.Field.TheVariants.{ServiceWeight, MachineWeight}
 use Rattle.ra_model_read.specs.Formats.{Left, Outcome, Read, Refused, any, field, along, numbers, ends}
 use Rattle.ra_model_read.specs.Lists.{ServiceNumbers, BalanceNumbers, MachineLists, ServiceLists, ProcessLists, Weights}
-use Rattle.ra_model_read.specs.Lists.{Lists, of_machine, of_service, of_process, of_balance, lists_of}
+use Rattle.ra_model_read.specs.Lists.{Lists, of_machine, service_numbers_of, of_process, of_balance, lists_of}
 use Rattle.ra_model_read.specs.ModelText.{machine, machines, dependency, service, services, process, processes, balance}
 use Rattle.ra_model_read.specs.ModelText.{balances, weights, model, all_of, answer_of, model_of}
-use Rattle.ra_model_read.specs.FieldOrder.{joined, row_of, machine_numbers, service_numbers, process_numbers}
-use Rattle.ra_model_read.specs.FieldOrder.{balance_numbers, numbers_of, IsTextOf}
+use Rattle.ra_model_read.specs.FieldOrder.{end_to_end, row_numbers, machine_numbers, service_numbers, process_numbers}
+use Rattle.ra_model_read.specs.FieldOrder.{balance_numbers, all_numbers_of, IsTextOf}
 use Rattle.ra_model_read.proofs.Inversion.{Took, took_then, bind_back, pure_back, any_back, field_back, along_known}
 use Rattle.ra_model_read.proofs.Inversion.{along_back, snoc_same}
 use Rattle.ra_model_read.proofs.Parts.{model_parts}
@@ -160,7 +160,7 @@ machine_back raw h k y l m within e =
 
 pub machines_back : (raw : RawInstance) → WellFormed (all_open raw) → (l m : Left) →
     machines (length raw.resources.items) l ≡ Read (lists_of raw).machines m →
-    Took l m (machine_count (all_open raw) ∷ joined (machine_count (all_open raw)) (machine_numbers (all_open raw)))
+    Took l m (machine_count (all_open raw) ∷ end_to_end (machine_count (all_open raw)) (machine_numbers (all_open raw)))
 unfolding machines machine_count
 machines_back raw h l m e = counted_back MachineCount 1 5000 (λ c. machine (length raw.resources.items) c) (record {
   rows = [];
@@ -187,12 +187,12 @@ last_of [] row end = refl
 last_of (first ∷ rows) row end = last_of rows row first.dependency_end
 
 start_is_last : (raw : RawInstance) (s : ℕ) → s ≤ length raw.services.items →
-    last_end (map of_service (take s raw.services.items)) 0 ≡ dependency_start (all_open raw) s
+    last_end (map service_numbers_of (take s raw.services.items)) 0 ≡ dependency_start (all_open raw) s
 unfolding dependency_start dependency_end service_row last_end
 start_is_last raw zero few = refl
 start_is_last raw (suc s) few =
-    ap (λ rows. last_end rows 0) (sym (row_more of_service raw.services.items s _ (omega arith)))
-    ∙ last_of (map of_service (take s raw.services.items)) _ 0
+    ap (λ rows. last_end rows 0) (sym (row_more service_numbers_of raw.services.items s _ (omega arith)))
+    ∙ last_of (map service_numbers_of (take s raw.services.items)) _ 0
 
 pub record KnownServices (k : ℕ) (y : ServiceLists) : Type 0 where
   pub rows : length y.rows ≡ k
@@ -215,7 +215,7 @@ dependencies_back : (raw : RawInstance) (S first n last : ℕ) (y : List Service
     first + n ≡ last → last ≤ length raw.dependencies.items →
     ((k : ℕ) → k < n → f k ≡ need_at (all_open raw) (first + k)) →
     along n (dependency S first) y l ≡ Read (take last raw.dependencies.items) m →
-    (y ≡ take first raw.dependencies.items) × Took l m (row_of n f)
+    (y ≡ take first raw.dependencies.items) × Took l m (row_numbers n f)
 unfolding dependency need_at nothing_known
 dependencies_back raw S first n last y f l m ends within each e =
     let at_end : along n (dependency S first) y l ≡ Read (take (first + n) raw.dependencies.items) m = rw ends e in
@@ -282,11 +282,11 @@ service_back raw h s y l m within known e =
       rows = y.rows ++ record { spread_min = one.value; dependency_end = length three.value } ∷ [];
       dependencies = three.value;
     }) z three.left m three.second in
-    let last = snoc_same y.rows (map of_service (take s raw.services.items)) (record {
+    let last = snoc_same y.rows (map service_numbers_of (take s raw.services.items)) (record {
       spread_min = one.value;
       dependency_end = length three.value;
-    }) (of_service (service_row (all_open raw) s))
-    (ap (λ t. t.rows) made.0 ∙ sym (row_more of_service raw.services.items s _ within)) in
+    }) (service_numbers_of (service_row (all_open raw) s))
+    (ap (λ t. t.rows) made.0 ∙ sym (row_more service_numbers_of raw.services.items s _ within)) in
     let first_is : length y.dependencies ≡ dependency_start (all_open raw) s = known.ends
     ∙ ap (λ rows. last_end rows 0) last.0 ∙ start_is_last raw s (omega arith) in
     let end_is : length three.value ≡ dependency_end (all_open raw) s = ap (λ row. row.dependency_end) last.1 in
@@ -313,17 +313,17 @@ service_back raw h s y l m within known e =
           (took_value one.left two.left two.value _ count_is
           (field_back DependencyCount s 0 (100000 - length y.dependencies) one.left two.left two.value
           two.first))
-          (subst (λ c. Took two.left three.left (row_of c (need_of (all_open raw) s))) count_is needs.1))),
+          (subst (λ c. Took two.left three.left (row_numbers c (need_of (all_open raw) s))) count_is needs.1))),
     )
 
 pub services_back : (raw : RawInstance) → WellFormed (all_open raw) → (l m : Left) →
     services l ≡ Read (lists_of raw).services m →
-    Took l m (service_count (all_open raw) ∷ joined (service_count (all_open raw)) (service_numbers (all_open raw)))
+    Took l m (service_count (all_open raw) ∷ end_to_end (service_count (all_open raw)) (service_numbers (all_open raw)))
 unfolding services service_count last_end
 services_back raw h l m e = counted_back ServiceCount 1 50000 service (record { rows = []; dependencies = [] })
     (services_to raw) (service_numbers (all_open raw)) KnownServices (λ y. length y.rows) (length raw.services.items)
     (λ c k y z p q known step. service_known c k y z p q known step) (λ k y known. known.rows)
-    (ap (λ t. length t.rows) (all_services raw h) ∙ length-map raw.services.items of_service)
+    (ap (λ t. length t.rows) (all_services raw h) ∙ length-map raw.services.items service_numbers_of)
     (record { rows = refl; ends = refl })
     (λ k y p q below known step. service_back raw h k y p q below known step) l m
     (e ∙ ap (λ y. Read y m) (sym (all_services raw h)))
@@ -388,7 +388,7 @@ process_back raw h p y l m within e =
 
 pub processes_back : (raw : RawInstance) → WellFormed (all_open raw) → (l m : Left) →
     processes (length raw.services.items) (length raw.resources.items) l ≡ Read (lists_of raw).processes m →
-    Took l m (process_count (all_open raw) ∷ joined (process_count (all_open raw)) (process_numbers (all_open raw)))
+    Took l m (process_count (all_open raw) ∷ end_to_end (process_count (all_open raw)) (process_numbers (all_open raw)))
 unfolding processes process_count
 processes_back raw h l m e =
     counted_back ProcessCount 1 50000 (λ c. process (length raw.services.items) (length raw.resources.items))
@@ -458,7 +458,7 @@ balance_back raw b y l m within e =
 
 pub balances_back : (raw : RawInstance) (l m : Left) → balances (length raw.resources.items) l ≡
     Read (map of_balance raw.balances.items) m →
-    Took l m (balance_count (all_open raw) ∷ joined (balance_count (all_open raw)) (balance_numbers (all_open raw)))
+    Took l m (balance_count (all_open raw) ∷ end_to_end (balance_count (all_open raw)) (balance_numbers (all_open raw)))
 unfolding balances balance_count
 balances_back raw l m e = counted_back BalanceCount 0 10 (λ c. balance (length raw.resources.items)) []
     (λ k. map of_balance (take k raw.balances.items)) (balance_numbers (all_open raw)) (λ k y. length y ≡ k)
@@ -495,8 +495,8 @@ weights_back raw l m e =
     (any_back MachineWeight 0 two.left three.left three.value three.first))))
 
 model_back : (raw : RawInstance) → WellFormed (all_open raw) → (l m : Left) → model l ≡ Read (lists_of raw) m →
-    (map value_of l.tokens ≡ numbers_of (all_open raw)) × (l.fault ≡ None)
-unfolding numbers_of
+    (map value_of l.tokens ≡ all_numbers_of (all_open raw)) × (l.fault ≡ None)
+unfolding all_numbers_of
 model_back raw h l m e =
     let parts = model_parts raw l m e in
     let others = parts.others in
@@ -511,13 +511,13 @@ model_back raw h l m e =
     (took_then others.after_processes others.after_balances others.last _ _
     (balances_back raw others.after_processes others.after_balances others.balance_part)
     (weights_back raw others.after_balances others.last others.weight_part))))) in (
-      all.values ∙ ap (λ left. numbers_of (all_open raw) ++ map value_of left) others.ended.0
-          ∙ append-nil (numbers_of (all_open raw)),
+      all.values ∙ ap (λ left. all_numbers_of (all_open raw) ++ map value_of left) others.ended.0
+          ∙ append-nil (all_numbers_of (all_open raw)),
       sym all.fault ∙ others.ended.1,
     )
 
 answer_back : (raw : RawInstance) → WellFormed (all_open raw) → (l : Left) (o : Outcome Lists) → model l ≡ o →
-    answer_of o ≡ Ok (lists_of raw) → (map value_of l.tokens ≡ numbers_of (all_open raw)) × (l.fault ≡ None)
+    answer_of o ≡ Ok (lists_of raw) → (map value_of l.tokens ≡ all_numbers_of (all_open raw)) × (l.fault ≡ None)
 unfolding answer_of
 answer_back raw h l (Read x m) e d =
     let same : x ≡ lists_of raw = cc in model_back raw h l m (e ∙ ap (λ y. Read y m) same)

@@ -5,24 +5,25 @@ use Rattle.ra_model.specs.Limits.{WellFormed}
 use Rattle.ra_model.specs.Numbers.{all_open, resource_count, machine_count, service_count, process_count, balance_count}
 use Rattle.ra_model.specs.Numbers.{service_row, process_row, balance_row, dependency_end, dependency_start, need_at}
 use Rattle.ra_model.specs.Numbers.{service_of, first_of, second_of}
-use Rattle.ra_model_read.specs.TableShapes.{end_in, start_in, needed_in, service_in, first_in, second_in, AreBalances}
+use Rattle.ra_model_read.specs.TableShapes.{dependency_end_in, dependency_start_in, needed_in, row_service_in, first_in}
+use Rattle.ra_model_read.specs.TableShapes.{second_in, AreBalances}
 use Rattle.ra_model_read.specs.TableShapes.{IsMachines, IsServices, IsProcesses}
 
-start_is : (raw : RawInstance) (s : ℕ) → dependency_start (all_open raw) s ≡ start_in raw.services.items s
-unfolding dependency_start dependency_end service_row start_in end_in
+start_is : (raw : RawInstance) (s : ℕ) → dependency_start (all_open raw) s ≡ dependency_start_in raw.services.items s
+unfolding dependency_start dependency_end service_row dependency_start_in dependency_end_in
 start_is raw zero = refl
 start_is raw (suc s) = refl
 
-end_is : (raw : RawInstance) (s : ℕ) → dependency_end (all_open raw) s ≡ end_in raw.services.items s
-unfolding dependency_end service_row end_in
+end_is : (raw : RawInstance) (s : ℕ) → dependency_end (all_open raw) s ≡ dependency_end_in raw.services.items s
+unfolding dependency_end service_row dependency_end_in
 end_is raw s = refl
 
 need_is : (raw : RawInstance) (place : ℕ) → need_at (all_open raw) place ≡ needed_in raw.dependencies.items place
 unfolding need_at needed_in
 need_is raw place = refl
 
-service_is : (raw : RawInstance) (p : ℕ) → service_of (all_open raw) p ≡ service_in raw.processes.items p
-unfolding service_of process_row service_in
+service_is : (raw : RawInstance) (p : ℕ) → service_of (all_open raw) p ≡ row_service_in raw.processes.items p
+unfolding service_of process_row row_service_in
 service_is raw p = refl
 
 first_is : (raw : RawInstance) (b : ℕ) → first_of (all_open raw) b ≡ first_in raw.balances.items b

@@ -73,8 +73,8 @@ of_resource row = record { transient = row.transient; load_weight = row.load_wei
 abbrev pub of_machine : MachineRow → MachineNumbers
 of_machine row = record { neighbourhood = row.neighbourhood; location = row.location }
 
-abbrev pub of_service : ServiceRow → ServiceNumbers
-of_service row = record { spread_min = row.spread_min; dependency_end = row.dependency_end }
+abbrev pub service_numbers_of : ServiceRow → ServiceNumbers
+service_numbers_of row = record { spread_min = row.spread_min; dependency_end = row.dependency_end }
 
 abbrev pub of_process : ProcessRow → ProcessNumbers
 of_process row = record { service = row.service; move_cost = row.move_cost }
@@ -94,7 +94,7 @@ lists_of raw = record {
     move_costs = raw.move_costs.items;
   };
   services =
-      record { rows = map of_service raw.services.items; dependencies = raw.dependencies.items };
+      record { rows = map service_numbers_of raw.services.items; dependencies = raw.dependencies.items };
   processes =
       record { rows = map of_process raw.processes.items; requirements = raw.requirements.items };
   balances = map of_balance raw.balances.items;

@@ -42,7 +42,7 @@ is_by_content (Extra at) = true
 is_by_content NoMemory = false
 
 -- the format refuses what is left with this fault, or a failed fetch was counted, or the system refused memory
-pub record Refuses {X : Type 0} (f : Format X) (a b : Here) (fault : ModelFault) : Type 0 where
+pub record FormatRefuses {X : Type 0} (f : Format X) (a b : Here) (fault : ModelFault) : Type 0 where
   pub goes : Goes a b
   pub rose : fault ≡ ReadFault → Rose (a.faults a.tokens.name) (b.faults a.tokens.name)
   pub told : IsTrue (is_by_content fault)

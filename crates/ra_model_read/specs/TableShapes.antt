@@ -11,7 +11,8 @@ use Rattle.ra_model_read.specs.declared.tables.ServiceTables.{ServiceTables}
 use Rattle.ra_model_read.specs.declared.tables.ProcessTables.{ProcessTables}
 use Rattle.ra_model_read.specs.declared.tables.RestTables.{RestTables}
 use Rattle.ra_model_read.specs.declared.tables.WeightNumbers.{WeightNumbers}
-use Rattle.ra_model_read.specs.Lists.{MachineLists, ServiceLists, ProcessLists, Weights, Rest, of_machine, of_service}
+use Rattle.ra_model_read.specs.Lists.{MachineLists, ServiceLists, ProcessLists, Weights, Rest, of_machine}
+use Rattle.ra_model_read.specs.Lists.{service_numbers_of}
 use Rattle.ra_model_read.specs.Lists.{of_process, of_balance}
 
 -- the lists of the tables
@@ -26,7 +27,7 @@ machine_lists t =
     }
 
 abbrev pub service_lists : ServiceTables → ServiceLists
-service_lists t = record { rows = map of_service t.rows.items; dependencies = t.dependencies.items }
+service_lists t = record { rows = map service_numbers_of t.rows.items; dependencies = t.dependencies.items }
 
 abbrev pub process_lists : ProcessTables → ProcessLists
 process_lists t = record { rows = map of_process t.rows.items; requirements = t.requirements.items }
@@ -75,12 +76,12 @@ pub record HasMachines (R M m : ℕ) (t : MachineTables) : Type 0 where
   pub move_costs_room : t.move_costs.room ≡ M * M
 
 -- where the dependencies of service s end, and where they start
-unfoldable pub end_in : List ServiceRow → ℕ → ℕ
-end_in rows s = (slice_index_or rows s zero_service).dependency_end
+unfoldable pub dependency_end_in : List ServiceRow → ℕ → ℕ
+dependency_end_in rows s = (slice_index_or rows s zero_service).dependency_end
 
-unfoldable pub start_in : List ServiceRow → ℕ → ℕ
-start_in rows zero = 0
-start_in rows (suc s) = end_in rows s
+unfoldable pub dependency_start_in : List ServiceRow → ℕ → ℕ
+dependency_start_in rows zero = 0
+dependency_start_in rows (suc s) = dependency_end_in rows s
 
 unfoldable pub needed_in : List Service → ℕ → ℕ
 needed_in dependencies place = (slice_index_or dependencies place (record { 0 = 0 })).0
@@ -100,12 +101,12 @@ pub record HasServices (S s : ℕ) (t : ServiceTables) : Type 0 where
   pub rows : length t.rows.items ≡ s
   pub rows_room : t.rows.room ≡ S
   pub dependencies : HasDependencies S t.dependencies
-  pub in_order : (k : ℕ) → k < s → start_in t.rows.items k ≤ end_in t.rows.items k
-  pub within : (k : ℕ) → k < s → end_in t.rows.items k ≤ length t.dependencies.items
-  pub all_owned : start_in t.rows.items s ≡ length t.dependencies.items
+  pub in_order : (k : ℕ) → k < s → dependency_start_in t.rows.items k ≤ dependency_end_in t.rows.items k
+  pub within : (k : ℕ) → k < s → dependency_end_in t.rows.items k ≤ length t.dependencies.items
+  pub all_owned : dependency_start_in t.rows.items s ≡ length t.dependencies.items
 
-unfoldable pub service_in : List ProcessRow → ℕ → ℕ
-service_in rows p = (slice_index_or rows p zero_process).service.0
+unfoldable pub row_service_in : List ProcessRow → ℕ → ℕ
+row_service_in rows p = (slice_index_or rows p zero_process).service.0
 
 -- p processes of P were read, of S services and for R resources; P and R are within their limits
 pub record HasProcesses (S R P p : ℕ) (t : ProcessTables) : Type 0 where
@@ -115,7 +116,7 @@ pub record HasProcesses (S R P p : ℕ) (t : ProcessTables) : Type 0 where
   pub requirements : length t.requirements.items ≡ p * R
   pub rows_room : t.rows.room ≡ P
   pub requirements_room : t.requirements.room ≡ P * R
-  pub services : (k : ℕ) → k < p → service_in t.rows.items k < S
+  pub services : (k : ℕ) → k < p → row_service_in t.rows.items k < S
 
 unfoldable pub first_in : List BalanceRow → ℕ → ℕ
 first_in rows b = (slice_index_or rows b zero_balance).first.0

@@ -2,7 +2,7 @@ ghost use Rattle.std.specs.Prelude.{◌≡◌, ◌+◌, ◌<◌, ◌≤◌, leng
 ghost use Rattle.ra_model_read.specs.Lists.{of_balance};
 ghost use Rattle.ra_model_read.specs.ModelText.{balance, balances};
 ghost use Rattle.ra_token.specs.Moments.{Stands};
-ghost use Rattle.ra_model_read.specs.Reading.{seen, Gives, Refuses};
+ghost use Rattle.ra_model_read.specs.Reading.{seen, Gives, FormatRefuses};
 ghost use Rattle.ra_model_read.specs.TableShapes.{AreBalances, HasBalances};
 
 use crate::faults::{Field, ModelFault};
@@ -29,7 +29,8 @@ pub(crate) fn read_balances<F: Files>(
         (seen F.Files files.old tokens.old) (seen F.Files files.new tokens.new)
         (map of_balance rows.items)) }
     ensures refuses { IfErr result
-        (Refuses (balances resource_count) (seen F.Files files.old tokens.old) (seen F.Files files.new tokens.new)) }
+        (FormatRefuses (balances resource_count)
+        (seen F.Files files.old tokens.old) (seen F.Files files.new tokens.new)) }
 {
     let count = read_field(files, tokens, Field::BalanceCount, 0, 0, 10)?;
     let mut rows = Fixed::make(alloc, count as usize)?;
@@ -57,7 +58,7 @@ fn read_balance<F: Files>(
     ensures has { OnOk result (HasBalances resource_count (b + 1) rows.new) }
     ensures room { rows.new.room ≡ rows.old.room }
     ensures refuses { IfErr result
-        (Refuses (balance resource_count b (map of_balance rows.old.items))
+        (FormatRefuses (balance resource_count b (map of_balance rows.old.items))
         (seen F.Files files.old tokens.old) (seen F.Files files.new tokens.new)) }
 {
     let first = read_field(

@@ -1,7 +1,7 @@
 ghost use Rattle.std.specs.Prelude.{◌≡◌, ◌+◌, ◌^◌, ◌<◌, ◌≤◌, length, IfOk, IfErr, OnOk};
 ghost use Rattle.ra_model_read.specs.Formats.{next_token, token_fault, any, field, flag, numbers, ends};
 ghost use Rattle.ra_token.specs.Moments.{Stands};
-ghost use Rattle.ra_model_read.specs.Reading.{seen, Gives, Refuses};
+ghost use Rattle.ra_model_read.specs.Reading.{seen, Gives, FormatRefuses};
 
 use crate::faults::{Field, ModelFault};
 use ra_base::Fixed;
@@ -34,7 +34,7 @@ pub(crate) fn read_token<F: Files>(
     ensures gives { IfOk result (Gives (next_token what item)
         (seen F.Files files.old tokens.old) (seen F.Files files.new tokens.new)) }
     ensures refuses { IfErr result
-        (Refuses (next_token what item) (seen F.Files files.old tokens.old) (seen F.Files files.new tokens.new)) }
+        (FormatRefuses (next_token what item) (seen F.Files files.old tokens.old) (seen F.Files files.new tokens.new)) }
 {
     match tokens.next(files) {
         Ok(Some(token)) => Ok(token),
@@ -55,7 +55,7 @@ pub(crate) fn read_any<F: Files>(
     ensures gives { IfOk result (Gives (any what item)
         (seen F.Files files.old tokens.old) (seen F.Files files.new tokens.new)) }
     ensures refuses { IfErr result
-        (Refuses (any what item) (seen F.Files files.old tokens.old) (seen F.Files files.new tokens.new)) }
+        (FormatRefuses (any what item) (seen F.Files files.old tokens.old) (seen F.Files files.new tokens.new)) }
 {
     let token = read_token(files, tokens, what, item)?;
     Ok(token.value)
@@ -75,7 +75,7 @@ pub(crate) fn read_field<F: Files>(
     ensures high { IfOk result (λ value. value ≤ most) }
     ensures gives { IfOk result (Gives (field what item least most)
         (seen F.Files files.old tokens.old) (seen F.Files files.new tokens.new)) }
-    ensures refuses { IfErr result (Refuses (field what item least most)
+    ensures refuses { IfErr result (FormatRefuses (field what item least most)
         (seen F.Files files.old tokens.old) (seen F.Files files.new tokens.new)) }
 {
     let token = read_token(files, tokens, what, item)?;
@@ -101,7 +101,7 @@ pub(crate) fn read_flag<F: Files>(
     ensures gives { IfOk result (Gives (flag r)
         (seen F.Files files.old tokens.old) (seen F.Files files.new tokens.new)) }
     ensures refuses { IfErr result
-        (Refuses (flag r) (seen F.Files files.old tokens.old) (seen F.Files files.new tokens.new)) }
+        (FormatRefuses (flag r) (seen F.Files files.old tokens.old) (seen F.Files files.new tokens.new)) }
 {
     let token = read_token(files, tokens, Field::Transient, r)?;
     match token.value {
@@ -130,7 +130,7 @@ pub(crate) fn read_numbers<F: Files>(
         (seen F.Files files.old tokens.old) (seen F.Files files.new tokens.new) table.new.items) }
     ensures length { OnOk result (length table.new.items ≡ length table.old.items + count) }
     ensures room { table.new.room ≡ table.old.room }
-    ensures refuses { IfErr result (Refuses (numbers what first count table.old.items)
+    ensures refuses { IfErr result (FormatRefuses (numbers what first count table.old.items)
         (seen F.Files files.old tokens.old) (seen F.Files files.new tokens.new)) }
 {
     match tokens.next_values(files, count, table) {
@@ -149,7 +149,7 @@ pub(crate) fn read_end<F: Files>(files: &mut F, tokens: &mut Tokens) -> Result<(
     ensures gives { OnOk result (Gives ends
         (seen F.Files files.old tokens.old) (seen F.Files files.new tokens.new) tt) }
     ensures refuses { IfErr result
-        (Refuses ends (seen F.Files files.old tokens.old) (seen F.Files files.new tokens.new)) }
+        (FormatRefuses ends (seen F.Files files.old tokens.old) (seen F.Files files.new tokens.new)) }
 {
     match tokens.next(files) {
         Ok(Some(token)) => Err(ModelFault::Extra { at: token.at }),

@@ -1,7 +1,7 @@
 ghost use Rattle.std.specs.Prelude.{◌≡◌, ◌+◌, ◌<◌, ◌≤◌, IfOk, IfErr, OnOk};
 ghost use Rattle.ra_model_read.specs.ModelText.{machine, machines};
 ghost use Rattle.ra_token.specs.Moments.{Stands};
-ghost use Rattle.ra_model_read.specs.Reading.{seen, Gives, Refuses};
+ghost use Rattle.ra_model_read.specs.Reading.{seen, Gives, FormatRefuses};
 ghost use Rattle.ra_model_read.specs.TableShapes.{machine_lists, HasMachines, IsMachines};
 
 use crate::faults::{Field, ModelFault};
@@ -28,7 +28,8 @@ pub(crate) fn read_machines<F: Files>(
         (seen F.Files files.old tokens.old) (seen F.Files files.new tokens.new)
         (machine_lists tables)) }
     ensures refuses { IfErr result
-        (Refuses (machines resource_count) (seen F.Files files.old tokens.old) (seen F.Files files.new tokens.new)) }
+        (FormatRefuses (machines resource_count)
+        (seen F.Files files.old tokens.old) (seen F.Files files.new tokens.new)) }
 {
     let count = read_field(files, tokens, Field::MachineCount, 0, 1, 5000)?;
     let mut tables = machine_tables(alloc, resource_count, count)?;
@@ -79,7 +80,7 @@ fn read_machine<F: Files>(
         (machine_lists tables.new)) }
     ensures has { OnOk result (HasMachines resource_count machine_count (m + 1) tables.new) }
     ensures refuses { IfErr result
-        (Refuses (machine resource_count machine_count m (machine_lists tables.old))
+        (FormatRefuses (machine resource_count machine_count m (machine_lists tables.old))
         (seen F.Files files.old tokens.old) (seen F.Files files.new tokens.new)) }
 {
     let neighbourhood = read_any(files, tokens, Field::Neighbourhood, m as u64)?;

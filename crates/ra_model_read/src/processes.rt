@@ -1,7 +1,7 @@
 ghost use Rattle.std.specs.Prelude.{◌≡◌, ◌+◌, ◌<◌, ◌≤◌, IfOk, IfErr, OnOk};
 ghost use Rattle.ra_model_read.specs.ModelText.{process, processes};
 ghost use Rattle.ra_token.specs.Moments.{Stands};
-ghost use Rattle.ra_model_read.specs.Reading.{seen, Gives, Refuses};
+ghost use Rattle.ra_model_read.specs.Reading.{seen, Gives, FormatRefuses};
 ghost use Rattle.ra_model_read.specs.TableShapes.{process_lists, HasProcesses, IsProcesses};
 
 use crate::faults::{Field, ModelFault};
@@ -28,7 +28,7 @@ pub(crate) fn read_processes<F: Files>(
     ensures gives { IfOk result (λ tables. Gives (processes service_count resource_count)
         (seen F.Files files.old tokens.old) (seen F.Files files.new tokens.new)
         (process_lists tables)) }
-    ensures refuses { IfErr result (Refuses (processes service_count resource_count)
+    ensures refuses { IfErr result (FormatRefuses (processes service_count resource_count)
         (seen F.Files files.old tokens.old) (seen F.Files files.new tokens.new)) }
 {
     let count = read_field(files, tokens, Field::ProcessCount, 0, 1, 50_000)?;
@@ -84,7 +84,7 @@ fn read_process<F: Files>(
     ensures has { OnOk result (HasProcesses service_count resource_count process_count
         (p + 1) tables.new) }
     ensures refuses { IfErr result
-        (Refuses (process service_count resource_count p (process_lists tables.old))
+        (FormatRefuses (process service_count resource_count p (process_lists tables.old))
         (seen F.Files files.old tokens.old) (seen F.Files files.new tokens.new)) }
 {
     let service = read_field(

@@ -5,7 +5,7 @@ ghost use Rattle.ra_model.specs.Numbers.{all_open};
 ghost use Rattle.ra_model_read.specs.Lists.{lists_of};
 ghost use Rattle.ra_model_read.specs.ModelText.{weights, rest, model, model_refusal};
 ghost use Rattle.ra_token.specs.Moments.{Stands};
-ghost use Rattle.ra_model_read.specs.Reading.{seen, Gives, Refuses, is_by_content};
+ghost use Rattle.ra_model_read.specs.Reading.{seen, Gives, FormatRefuses, is_by_content};
 ghost use Rattle.ra_model_read.specs.TableShapes.{IsRest, rest_lists, weight_numbers};
 ghost use Rattle.ra_model_read.specs.Texts.{IsToldModel, IsToldText, ModelIsItsNumbers};
 
@@ -67,7 +67,7 @@ fn read_raw<F: Files>(
         Gives model (seen F.Files files.old tokens.old) (seen F.Files files.new tokens.new)
         (lists_of raw)) }
     ensures refuses { IfErr result
-        (Refuses model (seen F.Files files.old tokens.old) (seen F.Files files.new tokens.new)) }
+        (FormatRefuses model (seen F.Files files.old tokens.old) (seen F.Files files.new tokens.new)) }
 {
     let resources = read_resources(alloc, files, tokens)?;
     let resource_count = resources.len() as u32;
@@ -108,7 +108,7 @@ fn read_rest<F: Files>(
     ensures gives { IfOk result (λ tables. Gives (rest service_count resource_count)
         (seen F.Files files.old tokens.old) (seen F.Files files.new tokens.new)
         (rest_lists tables)) }
-    ensures refuses { IfErr result (Refuses (rest service_count resource_count)
+    ensures refuses { IfErr result (FormatRefuses (rest service_count resource_count)
         (seen F.Files files.old tokens.old) (seen F.Files files.new tokens.new)) }
 {
     let processes = read_processes(alloc, files, tokens, service_count, resource_count)?;
@@ -129,7 +129,7 @@ fn read_weights<F: Files>(files: &mut F, tokens: &mut Tokens) -> Result<WeightNu
         Gives weights (seen F.Files files.old tokens.old) (seen F.Files files.new tokens.new)
         (weight_numbers read)) }
     ensures refuses { IfErr result
-        (Refuses weights (seen F.Files files.old tokens.old) (seen F.Files files.new tokens.new)) }
+        (FormatRefuses weights (seen F.Files files.old tokens.old) (seen F.Files files.new tokens.new)) }
 {
     let process = read_any(files, tokens, Field::ProcessWeight, 0)?;
     let service = read_any(files, tokens, Field::ServiceWeight, 0)?;

@@ -2,7 +2,7 @@ ghost use Rattle.std.specs.Prelude.{◌≡◌, ◌+◌, ◌<◌, ◌≤◌, leng
 ghost use Rattle.ra_model_read.specs.Lists.{of_resource};
 ghost use Rattle.ra_model_read.specs.ModelText.{resource, resources};
 ghost use Rattle.ra_token.specs.Moments.{Stands};
-ghost use Rattle.ra_model_read.specs.Reading.{seen, Gives, Refuses};
+ghost use Rattle.ra_model_read.specs.Reading.{seen, Gives, FormatRefuses};
 
 use crate::faults::{Field, ModelFault};
 use crate::fields::{read_any, read_field, read_flag};
@@ -25,7 +25,7 @@ pub(crate) fn read_resources<F: Files>(
         Gives resources (seen F.Files files.old tokens.old) (seen F.Files files.new tokens.new)
         (map of_resource rows.items)) }
     ensures refuses { IfErr result
-        (Refuses resources (seen F.Files files.old tokens.old) (seen F.Files files.new tokens.new)) }
+        (FormatRefuses resources (seen F.Files files.old tokens.old) (seen F.Files files.new tokens.new)) }
 {
     let count = read_field(files, tokens, Field::ResourceCount, 0, 1, 20)?;
     let mut rows = Fixed::make(alloc, count as usize)?;
@@ -49,7 +49,7 @@ fn read_resource<F: Files>(
         (map of_resource rows.new.items)) }
     ensures length { OnOk result (length rows.new.items ≡ length rows.old.items + 1) }
     ensures room { rows.new.room ≡ rows.old.room }
-    ensures refuses { IfErr result (Refuses (resource r (map of_resource rows.old.items))
+    ensures refuses { IfErr result (FormatRefuses (resource r (map of_resource rows.old.items))
         (seen F.Files files.old tokens.old) (seen F.Files files.new tokens.new)) }
 {
     let transient = read_flag(files, tokens, r as u64)?;

@@ -1,7 +1,7 @@
 ghost use Rattle.std.specs.Prelude.{◌≡◌, ◌+◌, ◌<◌, ◌≤◌, length, IfOk, IfErr, OnOk};
 ghost use Rattle.ra_model_read.specs.ModelText.{dependencies_more, service, services};
 ghost use Rattle.ra_token.specs.Moments.{Stands};
-ghost use Rattle.ra_model_read.specs.Reading.{seen, Gives, Refuses};
+ghost use Rattle.ra_model_read.specs.Reading.{seen, Gives, FormatRefuses};
 ghost use Rattle.ra_model_read.specs.TableShapes.{service_lists, HasDependencies, HasServices, IsServices};
 
 use crate::faults::{Field, ModelFault};
@@ -28,7 +28,7 @@ pub(crate) fn read_services<F: Files>(
         Gives services (seen F.Files files.old tokens.old) (seen F.Files files.new tokens.new)
         (service_lists tables)) }
     ensures refuses { IfErr result
-        (Refuses services (seen F.Files files.old tokens.old) (seen F.Files files.new tokens.new)) }
+        (FormatRefuses services (seen F.Files files.old tokens.old) (seen F.Files files.new tokens.new)) }
 {
     let count = read_field(files, tokens, Field::ServiceCount, 0, 1, 50_000)?;
     let mut tables = service_tables(alloc, count)?;
@@ -63,7 +63,7 @@ fn read_service<F: Files>(
         (seen F.Files files.old tokens.old) (seen F.Files files.new tokens.new)
         (service_lists tables.new)) }
     ensures has { OnOk result (HasServices service_count (s + 1) tables.new) }
-    ensures refuses { IfErr result (Refuses (service service_count s (service_lists tables.old))
+    ensures refuses { IfErr result (FormatRefuses (service service_count s (service_lists tables.old))
         (seen F.Files files.old tokens.old) (seen F.Files files.new tokens.new)) }
 {
     let spread_min = read_any(files, tokens, Field::SpreadMin, s as u64)?;
@@ -100,7 +100,7 @@ fn read_dependencies<F: Files>(
         (seen F.Files files.old tokens.old) (seen F.Files files.new tokens.new) list.new.items) }
     ensures has { HasDependencies service_count list.new }
     ensures length { OnOk result (length list.new.items ≡ length list.old.items + count) }
-    ensures refuses { IfErr result (Refuses (dependencies_more service_count count list.old.items)
+    ensures refuses { IfErr result (FormatRefuses (dependencies_more service_count count list.old.items)
         (seen F.Files files.old tokens.old) (seen F.Files files.new tokens.new)) }
 {
     let first = list.len() as u64;

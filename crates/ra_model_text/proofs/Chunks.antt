@@ -6,7 +6,7 @@ use Rattle.std.proofs.lemmas.Grind.{flat_map-append}
 use Rattle.std.proofs.lemmas.List.{append-nil, take_all}
 use Rattle.std.specs.List.{flat_map}
 use Rattle.ra_report_text.specs.declared.gathered.Gathered.{Gathered}
-use Rattle.ra_report_text.specs.Gathering.{Adds}
+use Rattle.ra_report_text.specs.Gathering.{AddsText}
 use Rattle.ra_report_text.specs.Lines.{Prepends}
 use Rattle.ra_report_text.specs.Texts.{number_text}
 use Rattle.ra_model_text.specs.ModelLines.{spaced, number_word, numbers_text}
@@ -70,7 +70,7 @@ module _ {O : Type 0} (taken : O → Option (List ℕ)) (faults : O → ℕ) whe
   pub record Reached (numbers rest : List ℕ) (a b : Gathered O) : Type 0 where
     pub done : List ℕ
     pub parts : done ++ rest ≡ numbers
-    pub adds : Adds taken faults a b (numbers_text done)
+    pub adds : AddsText taken faults a b (numbers_text done)
 
   -- none, one more chunk, and all
   pub no_chunk : (numbers rest : List ℕ) (a : Gathered O) → rest ≡ numbers → Reached numbers rest a a
@@ -78,17 +78,17 @@ module _ {O : Type 0} (taken : O → Option (List ℕ)) (faults : O → ℕ) whe
   no_chunk numbers rest a all = record { done = []; parts = all; adds = adds_none taken faults a }
 
   pub chunk_more : (numbers chunk before rest : List ℕ) (a b c : Gathered O) → before ≡ chunk ++ rest →
-      Reached numbers before a b → Adds taken faults b c (numbers_text chunk) → Reached numbers rest a c
+      Reached numbers before a b → AddsText taken faults b c (numbers_text chunk) → Reached numbers rest a c
   unfolding numbers_text
   chunk_more numbers chunk before rest a b c cut so_far next = record {
     done = so_far.done ++ chunk;
     parts = append_assoc so_far.done chunk rest ∙ (ap (λ (t : List ℕ). so_far.done ++ t) (sym cut) ∙ so_far.parts);
-    adds = subst (Adds taken faults a c) (sym (flat_map-append number_word so_far.done chunk))
+    adds = subst (AddsText taken faults a c) (sym (flat_map-append number_word so_far.done chunk))
         (adds_more taken faults a b c (numbers_text so_far.done) (numbers_text chunk) so_far.adds next);
   }
 
   pub all_chunks : (numbers rest : List ℕ) (a b : Gathered O) → rest ≡ [] → Reached numbers rest a b →
-      Adds taken faults a b (numbers_text numbers)
+      AddsText taken faults a b (numbers_text numbers)
   all_chunks numbers rest a b none so_far =
-      subst (λ (t : List ℕ). Adds taken faults a b (numbers_text t))
+      subst (λ (t : List ℕ). AddsText taken faults a b (numbers_text t))
       (sym (append-nil so_far.done) ∙ (ap (λ (t : List ℕ). so_far.done ++ t) (sym none) ∙ so_far.parts)) so_far.adds

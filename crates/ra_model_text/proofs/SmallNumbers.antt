@@ -8,8 +8,8 @@ use Rattle.ra_model.specs.Numbers.{resource_count, machine_count, service_count,
 use Rattle.ra_model.specs.Numbers.{transient_at, capacity_of, safety_of, way_cost_of, dependency_start, dependency_end}
 use Rattle.ra_model.specs.Numbers.{dependency_count, need_of, requirement_of, first_of, second_of, target_of}
 use Rattle.ra_model.specs.Numbers.{balance_weight_of, process_weight_of, service_weight_of, machine_weight_of}
-use Rattle.ra_model_read.specs.FieldOrder.{joined, row_of, resource_numbers, machine_numbers, service_numbers}
-use Rattle.ra_model_read.specs.FieldOrder.{process_numbers, balance_numbers, numbers_of}
+use Rattle.ra_model_read.specs.FieldOrder.{end_to_end, row_numbers, resource_numbers, machine_numbers, service_numbers}
+use Rattle.ra_model_read.specs.FieldOrder.{process_numbers, balance_numbers, all_numbers_of}
 use Rattle.ra_model_text.specs.Lines.{line_text}
 use Rattle.ra_model_text.proofs.LineTexts.{IsSmall}
 use Rattle.ra_model_text.proofs.LineTokens.{Small}
@@ -27,11 +27,11 @@ none = record { all = All-nil IsSmall }
 more : (n : ℕ) (ns : List ℕ) → n < 2 ^ 32 → AreSmall ns → AreSmall (n ∷ ns)
 more n ns small rest = record { all = All-cons IsSmall n ns small rest.all }
 
-row_small : (n : ℕ) (f : ℕ → ℕ) → ((k : ℕ) → k < n → f k < 2 ^ 32) → AreSmall (row_of n f)
-unfolding joined
+row_small : (n : ℕ) (f : ℕ → ℕ) → ((k : ℕ) → k < n → f k < 2 ^ 32) → AreSmall (row_numbers n f)
+unfolding end_to_end
 row_small zero f each = none
 row_small (suc n) f each = record {
-  all = All-push IsSmall (row_of n f) (f n) (row_small n f (λ k within. each k (omega arith))).all
+  all = All-push IsSmall (row_numbers n f) (f n) (row_small n f (λ k within. each k (omega arith))).all
       (each n (omega arith));
 }
 
@@ -54,9 +54,9 @@ module _ (i : Tables) (fits : limits.WellFormed i) (small : limits.Small i) wher
   unfolding machine_text machine_numbers
   machine_told m = line _ _
       (more _ _ (small.neighbourhoods m) (more _ _ (small.locations m)
-      (both (row_of (resource_count i) (capacity_of i m)) _
+      (both (row_numbers (resource_count i) (capacity_of i m)) _
       (row_small (resource_count i) (capacity_of i m) (λ r within. small.capacities m r))
-      (both (row_of (resource_count i) (safety_of i m)) _
+      (both (row_numbers (resource_count i) (safety_of i m)) _
       (row_small (resource_count i) (safety_of i m) (λ r within. small.safeties m r))
       (row_small (machine_count i) (way_cost_of i m) (λ b within. small.way_costs m b))))))
 
@@ -84,7 +84,7 @@ module _ (i : Tables) (fits : limits.WellFormed i) (small : limits.Small i) wher
   unfolding process_text process_numbers
   process_told p p_in = line _ _
       (more _ _ (omega (arith, fits.services p p_in, fits.few_services))
-      (both (row_of (resource_count i) (requirement_of i p)) _
+      (both (row_numbers (resource_count i) (requirement_of i p)) _
       (row_small (resource_count i) (requirement_of i p) (λ r within. small.requirements p r))
       (more _ _ (small.process_costs p) none)))
 
@@ -103,8 +103,8 @@ module _ (i : Tables) (fits : limits.WellFormed i) (small : limits.Small i) wher
   weights_told =
       line _ _ (more _ _ small.process_weight (more _ _ small.service_weight (more _ _ small.machine_weight none)))
 
-  pub model_told : Tells (model_text i) (numbers_of i)
-  unfolding model_text numbers_of
+  pub model_told : Tells (model_text i) (all_numbers_of i)
+  unfolding model_text all_numbers_of
   model_told =
       tells_append _ _ _ _
       (tells_group (resource_count i) (resource_text i) (resource_numbers i) (omega (arith, fits.few_resources))

@@ -7,7 +7,7 @@ use Rattle.ra_token.specs.Faults.{first_fault}
 use Rattle.ra_token.specs.TokenList.{tokens}
 use Rattle.ra_token.specs.Values.{value_of}
 use Rattle.ra_token.proofs.Written.{Ahead, ahead_all, ahead_none}
-use Rattle.ra_model_read.specs.FieldOrder.{joined, counted}
+use Rattle.ra_model_read.specs.FieldOrder.{end_to_end, with_count}
 use Rattle.ra_model_text.specs.Lines.{line_text}
 use Rattle.ra_model_text.proofs.LineTexts.{IsSmall, line_short}
 use Rattle.ra_model_text.proofs.LineTokens.{Small, line_ahead}
@@ -47,19 +47,20 @@ tells_append s t xs ys one two =
     }
 
 -- n texts
-tells_joined : (n : ℕ) (f g : ℕ → List ℕ) → ((k : ℕ) → k < n → Tells (f k) (g k)) → Tells (joined n f) (joined n g)
-unfolding joined
+tells_joined : (n : ℕ) (f g : ℕ → List ℕ) → ((k : ℕ) → k < n → Tells (f k) (g k)) →
+    Tells (end_to_end n f) (end_to_end n g)
+unfolding end_to_end
 tells_joined zero f g each = tells_none
 tells_joined (suc n) f g each =
-    tells_append (joined n f) (f n) (joined n g) (g n) (tells_joined n f g (λ k within. each k (omega arith)))
+    tells_append (end_to_end n f) (f n) (end_to_end n g) (g n) (tells_joined n f g (λ k within. each k (omega arith)))
     (each n (omega arith))
 
 -- a count and n texts
 pub tells_group : (n : ℕ) (f g : ℕ → List ℕ) → n < 2 ^ 32 → ((k : ℕ) → k < n → Tells (f k) (g k)) →
-    Tells (group_text n f) (counted n g)
+    Tells (group_text n f) (with_count n g)
 unfolding group_text
 tells_group n f g few each =
-    tells_append (line_text (n ∷ [])) (joined n f) (n ∷ []) (joined n g)
+    tells_append (line_text (n ∷ [])) (end_to_end n f) (n ∷ []) (end_to_end n g)
     (tells_line n [] (All-cons IsSmall n [] few (All-nil IsSmall)))
     (tells_joined n f g each)
 

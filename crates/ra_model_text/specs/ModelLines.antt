@@ -2,7 +2,7 @@
 use Rattle.std.specs.Prelude.{ℕ, zero, suc, List, [], ◌∷◌, ◌++◌}
 use Rattle.std.specs.Fmt.{decimal}
 use Rattle.std.specs.List.{flat_map}
-use Rattle.ra_model_read.specs.FieldOrder.{joined}
+use Rattle.ra_model_read.specs.FieldOrder.{end_to_end}
 use Rattle.ra_model_text.specs.Lines.{line_text}
 
 -- f 0 .. f (n - 1), with a space before each
@@ -19,4 +19,4 @@ numbers_text ns = flat_map number_word ns
 
 -- the line of a count, and the texts of the first k
 unfoldable pub group_to : ℕ → ℕ → (ℕ → List ℕ) → List ℕ
-group_to count k each = line_text (count ∷ []) ++ joined k each
+group_to count k each = line_text (count ∷ []) ++ end_to_end k each

@@ -5,13 +5,14 @@ use Rattle.ra_model.specs.declared.raw.Tables.{Tables}
 use Rattle.ra_model.specs.Numbers.{resource_count, machine_count, service_count, process_count, balance_count, first_of}
 use Rattle.ra_model.specs.Numbers.{second_of, target_of, balance_weight_of, process_weight_of, service_weight_of}
 use Rattle.ra_model.specs.Numbers.{machine_weight_of}
-use Rattle.ra_model_read.specs.FieldOrder.{joined, resource_numbers, machine_numbers, service_numbers, process_numbers}
+use Rattle.ra_model_read.specs.FieldOrder.{end_to_end, resource_numbers, machine_numbers, service_numbers}
+use Rattle.ra_model_read.specs.FieldOrder.{process_numbers}
 use Rattle.ra_model_read.specs.Lists.{lists_of}
 use Rattle.ra_model_text.specs.Lines.{line_text}
 
 -- a count on a line of its own, and the text of each
 unfoldable pub group_text : ℕ → (ℕ → List ℕ) → List ℕ
-group_text n each = line_text (n ∷ []) ++ joined n each
+group_text n each = line_text (n ∷ []) ++ end_to_end n each
 
 -- a resource: its transient flag and its load weight
 unfoldable pub resource_text : Tables → ℕ → List ℕ
@@ -50,6 +51,6 @@ model_text i =
     ++ weights_text i))))
 
 -- an instance with the numbers of another, and with no machine closed
-pub record IsOpened (i opened : Tables) : Type 0 where
+pub record IsOpenToAll (i opened : Tables) : Type 0 where
   pub lists : lists_of opened.raw ≡ lists_of i.raw
   pub open_to_all : opened.closed ≡ None

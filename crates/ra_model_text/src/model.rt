@@ -2,8 +2,8 @@ ghost use Rattle.std.specs.Prelude.{◌≡◌, ◌<◌, ◌≤◌, OnOk, OnErr};
 ghost use Rattle.std.specs.Io.KnownBytes.{Appends};
 ghost use Rattle.ra_model.specs.Numbers.{resource_count, machine_count, service_count, process_count, balance_count};
 ghost use Rattle.ra_model_text.specs.ModelTexts.{group_text, resource_text, machine_text, service_text, process_text, balance_text, model_text};
-ghost use Rattle.ra_report_text.specs.Gathering.{Adds};
-ghost use Rattle.ra_report_text.specs.Pieces.{Breaks};
+ghost use Rattle.ra_report_text.specs.Gathering.{AddsText};
+ghost use Rattle.ra_report_text.specs.Pieces.{BreaksOff};
 
 use crate::lines::{
     add_balance, add_machine, add_one, add_process, add_resource, add_service, add_three,
@@ -19,7 +19,7 @@ use std::sync::ledger::{Blank, Ledger};
 pub fn write_model<O: Sink>(sink: &mut O, inst: &Instance) -> Result<(), WriteFault>
     ensures whole { OnOk result (Appends (O.taken sink.old) (O.taken sink.new)
         (model_text inst.now.tables)) }
-    ensures part { OnErr result (Breaks (O.taken sink.old) (O.taken sink.new) (O.faults sink.old)
+    ensures part { OnErr result (BreaksOff (O.taken sink.old) (O.taken sink.new) (O.faults sink.old)
         (O.faults sink.new) (model_text inst.now.tables)) }
     ensures never_falls { O.faults sink.old ≤ O.faults sink.new }
 {
@@ -30,7 +30,7 @@ pub fn write_model<O: Sink>(sink: &mut O, inst: &Instance) -> Result<(), WriteFa
 
 /// Adds the text of an instance.
 pub fn add_model<O: Sink>(text: &mut Gathered<'_, O>, inst: &Instance)
-    ensures { Adds O.taken O.faults text.old text.new (model_text inst.now.tables) }
+    ensures { AddsText O.taken O.faults text.old text.new (model_text inst.now.tables) }
 {
     add_resources(text, inst);
     add_machines(text, inst);
@@ -47,7 +47,7 @@ pub fn add_model<O: Sink>(text: &mut Gathered<'_, O>, inst: &Instance)
 
 /// Adds the count of resources and the line of each.
 fn add_resources<O: Sink>(text: &mut Gathered<'_, O>, inst: &Instance)
-    ensures { Adds O.taken O.faults text.old text.new
+    ensures { AddsText O.taken O.faults text.old text.new
         (group_text (resource_count inst.now.tables) (resource_text inst.now.tables)) }
 {
     add_one(text, inst.resources());
@@ -58,7 +58,7 @@ fn add_resources<O: Sink>(text: &mut Gathered<'_, O>, inst: &Instance)
 
 /// Adds the count of machines and the line of each.
 fn add_machines<O: Sink>(text: &mut Gathered<'_, O>, inst: &Instance)
-    ensures { Adds O.taken O.faults text.old text.new
+    ensures { AddsText O.taken O.faults text.old text.new
         (group_text (machine_count inst.now.tables) (machine_text inst.now.tables)) }
 {
     add_one(text, inst.machines());
@@ -69,7 +69,7 @@ fn add_machines<O: Sink>(text: &mut Gathered<'_, O>, inst: &Instance)
 
 /// Adds the count of services and the line of each.
 fn add_services<O: Sink>(text: &mut Gathered<'_, O>, inst: &Instance)
-    ensures { Adds O.taken O.faults text.old text.new
+    ensures { AddsText O.taken O.faults text.old text.new
         (group_text (service_count inst.now.tables) (service_text inst.now.tables)) }
 {
     add_one(text, inst.services());
@@ -83,7 +83,7 @@ fn add_processes<O: Sink, L: Ledger>(text: &mut Gathered<'_, O>, inst: &Instance
     requires name { blank.name ≡ L.name }
     requires parts { blank.parts ≡ L.parts }
     requires some { 0 < blank.parts }
-    ensures { Adds O.taken O.faults text.old text.new
+    ensures { AddsText O.taken O.faults text.old text.new
         (group_text (process_count inst.now.tables) (process_text inst.now.tables)) }
 {
     let mut steps = Steps::<L>::make(blank);
@@ -95,7 +95,7 @@ fn add_processes<O: Sink, L: Ledger>(text: &mut Gathered<'_, O>, inst: &Instance
 
 /// Adds the count of balance objectives and the two lines of each.
 fn add_balances<O: Sink>(text: &mut Gathered<'_, O>, inst: &Instance)
-    ensures { Adds O.taken O.faults text.old text.new
+    ensures { AddsText O.taken O.faults text.old text.new
         (group_text (balance_count inst.now.tables) (balance_text inst.now.tables)) }
 {
     add_one(text, inst.balances());

@@ -16,7 +16,7 @@ use Rattle.ra_model.proofs.BrokenLemmas.{Fine}
 use Rattle.ra_moves.specs.declared.steps.Step.{Step}
 use Rattle.ra_moves.specs.Steps.{process_in}
 use Rattle.ra_moves.specs.Replacing.{applied}
-use Rattle.ra_moves.specs.Touched.{ends_at, moves_service, guards_service}
+use Rattle.ra_moves.specs.Touched.{touches_machine, moves_service, guards_service}
 use Rattle.ra_moves.specs.Moving.{IsMove}
 use Rattle.ra_moves.specs.Alike.{SameOn, SameOf, HeldAlike}
 use Rattle.ra_moves.proofs.SearchLemmas.{first_agrees}
@@ -37,7 +37,7 @@ pub record BothMove (i : Tables) (a0 a b : List Machine) (steps : List Step) : T
 
 -- after it they are still alike on its machines, and for the services that it guards
 pub machine_after : (i : Tables) (a0 a b : List Machine) (steps : List Step) (m : ℕ) → BothMove i a0 a b steps →
-    ends_at steps m ≡ true → SameOn (applied a steps) (applied b steps) m
+    touches_machine steps m ≡ true → SameOn (applied a steps) (applied b steps) m
 machine_after i a0 a b steps m both ends = same_on_after i a b steps m both.one both.other (both.alike.machines m ends)
 
 pub service_after : (i : Tables) (a0 a b : List Machine) (steps : List Step) (s : ℕ) → BothMove i a0 a b steps →
@@ -51,7 +51,8 @@ pub capacity_same : (i : Tables) (a0 a b : List Machine) (steps : List Step) →
     broken_capacity i (applied a steps) ≡ broken_capacity i (applied b steps)
 unfolding broken_capacity row_capacity
 capacity_same i a0 a b steps both =
-    first_agrees (machine_count i) (ends_at steps) (row_capacity i (applied a steps)) (row_capacity i (applied b steps))
+    first_agrees (machine_count i) (touches_machine steps) (row_capacity i (applied a steps))
+    (row_capacity i (applied b steps))
     (capacity_local i a0 a steps both.one both.one_fine)
     (capacity_local i a0 b steps both.other both.other_fine)
     (λ m within ends. first_same (resource_count i) (capacity_test i (applied a steps) m)
@@ -63,7 +64,7 @@ pub transient_causes_same : (i : Tables) (a0 a b : List Machine) (steps : List S
     broken_transient i a0 (applied a steps) ≡ broken_transient i a0 (applied b steps)
 unfolding broken_transient row_transient
 transient_causes_same i a0 a b steps both =
-    first_agrees (machine_count i) (ends_at steps) (row_transient i a0 (applied a steps))
+    first_agrees (machine_count i) (touches_machine steps) (row_transient i a0 (applied a steps))
     (row_transient i a0 (applied b steps))
     (transient_local i a0 a steps both.one both.one_fine)
     (transient_local i a0 b steps both.other both.other_fine)

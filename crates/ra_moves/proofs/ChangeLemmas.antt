@@ -17,7 +17,7 @@ use Rattle.ra_model.specs.Situations.{situation}
 use Rattle.ra_model.proofs.MachineLemmas.{load_by_machine, balance_by_machine, row_load_same, row_balance_same}
 use Rattle.ra_moves.specs.declared.steps.Step.{Step}
 use Rattle.ra_moves.specs.Replacing.{applied}
-use Rattle.ra_moves.specs.Touched.{ends_at}
+use Rattle.ra_moves.specs.Touched.{touches_machine}
 use Rattle.ra_moves.specs.Moving.{IsMove}
 use Rattle.ra_moves.specs.Alike.{SameOn, HeldAlike}
 use Rattle.ra_moves.specs.Weighing.{local_cost, local_change}
@@ -39,13 +39,13 @@ total_agrees n test old_one new_one old_other new_other one_kept other_kept old_
 
 -- on a machine that is not an end they stay
 pub load_stays : (i : Tables) (a : List Machine) (steps : List Step) (m : ℕ) → IsMove i a steps →
-    ends_at steps m ≡ false → machine_load i (applied a steps) m ≡ machine_load i a m
+    touches_machine steps m ≡ false → machine_load i (applied a steps) m ≡ machine_load i a m
 unfolding machine_load
 load_stays i a steps m move none =
     row_load_same i m (use_of i (applied a steps) m) (use_of i a m) (λ r h. use_same i a steps m r move none)
 
 pub balance_stays : (i : Tables) (a : List Machine) (steps : List Step) (m : ℕ) → WellFormed i → IsMove i a steps →
-    ends_at steps m ≡ false → machine_balance i (applied a steps) m ≡ machine_balance i a m
+    touches_machine steps m ≡ false → machine_balance i (applied a steps) m ≡ machine_balance i a m
 unfolding machine_balance
 balance_stays i a steps m limits move none =
     row_balance_same i m (use_of i (applied a steps) m) (use_of i a m) limits (λ r h. use_same i a steps m r move none)
@@ -67,7 +67,8 @@ pub load_change : (i : Tables) (a b : List Machine) (steps : List Step) → IsMo
     HeldAlike i steps a b → load_cost i (applied a steps) + load_cost i b ≡ load_cost i (applied b steps)
     + load_cost i a
 load_change i a b steps one other alike =
-    let agrees = total_agrees (machine_count i) (ends_at steps) (machine_load i a) (machine_load i (applied a steps))
+    let agrees = total_agrees (machine_count i) (touches_machine steps) (machine_load i a)
+    (machine_load i (applied a steps))
     (machine_load i b) (machine_load i (applied b steps))
     (λ m none. load_stays i a steps m one none)
     (λ m none. load_stays i b steps m other none)
@@ -87,7 +88,7 @@ pub balance_change : (i : Tables) (a b : List Machine) (steps : List Step) → W
     IsMove i b steps → HeldAlike i steps a b → balance_cost i (applied a steps) + balance_cost i b ≡
     balance_cost i (applied b steps) + balance_cost i a
 balance_change i a b steps limits one other alike =
-    let agrees = total_agrees (machine_count i) (ends_at steps) (machine_balance i a)
+    let agrees = total_agrees (machine_count i) (touches_machine steps) (machine_balance i a)
     (machine_balance i (applied a steps)) (machine_balance i b) (machine_balance i (applied b steps))
     (λ m none. balance_stays i a steps m limits one none)
     (λ m none. balance_stays i b steps m limits other none)

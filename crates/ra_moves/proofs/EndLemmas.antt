@@ -13,37 +13,40 @@ use Rattle.ra_moves.specs.declared.steps.Step.{Step}
 use Rattle.ra_moves.specs.Steps.{process_in, from_in, to_in}
 use Rattle.ra_moves.specs.Values.{end_count, end_in}
 use Rattle.ra_moves.proofs.ValueLemmas.{end_from, end_to}
-use Rattle.ra_moves.specs.Touched.{ends_at, service_in, moves_service, reads_service, guards_service}
+use Rattle.ra_moves.specs.Touched.{touches_machine, service_in, moves_service, reads_service, guards_service}
 
 -- machines
 
 -- a machine that no step leaves or enters
-pub end_not_left : (steps : List Step) (m j : ℕ) → ends_at steps m ≡ false → j < length steps → from_in steps j ≢ m
-unfolding ends_at
+pub end_not_left : (steps : List Step) (m j : ℕ) → touches_machine steps m ≡ false → j < length steps →
+    from_in steps j ≢ m
+unfolding touches_machine
 end_not_left steps m j none within same =
     both_ways (is_named (length steps) (from_in steps) m)
     (or_parts (is_named (length steps) (from_in steps) m) (is_named (length steps) (to_in steps) m) none).0
     (is_named_at (length steps) j (from_in steps) m within same)
 
-pub end_not_entered : (steps : List Step) (m j : ℕ) → ends_at steps m ≡ false → j < length steps → to_in steps j ≢ m
-unfolding ends_at
+pub end_not_entered : (steps : List Step) (m j : ℕ) → touches_machine steps m ≡ false → j < length steps →
+    to_in steps j ≢ m
+unfolding touches_machine
 end_not_entered steps m j none within same =
     both_ways (is_named (length steps) (to_in steps) m)
     (or_parts (is_named (length steps) (from_in steps) m) (is_named (length steps) (to_in steps) m) none).1
     (is_named_at (length steps) j (to_in steps) m within same)
 
 -- a step's own machines
-pub end_left : (steps : List Step) (j : ℕ) → j < length steps → ends_at steps (from_in steps j) ≡ true
-unfolding ends_at
+pub end_left : (steps : List Step) (j : ℕ) → j < length steps → touches_machine steps (from_in steps j) ≡ true
+unfolding touches_machine
 end_left steps j within = or_left _ _ (is_named_at (length steps) j (from_in steps) (from_in steps j) within refl)
 
-pub end_entered : (steps : List Step) (j : ℕ) → j < length steps → ends_at steps (to_in steps j) ≡ true
-unfolding ends_at
+pub end_entered : (steps : List Step) (j : ℕ) → j < length steps → touches_machine steps (to_in steps j) ≡ true
+unfolding touches_machine
 end_entered steps j within = or_right _ _ (is_named_at (length steps) j (to_in steps) (to_in steps j) within refl)
 
 -- a machine that is an end is named by the ends' numbers
-end_named : (steps : List Step) (m : ℕ) → ends_at steps m ≡ true → is_named (end_count steps) (end_in steps) m ≡ true
-unfolding ends_at end_count
+end_named : (steps : List Step) (m : ℕ) → touches_machine steps m ≡ true →
+    is_named (end_count steps) (end_in steps) m ≡ true
+unfolding touches_machine end_count
 end_named steps m ends = ⊎_elim
     (λ (left : is_named (length steps) (from_in steps) m ≡ true).
     let found = is_named_from (length steps) (from_in steps) m left in
@@ -56,26 +59,26 @@ end_named steps m ends = ⊎_elim
     (or_cases (is_named (length steps) (from_in steps) m) (is_named (length steps) (to_in steps) m) ends)
 
 -- the end of each number is one
-pub end_at : (steps : List Step) (j : ℕ) → j < end_count steps → ends_at steps (end_in steps j) ≡ true
+pub end_at : (steps : List Step) (j : ℕ) → j < end_count steps → touches_machine steps (end_in steps j) ≡ true
 unfolding end_count
 end_at steps j within = ⊎_elim
-    (λ (first : j < length steps). ap (ends_at steps) (end_from steps j first) ∙ end_left steps j first)
+    (λ (first : j < length steps). ap (touches_machine steps) (end_from steps j first) ∙ end_left steps j first)
     (λ (second : length steps ≤ j).
-    ap (ends_at steps) (ap (end_in steps) (split j second) ∙ end_to steps (j - length steps))
+    ap (touches_machine steps) (ap (end_in steps) (split j second) ∙ end_to steps (j - length steps))
     ∙ end_entered steps (j - length steps) (omega arith))
     (cases_lt j (length steps))
   where
     split : (j : ℕ) → length steps ≤ j → j ≡ length steps + (j - length steps)
     split j above = omega arith
 
-pub ends_are_named : (steps : List Step) (m : ℕ) → ends_at steps m ≡ is_named (end_count steps) (end_in steps) m
+pub ends_are_named : (steps : List Step) (m : ℕ) → touches_machine steps m ≡ is_named (end_count steps) (end_in steps) m
 ends_are_named steps m = ⊎_elim
-    (λ (ends : ends_at steps m ≡ true). ends ∙ sym (end_named steps m ends))
-    (λ (none : ends_at steps m ≡ false). none
+    (λ (ends : touches_machine steps m ≡ true). ends ∙ sym (end_named steps m ends))
+    (λ (none : touches_machine steps m ≡ false). none
     ∙ sym (is_named_not (end_count steps) (end_in steps) m
     (λ j within same.
-    both_ways (ends_at steps m) none (ap (ends_at steps) (sym same) ∙ end_at steps j within))))
-    (cases_Bool (ends_at steps m))
+    both_ways (touches_machine steps m) none (ap (touches_machine steps) (sym same) ∙ end_at steps j within))))
+    (cases_Bool (touches_machine steps m))
 
 -- services
 

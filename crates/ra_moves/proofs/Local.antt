@@ -21,7 +21,7 @@ use Rattle.ra_model.proofs.BrokenLemmas.{Fine, fine_from_unbroken}
 use Rattle.ra_moves.specs.declared.steps.Step.{Step}
 use Rattle.ra_moves.specs.Steps.{process_in}
 use Rattle.ra_moves.specs.Replacing.{applied}
-use Rattle.ra_moves.specs.Touched.{ends_at, moves_service, guards_service}
+use Rattle.ra_moves.specs.Touched.{touches_machine, moves_service, guards_service}
 use Rattle.ra_moves.specs.Moving.{IsMove}
 use Rattle.ra_moves.specs.Laws.{OnlyWhere, AreLocal, FailuresAreLocal}
 use Rattle.ra_moves.proofs.EndLemmas.{unguarded_stays, unguarded_needs}
@@ -96,7 +96,7 @@ closed_told i a0 a b p same =
 -- each kind of failure
 
 pub capacity_local : (i : Tables) (a0 a : List Machine) (steps : List Step) → IsMove i a steps → Fine i a0 a →
-    OnlyWhere (machine_count i) (ends_at steps) (row_capacity i (applied a steps))
+    OnlyWhere (machine_count i) (touches_machine steps) (row_capacity i (applied a steps))
 unfolding broken_capacity row_capacity
 capacity_local i a0 a steps move fine = record {
   others = λ m within none.
@@ -106,7 +106,7 @@ capacity_local i a0 a steps move fine = record {
 }
 
 pub transient_local : (i : Tables) (a0 a : List Machine) (steps : List Step) → IsMove i a steps → Fine i a0 a →
-    OnlyWhere (machine_count i) (ends_at steps) (row_transient i a0 (applied a steps))
+    OnlyWhere (machine_count i) (touches_machine steps) (row_transient i a0 (applied a steps))
 unfolding broken_transient row_transient
 transient_local i a0 a steps move fine = record {
   others = λ m within none.
@@ -126,7 +126,7 @@ conflict_local i a0 a steps move fine = record {
 }
 
 pub conflict_at_ends : (i : Tables) (a0 a : List Machine) (steps : List Step) (s : ℕ) → IsMove i a steps → Fine i a0 a →
-    s < service_count i → OnlyWhere (machine_count i) (ends_at steps) (conflict_test i (applied a steps) s)
+    s < service_count i → OnlyWhere (machine_count i) (touches_machine steps) (conflict_test i (applied a steps) s)
 unfolding broken_conflict service_conflict
 conflict_at_ends i a0 a steps s move fine known = record {
   others = λ m within none.

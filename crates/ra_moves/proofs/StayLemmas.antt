@@ -20,7 +20,7 @@ use Rattle.ra_moves.specs.Replacing.{Applied, applied}
 use Rattle.ra_moves.specs.Values.{gone, come}
 use Rattle.ra_moves.proofs.Applying.{applied_at_once}
 use Rattle.ra_moves.proofs.ValueLemmas.{tally_after, use_elsewhere}
-use Rattle.ra_moves.specs.Touched.{ends_at, moves_service}
+use Rattle.ra_moves.specs.Touched.{touches_machine, moves_service}
 use Rattle.ra_moves.specs.Moving.{IsMove}
 use Rattle.ra_moves.proofs.EndLemmas.{end_not_left, end_not_entered, service_not_moved}
 
@@ -48,7 +48,7 @@ tally_stays i a steps f move same =
 -- machines
 
 pub use_same : (i : Tables) (a : List Machine) (steps : List Step) (m r : ℕ) → IsMove i a steps →
-    ends_at steps m ≡ false → use_of i (applied a steps) m r ≡ use_of i a m r
+    touches_machine steps m ≡ false → use_of i (applied a steps) m r ≡ use_of i a m r
 unfolding use_of
 use_same i a steps m r move none =
     tally_stays i a steps (use_share i m r) move
@@ -63,7 +63,7 @@ transient_elsewhere i a0 m r p at apart =
     ap (λ t. cond (eqb (machine_at a0 p) m || t) (requirement_of i p r) 0) (ne_eqb at m apart)
 
 pub transient_same : (i : Tables) (a0 a : List Machine) (steps : List Step) (m r : ℕ) → IsMove i a steps →
-    ends_at steps m ≡ false → transient_of i a0 (applied a steps) m r ≡ transient_of i a0 a m r
+    touches_machine steps m ≡ false → transient_of i a0 (applied a steps) m r ≡ transient_of i a0 a m r
 unfolding transient_of
 transient_same i a0 a steps m r move none = tally_stays i a steps (transient_share i a0 m r) move
     (λ j within. transient_elsewhere i a0 m r (process_in steps j) (from_in steps j)
@@ -99,7 +99,7 @@ on_machine_same i a steps s m move none = members_same i a steps s (λ p at. eqb
 
 -- on a machine that is not an end, of any service
 pub on_machine_stays : (i : Tables) (a : List Machine) (steps : List Step) (s m : ℕ) → IsMove i a steps →
-    ends_at steps m ≡ false → on_machine i (applied a steps) s m ≡ on_machine i a s m
+    touches_machine steps m ≡ false → on_machine i (applied a steps) s m ≡ on_machine i a s m
 unfolding on_machine members_at
 on_machine_stays i a steps s m move none = tally_stays i a steps (of_service i s (λ p at. eqb at m)) move (λ j within.
     of_failed i s (λ p at. eqb at m) (process_in steps j) (from_in steps j)

@@ -6,7 +6,7 @@ use Rattle.ra_model.specs.declared.raw.Tables.{Tables}
 use Rattle.ra_model.specs.Numbers.{service_of}
 use Rattle.ra_model.specs.Assignments.{machine_at}
 use Rattle.ra_moves.specs.declared.steps.Step.{Step}
-use Rattle.ra_moves.specs.Touched.{ends_at, guards_service}
+use Rattle.ra_moves.specs.Touched.{touches_machine, guards_service}
 
 -- machine m holds the same processes in both
 pub record SameOn (a b : List Machine) (m : ℕ) : Type 0 where
@@ -17,5 +17,5 @@ pub record SameOf (i : Tables) (a b : List Machine) (s : ℕ) : Type 0 where
   pub each : (p : ℕ) → service_of i p ≡ s → machine_at a p ≡ machine_at b p
 
 pub record HeldAlike (i : Tables) (steps : List Step) (a b : List Machine) : Type 0 where
-  pub machines : (m : ℕ) → ends_at steps m ≡ true → SameOn a b m
+  pub machines : (m : ℕ) → touches_machine steps m ≡ true → SameOn a b m
   pub services : (s : ℕ) → guards_service i steps s ≡ true → SameOf i a b s

@@ -12,7 +12,7 @@ use Rattle.ra_model.specs.Situations.{situation}
 use Rattle.ra_moves.specs.declared.steps.Step.{Step}
 use Rattle.ra_moves.specs.Steps.{process_in}
 use Rattle.ra_moves.specs.Replacing.{applied}
-use Rattle.ra_moves.specs.Touched.{ends_at, moves_service, guards_service}
+use Rattle.ra_moves.specs.Touched.{touches_machine, moves_service, guards_service}
 use Rattle.ra_moves.specs.Moving.{IsMove, IsOffered}
 use Rattle.ra_moves.specs.Weighing.{weighed_of}
 use Rattle.ra_moves.specs.Alike.{HeldAlike}
@@ -24,12 +24,12 @@ pub record OnlyWhere (n : ℕ) (test : ℕ → Bool) (found : ℕ → Option Cau
 -- what can be broken in assignment b, if a move by these steps made it from one that breaks nothing
 pub record AreLocal (i : Tables) (a0 b : List Machine) (steps : List Step) : Type 0 where
   -- capacity and transient use, on a machine that a step leaves or enters
-  pub capacity : OnlyWhere (machine_count i) (ends_at steps) (row_capacity i b)
-  pub transient : OnlyWhere (machine_count i) (ends_at steps) (row_transient i a0 b)
+  pub capacity : OnlyWhere (machine_count i) (touches_machine steps) (row_capacity i b)
+  pub transient : OnlyWhere (machine_count i) (touches_machine steps) (row_transient i a0 b)
   -- conflict, for a service that moves, on such a machine
   pub conflict : OnlyWhere (service_count i) (moves_service i steps) (service_conflict i b)
   pub conflict_at : (s : ℕ) → s < service_count i
-      → OnlyWhere (machine_count i) (ends_at steps) (conflict_test i b s)
+      → OnlyWhere (machine_count i) (touches_machine steps) (conflict_test i b s)
   -- spread, for a service that moves
   pub spread : OnlyWhere (service_count i) (moves_service i steps) (spread_test i b)
   -- dependency, for a service that moves or is joined with one, and only if one of the two services moves

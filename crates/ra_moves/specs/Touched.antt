@@ -9,8 +9,8 @@ use Rattle.ra_moves.specs.declared.steps.Step.{Step}
 use Rattle.ra_moves.specs.Steps.{process_in, from_in, to_in}
 
 -- a step leaves or enters machine m
-unfoldable pub ends_at : List Step → ℕ → Bool
-ends_at steps m =
+unfoldable pub touches_machine : List Step → ℕ → Bool
+touches_machine steps m =
     is_named (length steps) (from_in steps) m || is_named (length steps) (to_in steps) m
 
 -- the service of the process of step j

@@ -14,9 +14,10 @@ use Rattle.ra_model.specs.Assignments.{IsAssignment, machine_at}
 use Rattle.ra_model.specs.Services.{is_of}
 use Rattle.ra_model.specs.Members.{AreMembers, members_of, member_at}
 use Rattle.ra_model.proofs.MemberLemmas.{members_count, member_within}
-use Rattle.ra_pins.specs.Pinned.{some_of, holds, taken}
+use Rattle.ra_pins.specs.Pinned.{some_of, holds, flagged_starts_on}
 use Rattle.ra_pins.specs.PinLists.{flag_at}
-use Rattle.ra_pins.specs.Marks.{AreTouched, AreMarked, AreStamped, is_seat, AreSeated, IsSet}
+use Rattle.ra_pins.specs.Marks.{AreTouched, AreMarksOfFlagged, AreFlaggedMarked, is_seat, AreFlaggedAndSeated}
+use Rattle.ra_pins.specs.Marks.{IsStampSet}
 use Rattle.ra_pins.proofs.RoundLemmas.{some_yes, some_found, some_no, same_tests}
 
 -- reads
@@ -34,21 +35,21 @@ some_same : (n : ℕ) (test : ℕ → Bool) → test n ≡ false → some_of (n 
 unfolding some_of
 some_same n test fails = ap (ltb 0) (count_no n test fails)
 
-pub set_none : (test : ℕ → ℕ → Bool) (stamp : ℕ) (marks : List ℕ) → IsSet test 0 stamp marks marks
+pub set_none : (test : ℕ → ℕ → Bool) (stamp : ℕ) (marks : List ℕ) → IsStampSet test 0 stamp marks marks
 set_none test stamp marks = record {
   one_each = refl;
   each = λ m h. sym (cond-false _ stamp (get_or marks m 0) (some_none (test m)));
 }
 
 pub set_free : (test : ℕ → ℕ → Bool) (n stamp : ℕ) (old new : List ℕ) → ((m : ℕ) → test m n ≡ false) →
-    IsSet test n stamp old new → IsSet test (n + 1) stamp old new
+    IsStampSet test n stamp old new → IsStampSet test (n + 1) stamp old new
 set_free test n stamp old new fails is = record {
   one_each = is.one_each;
   each = λ m h. is.each m h ∙ ap (λ b. cond b stamp (get_or old m 0)) (sym (some_same n (test m) (fails m)));
 }
 
 pub set_more : (test : ℕ → ℕ → Bool) (n stamp at : ℕ) (old new : List ℕ) → ((m : ℕ) → test m n ≡ eqb at m) →
-    at < length old → IsSet test n stamp old new → IsSet test (n + 1) stamp old (set new at stamp)
+    at < length old → IsStampSet test n stamp old new → IsStampSet test (n + 1) stamp old (set new at stamp)
 set_more test n stamp at old new passes within is = record {
   one_each = length-set new at stamp ∙ is.one_each;
   each = λ m h. ⊎_elim
@@ -77,7 +78,7 @@ seat_free a0 flags processes m k p b p_is flag is_no = and_left _ _ (ap (flag_at
 
 pub seated : (i : Tables) (a0 : List Machine) (flags : List Bool) (members : List (List Process)) (s size : ℕ) →
     IsAssignment i a0 → AreMembers members i → s < service_count i → length flags ≡ process_count i →
-    size ≡ machine_count i → AreSeated a0 flags (members_of members s) size
+    size ≡ machine_count i → AreFlaggedAndSeated a0 flags (members_of members s) size
 seated i a0 flags members s size fits are s_in flagged sized = record {
   flagged = λ k h. omega (arith, flagged, (member_within i s (members_of members s) k (are.each s s_in) h).0);
   placed = λ k h. omega (arith, fits.one_each, (member_within i s (members_of members s) k (are.each s s_in) h).0);
@@ -92,17 +93,18 @@ seated i a0 flags members s size fits are s_in flagged sized = record {
 
 seats_taken : (i : Tables) (a0 : List Machine) (flags : List Bool) (members : List (List Process)) (s m : ℕ) →
     AreMembers members i → s < service_count i →
-    some_of (length (members_of members s)) (is_seat a0 flags (members_of members s) m) ≡ taken i a0 (flag_at flags) s m
-unfolding some_of is_seat taken holds
+    some_of (length (members_of members s)) (is_seat a0 flags (members_of members s) m)
+    ≡ flagged_starts_on i a0 (flag_at flags) s m
+unfolding some_of is_seat flagged_starts_on holds
 seats_taken i a0 flags members s m are s_in =
     ap (ltb 0) (members_count i s (members_of members s) (λ z. flag_at flags z && eqb (machine_at a0 z) m)
     (are.each s s_in))
 
 -- a mark of the service that was stamped, and of another one
 pub marks_after : (i : Tables) (a0 : List Machine) (flags : List Bool) (members : List (List Process)) (s stamp : ℕ)
-    (old new : List ℕ) → AreMembers members i → s < service_count i → stamp ≡ suc s → AreMarked i a0 flags old →
-    IsSet (is_seat a0 flags (members_of members s)) (length (members_of members s)) stamp old new →
-    AreMarked i a0 flags new
+    (old new : List ℕ) → AreMembers members i → s < service_count i → stamp ≡ suc s → AreMarksOfFlagged i a0 flags old →
+    IsStampSet (is_seat a0 flags (members_of members s)) (length (members_of members s)) stamp old new →
+    AreMarksOfFlagged i a0 flags new
 marks_after i a0 flags members s stamp old new are s_in stamped marked is = record {
   one_each = is.one_each ∙ marked.one_each;
   each = λ m u h mark. ⊎_elim
@@ -115,7 +117,8 @@ marks_after i a0 flags members s stamp old new are s_in stamped marked is = reco
         is.each m (omega (arith, marked.one_each)),
         cond-true _ stamp (get_or old m 0) some,
       ) in
-      ap (λ k. taken i a0 (flag_at flags) k m) same ∙ sym (seats_taken i a0 flags members s m are s_in) ∙ some)
+      ap (λ k. flagged_starts_on i a0 (flag_at flags) k m) same ∙ sym (seats_taken i a0 flags members s m are s_in)
+      ∙ some)
       (λ (none : some_of (length (members_of members s)) (is_seat a0 flags (members_of members s) m) ≡ false).
       marked.each m u h
       (omega (arith, mark, is.each m (omega (arith, marked.one_each)), cond-false _ stamp (get_or old m 0) none)))
@@ -123,13 +126,13 @@ marks_after i a0 flags members s stamp old new are s_in stamped marked is = reco
 }
 
 pub stamped_after : (i : Tables) (a0 : List Machine) (flags : List Bool) (members : List (List Process)) (s stamp : ℕ)
-    (old new : List ℕ) → AreMembers members i → s < service_count i → stamp ≡ suc s → AreMarked i a0 flags old →
-    IsSet (is_seat a0 flags (members_of members s)) (length (members_of members s)) stamp old new →
-    AreStamped i a0 flags s new
+    (old new : List ℕ) → AreMembers members i → s < service_count i → stamp ≡ suc s → AreMarksOfFlagged i a0 flags old →
+    IsStampSet (is_seat a0 flags (members_of members s)) (length (members_of members s)) stamp old new →
+    AreFlaggedMarked i a0 flags s new
 stamped_after i a0 flags members s stamp old new are s_in stamped marked is =
     let after = marks_after i a0 flags members s stamp old new are s_in stamped marked is in
     record {
-      each = λ m h. same_tests (eqb (get_or new m 0) (suc s)) (taken i a0 (flag_at flags) s m)
+      each = λ m h. same_tests (eqb (get_or new m 0) (suc s)) (flagged_starts_on i a0 (flag_at flags) s m)
           (λ e. after.each m s h (eqb-true _ _ e))
           (λ e. eq-eqb _ _ (is.each m (omega (arith, marked.one_each))
           ∙ cond-true _ stamp (get_or old m 0) (seats_taken i a0 flags members s m are s_in ∙ e)
@@ -138,8 +141,8 @@ stamped_after i a0 flags members s stamp old new are s_in stamped marked is =
 
 -- a service that isn't touched has no flagged process
 none_taken : (i : Tables) (a0 : List Machine) (flags touched : List Bool) (s m : ℕ) → AreTouched i flags touched →
-    flag_at touched s ≡ false → taken i a0 (flag_at flags) s m ≡ false
-unfolding taken holds is_of
+    flag_at touched s ≡ false → flagged_starts_on i a0 (flag_at flags) s m ≡ false
+unfolding flagged_starts_on holds is_of
 none_taken i a0 flags touched s m are free = false_from_ne_true _ (λ e.
     let found = some_found (process_count i) (holds i a0 (flag_at flags) s m) e in
     let outer = and_parts (eqb (service_of i found.0) s) (flag_at flags found.0 && eqb (machine_at a0 found.0) m)
@@ -149,10 +152,10 @@ none_taken i a0 flags touched s m are free = false_from_ne_true _ (λ e.
     ∙ are.each found.0 found.1 inner.0))
 
 pub stamped_free : (i : Tables) (a0 : List Machine) (flags touched : List Bool) (s : ℕ) (marks : List ℕ) (b : Bool) →
-    AreTouched i flags touched → b ≡ flag_at touched s → b ≡ false → AreMarked i a0 flags marks →
-    AreStamped i a0 flags s marks
+    AreTouched i flags touched → b ≡ flag_at touched s → b ≡ false → AreMarksOfFlagged i a0 flags marks →
+    AreFlaggedMarked i a0 flags s marks
 stamped_free i a0 flags touched s marks b are read free marked = record {
-  each = λ m h. same_tests (eqb (get_or marks m 0) (suc s)) (taken i a0 (flag_at flags) s m)
+  each = λ m h. same_tests (eqb (get_or marks m 0) (suc s)) (flagged_starts_on i a0 (flag_at flags) s m)
       (λ e. marked.each m s h (eqb-true _ _ e))
       (λ e. absurd (both_ways _ (none_taken i a0 flags touched s m are (sym read ∙ free)) e));
 }

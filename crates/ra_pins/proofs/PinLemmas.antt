@@ -9,7 +9,7 @@ use Rattle.ra_model.proofs.TallyLemmas.{tally_same}
 use Rattle.ra_pins.specs.Pinned.{flagged_share, flagged_use, is_pinned, pinned_load}
 use Rattle.ra_pins.specs.PinLists.{PinLists, flag_at}
 use Rattle.ra_pins.specs.Pins.{AreExact, ArePins}
-use Rattle.ra_pins.specs.Loads.{IsTally}
+use Rattle.ra_pins.specs.Loads.{IsTallyTable}
 
 share_exact : (i : Tables) (a0 : List Machine) (flags : List Bool) (m r z : ℕ) → AreExact i a0 flags →
     z < process_count i → flagged_share i (flag_at flags) m r z (machine_at a0 z) ≡ flagged_share i (is_pinned i a0) m r
@@ -19,7 +19,7 @@ share_exact i a0 flags m r z exact h =
     ap (λ b. cond (b && eqb (machine_at a0 z) m) (requirement_of i z r) 0) (exact.each z h)
 
 pub loads_pinned : (i : Tables) (a0 : List Machine) (flags : List Bool) (table : List ℕ) (m r : ℕ) →
-    AreExact i a0 flags → IsTally i (process_count i) (flagged_share i (flag_at flags)) a0 table →
+    AreExact i a0 flags → IsTallyTable i (process_count i) (flagged_share i (flag_at flags)) a0 table →
     r < resource_count i → cell (resource_count i) table m r ≡ pinned_load i a0 m r
 unfolding pinned_load flagged_use
 loads_pinned i a0 flags table m r exact sums w = sums.each m r w
@@ -28,7 +28,7 @@ loads_pinned i a0 flags table m r exact sums w = sums.each m r w
 
 pub pins_made : (i : Tables) (a0 : List Machine) (pins : PinLists) → IsAssignment i a0 →
     pins.machines ≡ machine_count i → pins.resources ≡ resource_count i → AreExact i a0 pins.flags →
-    IsTally i (process_count i) (flagged_share i (flag_at pins.flags)) a0 pins.loads → ArePins pins i a0
+    IsTallyTable i (process_count i) (flagged_share i (flag_at pins.flags)) a0 pins.loads → ArePins pins i a0
 pins_made i a0 pins fits machines resources exact sums = record {
   fits = fits;
   pinned = exact;

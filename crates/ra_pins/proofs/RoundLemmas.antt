@@ -15,7 +15,8 @@ use Rattle.ra_model.specs.Numbers.{service_of}
 use Rattle.ra_model.specs.Assignments.{machine_at}
 use Rattle.ra_model.specs.Services.{is_of}
 use Rattle.ra_model.proofs.TallyLemmas.{tally_le}
-use Rattle.ra_pins.specs.Pinned.{some_of, flagged_share, flagged_use, lacks, lacks_between, holds, taken, blocked}
+use Rattle.ra_pins.specs.Pinned.{some_of, flagged_share, flagged_use, lacks, lacks_between, holds, flagged_starts_on}
+use Rattle.ra_pins.specs.Pinned.{blocked}
 use Rattle.ra_pins.specs.Pinned.{is_open, stuck, round, rounds, is_pinned}
 use Rattle.ra_pins.specs.Laws.{RoundsOnlyAdd}
 
@@ -108,8 +109,8 @@ holds_more i a0 s m z x y below h e =
     and_from _ _ outer.0 (and_from _ _ (below.each z h (eqb-true (machine_at a0 z) m inner.1) inner.0) inner.1)
 
 pub taken_more : (i : Tables) (a0 : List Machine) (s m : ℕ) (x y : ℕ → Bool) → BelowAt i a0 m x y →
-    taken i a0 x s m ≡ true → taken i a0 y s m ≡ true
-unfolding taken
+    flagged_starts_on i a0 x s m ≡ true → flagged_starts_on i a0 y s m ≡ true
+unfolding flagged_starts_on
 taken_more i a0 s m x y below e =
     some_order (process_count i) (holds i a0 x s m) (holds i a0 y s m) (λ z h. holds_more i a0 s m z x y below h) e
 
@@ -118,19 +119,19 @@ pub data Why (i : Tables) (a0 : List Machine) (x : ℕ → Bool) (p m : ℕ) : T
   shut : closed_at i m ≡ true → Why i a0 x p m
   full : some_of (resource_count i) (lacks i a0 x p m) ≡ true → Why i a0 x p m
   between : some_of (resource_count i) (lacks_between i a0 p m) ≡ true → Why i a0 x p m
-  twin : taken i a0 x (service_of i p) m ≡ true → Why i a0 x p m
+  twin : flagged_starts_on i a0 x (service_of i p) m ≡ true → Why i a0 x p m
 
 pub why_blocked : (i : Tables) (a0 : List Machine) (x : ℕ → Bool) (p m : ℕ) → blocked i a0 x p m ≡ true → Why i a0 x p m
 unfolding blocked
 why_blocked i a0 x p m e = ⊎_elim (λ a. shut a)
     (λ rest. ⊎_elim (λ b. full b)
     (λ last. ⊎_elim (λ c. between c) (λ d. twin d)
-    (or_cases (some_of (resource_count i) (lacks_between i a0 p m)) (taken i a0 x (service_of i p) m) last))
+    (or_cases (some_of (resource_count i) (lacks_between i a0 p m)) (flagged_starts_on i a0 x (service_of i p) m) last))
     (or_cases (some_of (resource_count i) (lacks i a0 x p m))
-    (some_of (resource_count i) (lacks_between i a0 p m) || taken i a0 x (service_of i p) m) rest))
+    (some_of (resource_count i) (lacks_between i a0 p m) || flagged_starts_on i a0 x (service_of i p) m) rest))
     (or_cases (closed_at i m)
     (some_of (resource_count i) (lacks i a0 x p m)
-    || (some_of (resource_count i) (lacks_between i a0 p m) || taken i a0 x (service_of i p) m)) e)
+    || (some_of (resource_count i) (lacks_between i a0 p m) || flagged_starts_on i a0 x (service_of i p) m)) e)
 
 pub blocked_why : (i : Tables) (a0 : List Machine) (x : ℕ → Bool) (p m : ℕ) → Why i a0 x p m → blocked i a0 x p m ≡ true
 unfolding blocked

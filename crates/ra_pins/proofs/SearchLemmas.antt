@@ -13,10 +13,11 @@ use Rattle.ra_model.specs.Assignments.{IsAssignment, machine_at}
 use Rattle.ra_pins.specs.Pinned.{stuck, is_pinned}
 use Rattle.ra_pins.specs.PinLists.{flag_at}
 use Rattle.ra_pins.specs.Pins.{AreExact}
-use Rattle.ra_pins.specs.Loads.{IsTally, row_share}
-use Rattle.ra_pins.specs.Marks.{AreTouched, AreMarked}
-use Rattle.ra_pins.specs.Walks.{spot, blocked_at, HasCome, IsWalk}
-use Rattle.ra_pins.specs.Searches.{AreSound, IsSearch, looks_at, Rests, IsBefore, flag_count, IsBetween, HasWalked}
+use Rattle.ra_pins.specs.Loads.{IsTallyTable, row_share}
+use Rattle.ra_pins.specs.Marks.{AreTouched, AreMarksOfFlagged}
+use Rattle.ra_pins.specs.Walks.{spot, blocked_at, HasWalkedTo, IsWalk}
+use Rattle.ra_pins.specs.Searches.{AreFlagsOfPinned, IsSearch, looks_at, Rests, IsBefore, flag_count, IsBetweenPasses}
+use Rattle.ra_pins.specs.Searches.{HasWalked}
 use Rattle.ra_pins.specs.Searches.{IsFlagged, HasLooked, IsWithin}
 use Rattle.ra_pins.specs.declared.search.Search.{Search}
 use Rattle.ra_pins.specs.declared.tables.Columns.TheVariants.{Transient}
@@ -74,19 +75,19 @@ touched_more i flags touched p within inside are = record {
 }
 
 marked_more : (i : Tables) (a0 : List Machine) (flags : List Bool) (marks : List ℕ) (p : ℕ) → p < length flags →
-    AreMarked i a0 flags marks → AreMarked i a0 (set flags p true) marks
+    AreMarksOfFlagged i a0 flags marks → AreMarksOfFlagged i a0 (set flags p true) marks
 marked_more i a0 flags marks p within marked = record {
   one_each = marked.one_each;
   each = λ m s h e. taken_more i a0 s m (flag_at flags) (flag_at (set flags p true)) (below_more i a0 flags p m within)
       (marked.each m s h e);
 }
 
-sound_below : (i : Tables) (a0 : List Machine) (flags : List Bool) → AreSound i a0 flags →
+sound_below : (i : Tables) (a0 : List Machine) (flags : List Bool) → AreFlagsOfPinned i a0 flags →
     Below i (flag_at flags) (is_pinned i a0)
 sound_below i a0 flags sound = record { each = λ z h e. sound.each z h e }
 
-sound_more : (i : Tables) (a0 : List Machine) (flags : List Bool) (p : ℕ) → AreSound i a0 flags →
-    stuck i a0 (flag_at flags) p ≡ true → AreSound i a0 (set flags p true)
+sound_more : (i : Tables) (a0 : List Machine) (flags : List Bool) (p : ℕ) → AreFlagsOfPinned i a0 flags →
+    stuck i a0 (flag_at flags) p ≡ true → AreFlagsOfPinned i a0 (set flags p true)
 sound_more i a0 flags p sound shut = record {
   one_each = length-set flags p true ∙ sound.one_each;
   each = λ z h e. ⊎_elim
@@ -113,7 +114,7 @@ count_more i flags p h within free =
 
 pub walked : (i : Tables) (a0 : List Machine) (old new : Search) (p place : ℕ) → IsSearch i a0 old →
     p < process_count i → IsWalk i a0 old.flags.items p (get_or old.places.items p 0) place →
-    AreMarked i a0 old.flags.items new.marks.items → new.flags ≡ old.flags → new.kept ≡ old.kept →
+    AreMarksOfFlagged i a0 old.flags.items new.marks.items → new.flags ≡ old.flags → new.kept ≡ old.kept →
     new.fuller ≡ old.fuller → new.touched ≡ old.touched → new.places.items ≡ set old.places.items p place →
     HasWalked i a0 old new p place
 walked i a0 old new p place search h walk marked flags kept fuller touched places = record {
@@ -310,7 +311,8 @@ pub end_stuck : (i : Tables) (a0 : List Machine) (old new : Search) (p place : �
     IsSearch i a0 old → p < process_count i → machine_count i ≤ place → HasWalked i a0 old new p place →
     stuck i a0 (flag_at new.flags.items) p ≡ true
 end_stuck i a0 old new p place fits search h end w =
-    let come : HasCome i a0 old.flags.items p place = come_on i a0 old.flags.items p (get_or old.places.items p 0) place
+    let come : HasWalkedTo i a0 old.flags.items p place =
+    come_on i a0 old.flags.items p (get_or old.places.items p 0) place
     (search.places.each p h) w.walk in
     ap (λ f. stuck i a0 (flag_at f.items) p) w.flags ∙ round_stuck_all i a0 old.flags.items p place fits h end come
 
@@ -344,7 +346,7 @@ look_flags i a0 old mid new t p home place pass formed fits search h is now end 
 
 -- a pass, process by process
 
-pub pass_start : (i : Tables) (a0 : List Machine) (s : Search) (t : ℕ) → IsBetween i a0 s t →
+pub pass_start : (i : Tables) (a0 : List Machine) (s : Search) (t : ℕ) → IsBetweenPasses i a0 s t →
     IsWithin i a0 s s t 0 false
 pass_start i a0 s t b = record {
   search = b.search;
@@ -389,7 +391,7 @@ pass_stays i a0 first old new t n some w l = record {
 }
 
 pub pass_ends : (i : Tables) (a0 : List Machine) (first s : Search) (t n : ℕ) (some : Bool) → n ≡ process_count i →
-    IsWithin i a0 first s t n some → IsBetween i a0 s (t + 1)
+    IsWithin i a0 first s t n some → IsBetweenPasses i a0 s (t + 1)
 pass_ends i a0 first s t n some all w = record {
   search = w.search;
   before = record { each = λ m h. omega (arith, w.before.each m h) };
@@ -427,7 +429,7 @@ exact_at_rest i a0 s t fits search before rests =
     }
 
 pub pass_exact : (i : Tables) (a0 : List Machine) (first s : Search) (t n : ℕ) (some : Bool) → IsAssignment i a0 →
-    IsBetween i a0 first t → n ≡ process_count i → some ≡ false → IsWithin i a0 first s t n some →
+    IsBetweenPasses i a0 first t → n ≡ process_count i → some ≡ false → IsWithin i a0 first s t n some →
     AreExact i a0 s.flags.items
 pass_exact i a0 first s t n some fits between all none w = exact_at_rest i a0 s (t + 1) fits w.search (record {
   each = λ m h. omega (arith, ap (λ f. get_or f.items m 0) (w.quiet none), between.before.each m h);
@@ -451,7 +453,7 @@ zero_at n k =
     (λ past. get_or_past (replicate n 0) k 0 (omega (arith, length-replicate {A = ℕ} n 0))) (cases_lt k n)
 
 first_place : (i : Tables) (a0 : List Machine) (flags : List Bool) (p place : ℕ) → WellFormed i → place ≡ 1 →
-    HasCome i a0 flags p place
+    HasWalkedTo i a0 flags p place
 first_place i a0 flags p place formed one = record {
   some = omega (arith, one);
   within = omega (arith, one, formed.some_machine);
@@ -462,7 +464,7 @@ pub start_between : (i : Tables) (a0 : List Machine) (s : Search) → WellFormed
     s.flags.items ≡ replicate (process_count i) false → s.places.items ≡ replicate (process_count i) 1 →
     s.fuller.items ≡ replicate (machine_count i) 0 → s.touched.items ≡ replicate (service_count i) false →
     s.marks.items ≡ replicate (machine_count i) 0 →
-    IsTally i (process_count i) (row_share i Transient) a0 s.kept.items → IsBetween i a0 s 0
+    IsTallyTable i (process_count i) (row_share i Transient) a0 s.kept.items → IsBetweenPasses i a0 s 0
 start_between i a0 s formed flags places fuller touched marks sums =
     let none = λ (p : ℕ). let it : flag_at s.flags.items p ≡ false = ap (λ l. flag_at l p) flags
     ∙ none_at (process_count i) p in it in
@@ -511,8 +513,8 @@ pub start_made : (i : Tables) (a0 : List Machine) (s : Search) (processes machin
     processes ≡ process_count i → machines ≡ machine_count i → services ≡ service_count i →
     s.flags.items ≡ replicate processes false → s.places.items ≡ replicate processes 1 →
     s.fuller.items ≡ replicate machines 0 → s.touched.items ≡ replicate services false →
-    s.marks.items ≡ replicate machines 0 → IsTally i (process_count i) (row_share i Transient) a0 s.kept.items →
-    IsBetween i a0 s 0
+    s.marks.items ≡ replicate machines 0 → IsTallyTable i (process_count i) (row_share i Transient) a0 s.kept.items →
+    IsBetweenPasses i a0 s 0
 start_made i a0 s processes machines services formed p_is m_is s_is flags places fuller touched marks sums =
     start_between i a0 s formed (rw (← p_is) flags) (rw (← p_is) places) (rw (← m_is) fuller) (rw (← s_is) touched)
     (rw (← m_is) marks) sums

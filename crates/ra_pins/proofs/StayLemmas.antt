@@ -13,7 +13,8 @@ use Rattle.ra_model.specs.Assignments.{IsAssignment, machine_at, tally}
 use Rattle.ra_model.specs.Usage.{use_share, use_of, transient_share, transient_of}
 use Rattle.ra_model.specs.Services.{is_of}
 use Rattle.ra_model.specs.Feasible.{Feasible}
-use Rattle.ra_pins.specs.Pinned.{flagged_share, flagged_use, lacks, lacks_between, holds, taken, stuck, rounds}
+use Rattle.ra_pins.specs.Pinned.{flagged_share, flagged_use, lacks, lacks_between, holds, flagged_starts_on, stuck}
+use Rattle.ra_pins.specs.Pinned.{rounds}
 use Rattle.ra_pins.specs.Pinned.{is_pinned}
 use Rattle.ra_pins.specs.Laws.{PinnedStay}
 use Rattle.ra_pins.proofs.RoundLemmas.{some_found, flagged_share_yes, flagged_share_free, flagged_share_elsewhere, Why}
@@ -150,7 +151,7 @@ twin_clash i a0 a x p m z feasible agree h z_in at apart e =
 
 why_clash : (i : Tables) (a0 a : List Machine) (x : ℕ → Bool) (p m : ℕ) → Feasible i a0 a → Agree i a0 a x →
     p < process_count i → m < machine_count i → machine_at a p ≡ m → m ≢ machine_at a0 p → Why i a0 x p m → ⊥
-unfolding taken
+unfolding flagged_starts_on
 why_clash i a0 a x p m feasible agree h m_in at apart (shut e) =
     apart (sym at ∙ sym (feasible.closed p h (ap (closed_at i) at ∙ e)))
 why_clash i a0 a x p m feasible agree h m_in at apart (full e) =

@@ -17,8 +17,8 @@ use Rattle.ra_model.specs.Assignments.{machine_at, tally}
 use Rattle.ra_model.specs.Usage.{use_share, use_of}
 use Rattle.ra_model.proofs.TallyLemmas.{tally_none, tally_more, tally_same, tally_zero, tally_bound}
 use Rattle.ra_model.proofs.BoundLemmas.{use_under}
-use Rattle.ra_pins.specs.Pinned.{some_of, flagged_share, flagged_use, lacks, lacks_between, taken, blocked}
-use Rattle.ra_pins.specs.Loads.{takes, amount_in, row_share, AddsRow, IsBelow, IsTally, kept_use, AreKept}
+use Rattle.ra_pins.specs.Pinned.{some_of, flagged_share, flagged_use, lacks, lacks_between, flagged_starts_on, blocked}
+use Rattle.ra_pins.specs.Loads.{takes, amount_in, row_share, AddsRow, IsBelow, IsTallyTable, kept_use, AreKept}
 use Rattle.ra_pins.specs.Walks.{overfull}
 use Rattle.ra_pins.specs.declared.tables.Columns.{Columns}
 use Rattle.ra_pins.specs.declared.tables.Columns.TheVariants.{All, Transient, Others}
@@ -202,7 +202,7 @@ zeros_at n k =
     (λ past. get_or_past (replicate n 0) k 0 (omega (arith, length-replicate {A = ℕ} n 0))) (cases_lt k n)
 
 pub tally_start : (i : Tables) (share : ℕ → ℕ → ℕ → ℕ → ℕ) (a : List Machine) (table : List ℕ) →
-    table ≡ replicate (machine_count i * resource_count i) 0 → IsTally i 0 share a table
+    table ≡ replicate (machine_count i * resource_count i) 0 → IsTallyTable i 0 share a table
 tally_start i share a table zeros = rw zeros (record {
   grid = length-replicate {A = ℕ} (machine_count i * resource_count i) 0;
   each = λ m r w. cell_is (resource_count i) (replicate (machine_count i * resource_count i) 0) m r
@@ -211,8 +211,8 @@ tally_start i share a table zeros = rw zeros (record {
 
 -- one process more, with its row
 pub tally_row : (i : Tables) (columns : Columns) (p at : ℕ) (a : List Machine) (old new : List ℕ) →
-    at ≡ machine_at a p → IsTally i p (row_share i columns) a old → AddsRow i columns p at old new →
-    IsTally i (p + 1) (row_share i columns) a new
+    at ≡ machine_at a p → IsTallyTable i p (row_share i columns) a old → AddsRow i columns p at old new →
+    IsTallyTable i (p + 1) (row_share i columns) a new
 tally_row i columns p at a old new is before adds = record {
   grid = adds.same_length ∙ before.grid;
   each = λ m r w. omega (
@@ -225,8 +225,8 @@ tally_row i columns p at a old new is before adds = record {
 }
 
 pub tally_flagged : (i : Tables) (x : ℕ → Bool) (p at : ℕ) (a : List Machine) (old new : List ℕ) → at ≡ machine_at a p →
-    x p ≡ true → IsTally i p (flagged_share i x) a old → AddsRow i All p at old new →
-    IsTally i (p + 1) (flagged_share i x) a new
+    x p ≡ true → IsTallyTable i p (flagged_share i x) a old → AddsRow i All p at old new →
+    IsTallyTable i (p + 1) (flagged_share i x) a new
 tally_flagged i x p at a old new is flag before adds = record {
   grid = adds.same_length ∙ before.grid;
   each = λ m r w. omega (
@@ -241,7 +241,7 @@ tally_flagged i x p at a old new is flag before adds = record {
 }
 
 pub tally_free : (i : Tables) (x : ℕ → Bool) (p : ℕ) (a : List Machine) (table : List ℕ) → x p ≡ false →
-    IsTally i p (flagged_share i x) a table → IsTally i (p + 1) (flagged_share i x) a table
+    IsTallyTable i p (flagged_share i x) a table → IsTallyTable i (p + 1) (flagged_share i x) a table
 tally_free i x p a table free before = record {
   grid = before.grid;
   each = λ m r w.
@@ -273,7 +273,7 @@ flagged_share_small i x small = record {
 }
 
 pub tally_below : (i : Tables) (n : ℕ) (share : ℕ → ℕ → ℕ → ℕ → ℕ) (a : List Machine) (table : List ℕ) →
-    AreSmall share → n ≤ 50000 → IsTally i n share a table → IsBelow i (2 ^ 62) table
+    AreSmall share → n ≤ 50000 → IsTallyTable i n share a table → IsBelow i (2 ^ 62) table
 tally_below i n share a table small few sums = record {
   each = λ m r w.
       omega (arith, sums.each m r w, tally_bound n (2 ^ 32) (share m r) a (λ p h. small.each m r p (machine_at a p)));
@@ -310,7 +310,7 @@ between_nothing i a0 m r e = tally_zero (process_count i) (row_share i Transient
 
 -- if nothing is flagged
 pub kept_start : (i : Tables) (a0 : List Machine) (x : ℕ → Bool) (table : List ℕ) →
-    ((z : ℕ) → z < process_count i → x z ≡ false) → IsTally i (process_count i) (row_share i Transient) a0 table →
+    ((z : ℕ) → z < process_count i → x z ≡ false) → IsTallyTable i (process_count i) (row_share i Transient) a0 table →
     AreKept i a0 x table
 kept_start i a0 x table none sums = record {
   grid = sums.grid;
@@ -484,7 +484,7 @@ or_assoc false b c = refl
 -- a process is blocked if the machine is closed, the table has too little room, or the machine is taken
 pub blocked_is : (i : Tables) (a0 : List Machine) (x : ℕ → Bool) (kept : List ℕ) (p m : ℕ) → AreKept i a0 x kept →
     blocked i a0 x p m ≡
-    (closed_at i m || (some_of (resource_count i) (overfull i kept p m) || taken i a0 x (service_of i p) m))
+    (closed_at i m || (some_of (resource_count i) (overfull i kept p m) || flagged_starts_on i a0 x (service_of i p) m))
 unfolding blocked
 blocked_is i a0 x kept p m stands =
     let same : some_of (resource_count i) (overfull i kept p m) ≡
@@ -492,8 +492,8 @@ blocked_is i a0 x kept p m stands =
     same_tests _ _ (lack_there i a0 x kept p m stands) (lack_back i a0 x kept p m stands) in
     ap (λ b. closed_at i m || b)
     (sym (or_assoc (some_of (resource_count i) (lacks i a0 x p m))
-    (some_of (resource_count i) (lacks_between i a0 p m)) (taken i a0 x (service_of i p) m))
-    ∙ ap (λ b. b || taken i a0 x (service_of i p) m) (sym same))
+    (some_of (resource_count i) (lacks_between i a0 p m)) (flagged_starts_on i a0 x (service_of i p) m))
+    ∙ ap (λ b. b || flagged_starts_on i a0 x (service_of i p) m) (sym same))
 
 pub blocked_shut : (i : Tables) (a0 : List Machine) (x : ℕ → Bool) (kept : List ℕ) (p m : ℕ) → AreKept i a0 x kept →
     closed_at i m ≡ true → blocked i a0 x p m ≡ true
@@ -505,9 +505,10 @@ blocked_full i a0 x kept p m stands e = blocked_is i a0 x kept p m stands ∙ or
 
 pub blocked_open : (i : Tables) (a0 : List Machine) (x : ℕ → Bool) (kept : List ℕ) (p m s : ℕ) → AreKept i a0 x kept →
     closed_at i m ≡ false → some_of (resource_count i) (overfull i kept p m) ≡ false → s ≡ service_of i p →
-    blocked i a0 x p m ≡ taken i a0 x s m
+    blocked i a0 x p m ≡ flagged_starts_on i a0 x s m
 blocked_open i a0 x kept p m s stands open_is room is =
     blocked_is i a0 x kept p m stands
-    ∙ ap (λ b. b || (some_of (resource_count i) (overfull i kept p m) || taken i a0 x (service_of i p) m)) open_is
-    ∙ ap (λ b. b || taken i a0 x (service_of i p) m) room
-    ∙ ap (λ k. taken i a0 x k m) (sym is)
+    ∙ ap (λ b. b || (some_of (resource_count i) (overfull i kept p m) || flagged_starts_on i a0 x (service_of i p) m))
+    open_is
+    ∙ ap (λ b. b || flagged_starts_on i a0 x (service_of i p) m) room
+    ∙ ap (λ k. flagged_starts_on i a0 x k m) (sym is)

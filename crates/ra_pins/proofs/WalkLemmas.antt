@@ -9,7 +9,7 @@ use Rattle.ra_model.specs.Numbers.{machine_count, process_count}
 use Rattle.ra_model.specs.Assignments.{IsAssignment, machine_at}
 use Rattle.ra_pins.specs.Pinned.{blocked, stuck}
 use Rattle.ra_pins.specs.PinLists.{flag_at}
-use Rattle.ra_pins.specs.Walks.{spot, blocked_at, HasCome, AreWalked, IsWalk}
+use Rattle.ra_pins.specs.Walks.{spot, blocked_at, HasWalkedTo, AreWalked, IsWalk}
 use Rattle.ra_pins.specs.Searches.{looks_at}
 use Rattle.ra_pins.proofs.RoundLemmas.{BelowAt, blocked_more, stuck_from, stuck_blocked}
 
@@ -56,7 +56,7 @@ spot_of machines home m h m_in apart = ⊎_elim
 
 -- blocked from each place of the circle: blocked from every other machine
 pub round_stuck_all : (i : Tables) (a0 : List Machine) (flags : List Bool) (p place : ℕ) → IsAssignment i a0 →
-    p < process_count i → machine_count i ≤ place → HasCome i a0 flags p place → stuck i a0 (flag_at flags) p ≡ true
+    p < process_count i → machine_count i ≤ place → HasWalkedTo i a0 flags p place → stuck i a0 (flag_at flags) p ≡ true
 unfolding blocked_at
 round_stuck_all i a0 flags p place fits h end come = stuck_from i a0 (flag_at flags) p (λ m m_in apart.
     let at = spot_of (machine_count i) (machine_at a0 p) m (fits.in_range p h) m_in apart in
@@ -72,8 +72,8 @@ free_unstuck i a0 flags p place fits h some few shut =
     (spot_within (machine_count i) (machine_at a0 p) place (fits.in_range p h) (omega arith))
     (spot_away (machine_count i) (machine_at a0 p) place (fits.in_range p h) some few)
 
-pub come_on : (i : Tables) (a0 : List Machine) (flags : List Bool) (p from to : ℕ) → HasCome i a0 flags p from →
-    IsWalk i a0 flags p from to → HasCome i a0 flags p to
+pub come_on : (i : Tables) (a0 : List Machine) (flags : List Bool) (p from to : ℕ) → HasWalkedTo i a0 flags p from →
+    IsWalk i a0 flags p from to → HasWalkedTo i a0 flags p to
 come_on i a0 flags p from to come walk = record {
   some = omega (arith, come.some, walk.onward);
   within = walk.within;
@@ -85,7 +85,7 @@ come_on i a0 flags p from to come walk = record {
 
 -- one place is set
 pub walked_set : (i : Tables) (a0 : List Machine) (flags : List Bool) (places : List ℕ) (p place : ℕ) →
-    AreWalked i a0 flags places → HasCome i a0 flags p place → AreWalked i a0 flags (set places p place)
+    AreWalked i a0 flags places → HasWalkedTo i a0 flags p place → AreWalked i a0 flags (set places p place)
 walked_set i a0 flags places p place walked come = record {
   one_each = length-set places p place ∙ walked.one_each;
   each = λ q h. ⊎_elim
@@ -96,12 +96,12 @@ walked_set i a0 flags places p place walked come = record {
 }
   where
     place_set : (i : Tables) (a0 : List Machine) (flags : List Bool) (places : List ℕ) (p place : ℕ) →
-        p < length places → HasCome i a0 flags p place → HasCome i a0 flags p (get_or (set places p place) p 0)
+        p < length places → HasWalkedTo i a0 flags p place → HasWalkedTo i a0 flags p (get_or (set places p place) p 0)
     place_set i a0 flags places p place within come = rw (get_or-set_same places p place 0 within) come
 
 -- more flags: a process that has come to a place has still come there
 pub come_more : (i : Tables) (a0 : List Machine) (old new : List Bool) (p place : ℕ) →
-    ((m : ℕ) → BelowAt i a0 m (flag_at old) (flag_at new)) → HasCome i a0 old p place → HasCome i a0 new p place
+    ((m : ℕ) → BelowAt i a0 m (flag_at old) (flag_at new)) → HasWalkedTo i a0 old p place → HasWalkedTo i a0 new p place
 unfolding blocked_at
 come_more i a0 old new p place below come = record {
   some = come.some;

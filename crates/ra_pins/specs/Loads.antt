@@ -36,7 +36,7 @@ pub record IsBelow (i : Tables) (bound : ℕ) (table : List ℕ) : Type 0 where
   pub each : (m r : ℕ) → r < resource_count i → cell (resource_count i) table m r < bound
 
 -- each cell is the sum over the first n processes of their shares of its machine and resource
-pub record IsTally (i : Tables) (n : ℕ) (share : ℕ → ℕ → ℕ → ℕ → ℕ) (a : List Machine)
+pub record IsTallyTable (i : Tables) (n : ℕ) (share : ℕ → ℕ → ℕ → ℕ → ℕ) (a : List Machine)
     (table : List ℕ) : Type 0 where
   pub grid : length table ≡ machine_count i * resource_count i
   pub each : (m r : ℕ) → r < resource_count i

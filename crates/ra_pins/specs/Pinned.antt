@@ -37,8 +37,8 @@ unfoldable pub holds : Tables → List Machine → (ℕ → Bool) → ℕ → �
 holds i a0 x s m z = is_of i s z && (x z && (machine_at a0 z == m))
 
 -- a flagged process of service s starts on machine m
-unfoldable pub taken : Tables → List Machine → (ℕ → Bool) → ℕ → ℕ → Bool
-taken i a0 x s m = some_of (process_count i) (holds i a0 x s m)
+unfoldable pub flagged_starts_on : Tables → List Machine → (ℕ → Bool) → ℕ → ℕ → Bool
+flagged_starts_on i a0 x s m = some_of (process_count i) (holds i a0 x s m)
 
 -- process p is blocked from machine m: it is closed, or the flagged processes leave too little of some resource, or all
 -- that start there leave too little of some transient resource, or a flagged process of the service of p starts there
@@ -47,7 +47,7 @@ blocked i a0 x p m =
     closed_at i m
     || (some_of (resource_count i) (lacks i a0 x p m)
     || (some_of (resource_count i) (lacks_between i a0 p m)
-    || taken i a0 x (service_of i p) m))
+    || flagged_starts_on i a0 x (service_of i p) m))
 
 -- a machine other than that of process p, from which p isn't blocked
 unfoldable pub is_open : Tables → List Machine → (ℕ → Bool) → ℕ → ℕ → Bool

@@ -9,23 +9,23 @@ use Rattle.ra_pins.specs.Pinned.{is_pinned}
 use Rattle.ra_pins.specs.PinLists.{flag_at}
 use Rattle.ra_pins.specs.Loads.{AreKept, AddsRow}
 use Rattle.ra_pins.specs.declared.tables.Columns.TheVariants.{Others}
-use Rattle.ra_pins.specs.Marks.{AreTouched, AreMarked}
+use Rattle.ra_pins.specs.Marks.{AreTouched, AreMarksOfFlagged}
 use Rattle.ra_pins.specs.Walks.{spot, blocked_at, AreWalked, IsWalk}
 use Rattle.ra_pins.specs.declared.search.Search.{Search}
 
 -- only pinned processes are flagged
-pub record AreSound (i : Tables) (a0 : List Machine) (flags : List Bool) : Type 0 where
+pub record AreFlagsOfPinned (i : Tables) (a0 : List Machine) (flags : List Bool) : Type 0 where
   pub one_each : length flags ≡ process_count i
   pub each : (p : ℕ) → p < process_count i → flag_at flags p ≡ true → is_pinned i a0 p ≡ true
 
 -- what holds at all times during the search
 pub record IsSearch (i : Tables) (a0 : List Machine) (s : Search) : Type 0 where
-  pub flags : AreSound i a0 s.flags.items
+  pub flags : AreFlagsOfPinned i a0 s.flags.items
   pub kept : AreKept i a0 (flag_at s.flags.items) s.kept.items
   pub places : AreWalked i a0 s.flags.items s.places.items
   pub fuller : length s.fuller.items ≡ machine_count i
   pub touched : AreTouched i s.flags.items s.touched.items
-  pub marks : AreMarked i a0 s.flags.items s.marks.items
+  pub marks : AreMarksOfFlagged i a0 s.flags.items s.marks.items
 
 -- the machine that process p looks at
 unfoldable pub looks_at : Tables → List Machine → List ℕ → ℕ → ℕ
@@ -51,7 +51,7 @@ flag_count i s = count (process_count i) (flag_at s.flags.items)
 
 -- between pass t and pass t + 1: no process was flagged after pass t, and each process may rest unless pass t flagged
 -- one on the machine that it looks at
-pub record IsBetween (i : Tables) (a0 : List Machine) (s : Search) (t : ℕ) : Type 0 where
+pub record IsBetweenPasses (i : Tables) (a0 : List Machine) (s : Search) (t : ℕ) : Type 0 where
   pub search : IsSearch i a0 s
   pub before : IsBefore i s (t + 1)
   pub rests : (p : ℕ) → p < process_count i → Rests i a0 s t p

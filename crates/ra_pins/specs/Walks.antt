@@ -26,7 +26,7 @@ blocked_at i a0 flags p place =
     blocked i a0 (flag_at flags) p (spot (machine_count i) (machine_at a0 p) place)
 
 -- process p has come to a place: it is blocked from the machine of each place before it
-pub record HasCome (i : Tables) (a0 : List Machine) (flags : List Bool) (p place : ℕ) : Type 0 where
+pub record HasWalkedTo (i : Tables) (a0 : List Machine) (flags : List Bool) (p place : ℕ) : Type 0 where
   pub some : 1 ≤ place
   pub within : place ≤ machine_count i
   pub behind : (j : ℕ) → 1 ≤ j → j < place → blocked_at i a0 flags p j ≡ true
@@ -35,7 +35,7 @@ pub record HasCome (i : Tables) (a0 : List Machine) (flags : List Bool) (p place
 pub record AreWalked (i : Tables) (a0 : List Machine) (flags : List Bool) (places : List ℕ) : Type 0
   where
     pub one_each : length places ≡ process_count i
-    pub each : (p : ℕ) → p < process_count i → HasCome i a0 flags p (slice_index_or places p 0)
+    pub each : (p : ℕ) → p < process_count i → HasWalkedTo i a0 flags p (slice_index_or places p 0)
 
 -- a place is the next one, from one on, from whose machine the process isn't blocked, or the end of the circle
 pub record IsWalk (i : Tables) (a0 : List Machine) (flags : List Bool) (p from to : ℕ) : Type 0

@@ -1,10 +1,10 @@
 ghost use Rattle.std.specs.Prelude.{◌≡◌, ◌+◌, ◌*◌, ◌<◌, ◌≤◌, true, false, List, Bool, length};
 ghost use Rattle.ra_base.specs.declared.ids.Machine.{Machine};
 ghost use Rattle.ra_model.specs.Numbers.{resource_count, machine_count, service_count, process_count, service_of};
-ghost use Rattle.ra_pins.specs.Pinned.{some_of, taken, blocked};
+ghost use Rattle.ra_pins.specs.Pinned.{some_of, flagged_starts_on, blocked};
 ghost use Rattle.ra_pins.specs.PinLists.{flag_at};
 ghost use Rattle.ra_pins.specs.Loads.{AreKept};
-ghost use Rattle.ra_pins.specs.Marks.{AreStamped};
+ghost use Rattle.ra_pins.specs.Marks.{AreFlaggedMarked};
 ghost use Rattle.ra_pins.specs.Walks.{spot, overfull};
 
 use ra_base::{Fixed, Machine, Process, Resource, Service, Steps, read_cell};
@@ -29,7 +29,7 @@ pub(crate) fn is_blocked<L: Ledger>(
     requires marks { length marks.now.items ≡ machine_count inst.now.tables }
     ensures { (a0 : List Machine) (flags : List Bool) →
         AreKept inst.now.tables a0 (flag_at flags) kept.now.items →
-        AreStamped inst.now.tables a0 flags s.0 marks.now.items →
+        AreFlaggedMarked inst.now.tables a0 flags s.0 marks.now.items →
         result ≡ blocked inst.now.tables a0 (flag_at flags) p.0 m.0 }
 {
     if inst.closed(m) {
@@ -47,8 +47,8 @@ fn has_mark(inst: &Instance, marks: &Fixed<u32>, s: Service, m: Machine) -> bool
     requires machine { m.0 < length marks.now.items }
     ensures { (a0 : List Machine) (flags : List Bool) →
         m.0 < machine_count inst.now.tables →
-        AreStamped inst.now.tables a0 flags s.0 marks.now.items →
-        result ≡ taken inst.now.tables a0 (flag_at flags) s.0 m.0 }
+        AreFlaggedMarked inst.now.tables a0 flags s.0 marks.now.items →
+        result ≡ flagged_starts_on inst.now.tables a0 (flag_at flags) s.0 m.0 }
 {
     let _services = inst.services();
     marks.get(m.0 as usize) == s.0 + 1

@@ -6,9 +6,10 @@ ghost use Rattle.ra_model.specs.Members.{AreMembers};
 ghost use Rattle.ra_pins.specs.PinLists.{flag_at};
 ghost use Rattle.ra_pins.specs.Pins.{AreExact};
 ghost use Rattle.ra_pins.specs.Loads.{AreKept, IsBelow};
-ghost use Rattle.ra_pins.specs.Marks.{AreStamped};
+ghost use Rattle.ra_pins.specs.Marks.{AreFlaggedMarked};
 ghost use Rattle.ra_pins.specs.Walks.{IsWalk};
-ghost use Rattle.ra_pins.specs.Searches.{IsSearch, IsBetween, HasLooked, HasWalked, IsFlagged, flag_count, looks_at};
+ghost use Rattle.ra_pins.specs.Searches.{IsSearch, IsBetweenPasses, HasLooked, HasWalked, IsFlagged, flag_count};
+ghost use Rattle.ra_pins.specs.Searches.{looks_at};
 
 use crate::blocked::{is_blocked, spot};
 use crate::marks::mark_service;
@@ -31,7 +32,7 @@ pub(crate) fn find_pinned<L: Ledger>(
     requires some { 0 < blank.parts }
     requires fits { IsAssignment inst.now.tables a0.now.items }
     requires members { AreMembers members.now inst.now.tables }
-    requires first { IsBetween inst.now.tables a0.now.items search.old 0 }
+    requires first { IsBetweenPasses inst.now.tables a0.now.items search.old 0 }
     ensures { AreExact inst.now.tables a0.now.items search.new.flags.items }
 {
     let mut steps = Steps::<L>::make(blank);
@@ -54,8 +55,8 @@ fn pass<L: Ledger>(
     requires fits { IsAssignment inst.now.tables a0.now.items }
     requires members { AreMembers members.now inst.now.tables }
     requires few { t ≤ 50000 }
-    requires between { IsBetween inst.now.tables a0.now.items search.old t }
-    ensures between { IsBetween inst.now.tables a0.now.items search.new (t + 1) }
+    requires between { IsBetweenPasses inst.now.tables a0.now.items search.old t }
+    ensures between { IsBetweenPasses inst.now.tables a0.now.items search.new (t + 1) }
     ensures more { result ≡ true →
         flag_count inst.now.tables search.old + 1 ≤ flag_count inst.now.tables search.new }
     ensures none { result ≡ false →
@@ -175,7 +176,7 @@ fn next_open<L: Ledger>(
     ensures within { result ≤ machine_count inst.now.tables }
     ensures walk { (a0 : List Machine) (flags : List Bool) → machine_at a0 p.0 ≡ home.0 →
         AreKept inst.now.tables a0 (flag_at flags) kept.now.items →
-        AreStamped inst.now.tables a0 flags s.0 marks.now.items →
+        AreFlaggedMarked inst.now.tables a0 flags s.0 marks.now.items →
         IsWalk inst.now.tables a0 flags p.0 from result }
 {
     let machines = inst.machines();

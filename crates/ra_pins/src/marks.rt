@@ -2,7 +2,8 @@ ghost use Rattle.std.specs.Prelude.{◌≡◌, ◌+◌, ◌<◌, length};
 ghost use Rattle.ra_model.specs.Numbers.{service_count, process_count};
 ghost use Rattle.ra_model.specs.Assignments.{IsAssignment};
 ghost use Rattle.ra_model.specs.Members.{AreMembers};
-ghost use Rattle.ra_pins.specs.Marks.{AreMarked, AreTouched, AreStamped, AreSeated, IsSet, is_seat};
+ghost use Rattle.ra_pins.specs.Marks.{AreMarksOfFlagged, AreTouched, AreFlaggedMarked, AreFlaggedAndSeated, IsStampSet};
+ghost use Rattle.ra_pins.specs.Marks.{is_seat};
 
 use ra_base::{Assignment, Fixed, Process, Service};
 use ra_model::{Instance, Members, machine_of};
@@ -23,9 +24,9 @@ pub(crate) fn mark_service(
     requires service { s.0 < service_count inst.now.tables }
     requires flags { length flags.now.items ≡ process_count inst.now.tables }
     requires touched { AreTouched inst.now.tables flags.now.items touched.now.items }
-    requires marked { AreMarked inst.now.tables a0.now.items flags.now.items marks.old.items }
-    ensures marked { AreMarked inst.now.tables a0.now.items flags.now.items marks.new.items }
-    ensures stamped { AreStamped inst.now.tables a0.now.items flags.now.items s.0 marks.new.items }
+    requires marked { AreMarksOfFlagged inst.now.tables a0.now.items flags.now.items marks.old.items }
+    ensures marked { AreMarksOfFlagged inst.now.tables a0.now.items flags.now.items marks.new.items }
+    ensures stamped { AreFlaggedMarked inst.now.tables a0.now.items flags.now.items s.0 marks.new.items }
 {
     if touched.get(s.0 as usize) {
         stamp(a0, flags, members.of(s), s.0 + 1, marks);
@@ -40,9 +41,9 @@ fn stamp(
     stamp: u32,
     marks: &mut Fixed<u32>,
 )
-    requires seated { AreSeated a0.now.items flags.now.items processes.now
+    requires seated { AreFlaggedAndSeated a0.now.items flags.now.items processes.now
         (length marks.old.items) }
-    ensures { IsSet (is_seat a0.now.items flags.now.items processes.now) (length processes.now)
+    ensures { IsStampSet (is_seat a0.now.items flags.now.items processes.now) (length processes.now)
         stamp marks.old.items marks.new.items }
 {
     for k in 0..processes.len() {

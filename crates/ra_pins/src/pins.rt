@@ -6,7 +6,7 @@ ghost use Rattle.ra_model.specs.Assignments.{IsAssignment};
 ghost use Rattle.ra_pins.specs.Pinned.{is_pinned, pinned_load, flagged_share};
 ghost use Rattle.ra_pins.specs.PinLists.{flag_at};
 ghost use Rattle.ra_pins.specs.Pins.{AreExact, ArePins};
-ghost use Rattle.ra_pins.specs.Loads.{IsTally};
+ghost use Rattle.ra_pins.specs.Loads.{IsTallyTable};
 ghost use Rattle.ra_pins.specs.Laws.{Stays};
 
 use crate::looks::find_pinned;
@@ -121,7 +121,7 @@ fn loads_of(
 ) -> Result<Fixed<u64>, NoMemory>
     requires fits { IsAssignment inst.now.tables a0.now.items }
     requires flags { length flags.now.items ≡ process_count inst.now.tables }
-    ensures { IfOk result (λ loads. IsTally inst.now.tables (process_count inst.now.tables)
+    ensures { IfOk result (λ loads. IsTallyTable inst.now.tables (process_count inst.now.tables)
         (flagged_share inst.now.tables (flag_at flags.now.items)) a0.now.items loads.items) }
 {
     let mut loads = copies(
@@ -148,7 +148,7 @@ fn add_loads<L: Ledger>(
     requires flags { length flags.now.items ≡ process_count inst.now.tables }
     requires zeros { table.old.items ≡
         replicate (machine_count inst.now.tables * resource_count inst.now.tables) 0 }
-    ensures { IsTally inst.now.tables (process_count inst.now.tables)
+    ensures { IsTallyTable inst.now.tables (process_count inst.now.tables)
         (flagged_share inst.now.tables (flag_at flags.now.items)) a0.now.items table.new.items }
 {
     let mut steps = Steps::<L>::make(blank);

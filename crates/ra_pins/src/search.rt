@@ -1,8 +1,8 @@
 ghost use Rattle.std.specs.Prelude.{◌≡◌, ◌*◌, ◌<◌, false, IfOk, replicate};
 ghost use Rattle.ra_model.specs.Numbers.{resource_count, machine_count, process_count};
 ghost use Rattle.ra_model.specs.Assignments.{IsAssignment};
-ghost use Rattle.ra_pins.specs.Loads.{IsTally, row_share};
-ghost use Rattle.ra_pins.specs.Searches.{IsBetween};
+ghost use Rattle.ra_pins.specs.Loads.{IsTallyTable, row_share};
+ghost use Rattle.ra_pins.specs.Searches.{IsBetweenPasses};
 ghost use Rattle.ra_pins.specs.declared.tables.Columns.TheVariants as columns;
 
 use crate::tables::{Columns, add_row};
@@ -48,7 +48,7 @@ impl Search {
     /// The search at its start: nothing is flagged, and each process looks at the next machine.
     pub(crate) fn make(alloc: Global, inst: &Instance, a0: &Assignment) -> Result<Search, NoMemory>
         requires fits { IsAssignment inst.now.tables a0.now.items }
-        ensures { IfOk result (λ s. IsBetween inst.now.tables a0.now.items s 0) }
+        ensures { IfOk result (λ s. IsBetweenPasses inst.now.tables a0.now.items s 0) }
     {
         let processes = inst.processes() as usize;
         let machines = inst.machines() as usize;
@@ -87,7 +87,7 @@ impl Search {
 /// What is kept at the start: what all processes require of the transient resources of their machines.
 fn kept_at_start(alloc: Global, inst: &Instance, a0: &Assignment) -> Result<Fixed<u64>, NoMemory>
     requires { IsAssignment inst.now.tables a0.now.items }
-    ensures { IfOk result (λ kept. IsTally inst.now.tables (process_count inst.now.tables)
+    ensures { IfOk result (λ kept. IsTallyTable inst.now.tables (process_count inst.now.tables)
         (row_share inst.now.tables columns.Transient) a0.now.items kept.items) }
 {
     let mut kept = copies(
@@ -107,7 +107,7 @@ fn keep_between<L: Ledger>(inst: &Instance, a0: &Assignment, table: &mut Fixed<u
     requires fits { IsAssignment inst.now.tables a0.now.items }
     requires zeros { table.old.items ≡
         replicate (machine_count inst.now.tables * resource_count inst.now.tables) 0 }
-    ensures { IsTally inst.now.tables (process_count inst.now.tables)
+    ensures { IsTallyTable inst.now.tables (process_count inst.now.tables)
         (row_share inst.now.tables columns.Transient) a0.now.items table.new.items }
 {
     let mut steps = Steps::<L>::make(blank);

@@ -15,7 +15,7 @@ use Rattle.ra_moves.specs.Moving.{MayMove}
 use Rattle.ra_weigh_changes.specs.Room.{HaveRoom}
 use Rattle.ra_weigh_changes.proofs.RoomLemmas.{room_kept}
 use Rattle.ra_weigh_shift.specs.Arriving.{cost_now}
-use Rattle.ra_plan.specs.Choosing.{IsBest, cost_in, steps_in, bound_of}
+use Rattle.ra_plan.specs.Choosing.{IsBest, cost_in, steps_in, cost_to_beat}
 use Rattle.ra_plan.specs.Deciding.{IsMoveBelow, cause_at}
 use Rattle.ra_plan.specs.declared.best.Best.{Best}
 use Rattle.ra_plan.proofs.Bests.{worse_at, better_at, best_within, cost_means, cost_comes}
@@ -60,7 +60,7 @@ unfit_below w steps bound fits (gives, back) unfit holds =
 -- a move without a cost below the bound changes nothing
 pub move_stays : (w : Situation) (x : List ℕ) (d : Drawing) (allowed n : ℕ) (steps : List Step) (best : Best)
     (found : Option ℕ) → IsBest w x d allowed n best → steps_in w x d n ≡ steps →
-    IsMoveBelow w steps (bound_of best.cost (cost_now w + allowed + 1)) found → found ≡ None →
+    IsMoveBelow w steps (cost_to_beat best.cost (cost_now w + allowed + 1)) found → found ≡ None →
     IsBest w x d allowed (n + 1) best
 move_stays w x d allowed n steps best found is same below none =
     let f : ℕ → Option ℕ = cost_in w x d allowed in
@@ -68,8 +68,9 @@ move_stays w x d allowed n steps best found is same below none =
     let above = λ (c : ℕ) (here : f n ≡ Some c).
     let means = cost_means w x d allowed n c steps same here in
     let low = below.none none means.0 in
-    let under : bound_of (least n f) most ≤ c = omega (arith, ap (λ o. bound_of o most) is.cost, low, means.1) in
-    let both : (bound_of (least n f) most ≤ c) × (c < most) = (under, omega (arith, means.2)) in
+    let under : cost_to_beat (least n f) most ≤ c = omega
+    (arith, ap (λ o. cost_to_beat o most) is.cost, low, means.1) in
+    let both : (cost_to_beat (least n f) most ≤ c) × (c < most) = (under, omega (arith, means.2)) in
     both in
     let kept = least_kept n f (worse_at (f n) (least n f) most above) in
     record { cost = is.cost ∙ sym kept.0; option = is.option ∙ sym kept.1 }
@@ -77,7 +78,7 @@ move_stays w x d allowed n steps best found is same below none =
 -- and one with such a cost is the best
 pub move_found : (w : Situation) (x : List ℕ) (d : Drawing) (allowed n cost : ℕ) (steps : List Step) (best : Best)
     (found : Option ℕ) → IsBest w x d allowed n best → steps_in w x d n ≡ steps →
-    IsMoveBelow w steps (bound_of best.cost (cost_now w + allowed + 1)) found → found ≡ Some cost →
+    IsMoveBelow w steps (cost_to_beat best.cost (cost_now w + allowed + 1)) found → found ≡ Some cost →
     IsBest w x d allowed (n + 1) (record { cost = found; option = n })
 move_found w x d allowed n cost steps best found is same below some =
     let f : ℕ → Option ℕ = cost_in w x d allowed in

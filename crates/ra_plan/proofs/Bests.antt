@@ -32,7 +32,7 @@ use Rattle.ra_moves.specs.declared.steps.MoveKind.TheVariants.{Shift}
 use Rattle.ra_moves.specs.Options.{kind_of, option_count, drawn, target, leaving, option_at, option_cost, done_cost}
 use Rattle.ra_moves.specs.Options.{plan_place, plan_of}
 use Rattle.ra_moves.specs.Replacing.{after_move}
-use Rattle.ra_plan.specs.Choosing.{IsBest, cost_in, steps_in, bound_of}
+use Rattle.ra_plan.specs.Choosing.{IsBest, cost_in, steps_in, cost_to_beat}
 use Rattle.ra_plan.specs.Deciding.{IsPlanned}
 use Rattle.ra_plan.specs.declared.best.Best.{Best}
 use Rattle.ra_plan.proofs.OptionSizes.{option_few, option_some, shift_steps, least_place_below}
@@ -265,14 +265,14 @@ best_free w x d allowed n best steps is same some = by_cost best.cost refl some
     by_cost (Some cost) e there = best_unbroken w x d allowed n cost best steps is same e
 
 -- bounds
-bound_low : (o : Option ℕ) (most : ℕ) → ((b : ℕ) → o ≡ Some b → b < most) → bound_of o most ≤ most
-unfolding bound_of
+bound_low : (o : Option ℕ) (most : ℕ) → ((b : ℕ) → o ≡ Some b → b < most) → cost_to_beat o most ≤ most
+unfolding cost_to_beat
 bound_low None most low = omega arith
 bound_low (Some b) most low = omega (arith, low b refl)
 
 pub best_within : (w : Situation) (x : List ℕ) (d : Drawing) (allowed n : ℕ) (best : Best) →
     IsBest w x d allowed n best →
-    bound_of best.cost (cost_now w + allowed + 1) ≤ cost_now w + allowed + 1
+    cost_to_beat best.cost (cost_now w + allowed + 1) ≤ cost_now w + allowed + 1
 best_within w x d allowed n best is =
     bound_low best.cost (cost_now w + allowed + 1)
     (λ b there. omega (
@@ -283,7 +283,7 @@ best_within w x d allowed n best is =
 
 pub bound_fits : (w : Situation) (x : List ℕ) (d : Drawing) (allowed n most : ℕ) (best : Best) →
     IsSound w → IsBest w x d allowed n best → most ≡ cost_now w + allowed + 1 → allowed < 2 ^ 64 →
-    bound_of best.cost most ≤ 2 ^ 120
+    cost_to_beat best.cost most ≤ 2 ^ 120
 bound_fits w x d allowed n most best sound is most_is few =
     rw most_is (omega (
       arith,
@@ -293,22 +293,22 @@ bound_fits w x d allowed n most best sound is most_is few =
     ))
 
 -- an option without a cost below the bound changes nothing
-pub worse_at : (here least : Option ℕ) (most : ℕ) → ((c : ℕ) → here ≡ Some c → (bound_of least most ≤ c) × (c < most)) →
-    is_better here least ≡ false
-unfolding bound_of
+pub worse_at : (here least : Option ℕ) (most : ℕ) →
+    ((c : ℕ) → here ≡ Some c → (cost_to_beat least most ≤ c) × (c < most)) → is_better here least ≡ false
+unfolding cost_to_beat
 worse_at None least most above = is_better_none least
 worse_at (Some c) None most above = absurd (omega (arith, (above c refl).0, (above c refl).1))
 worse_at (Some c) (Some b) most above = is_better_some c b ∙ not_above c b (ltb c b) refl (above c refl).0
 
-pub better_at : (least : Option ℕ) (c most : ℕ) → c < bound_of least most → is_better (Some c) least ≡ true
-unfolding bound_of is_better
+pub better_at : (least : Option ℕ) (c most : ℕ) → c < cost_to_beat least most → is_better (Some c) least ≡ true
+unfolding cost_to_beat is_better
 better_at None c most below = refl
 better_at (Some b) c most below = is_above c b (ltb c b) refl below
 
 pub best_stays : (w : Situation) (x : List ℕ) (d : Drawing) (allowed n p to : ℕ) (best : Best)
     (found : Option ℕ) →
     IsBest w x d allowed n best → steps_in w x d n ≡ leaving w.here p to ∷ [] →
-    IsCostBelow w p to (bound_of best.cost (cost_now w + allowed + 1)) found → found ≡ None →
+    IsCostBelow w p to (cost_to_beat best.cost (cost_now w + allowed + 1)) found → found ≡ None →
     IsBest w x d allowed (n + 1) best
 best_stays w x d allowed n p to best found is same below none =
     let f : ℕ → Option ℕ = cost_in w x d allowed in
@@ -316,8 +316,9 @@ best_stays w x d allowed n p to best found is same below none =
     let above = λ (c : ℕ) (here : f n ≡ Some c).
     let means = cost_means w x d allowed n c (leaving w.here p to ∷ []) same here in
     let low = below.none none means.0 in
-    let under : bound_of (least n f) most ≤ c = omega (arith, ap (λ o. bound_of o most) is.cost, low, means.1) in
-    let both : (bound_of (least n f) most ≤ c) × (c < most) = (under, omega (arith, means.2)) in
+    let under : cost_to_beat (least n f) most ≤ c = omega
+    (arith, ap (λ o. cost_to_beat o most) is.cost, low, means.1) in
+    let both : (cost_to_beat (least n f) most ≤ c) × (c < most) = (under, omega (arith, means.2)) in
     both in
     let kept = least_kept n f (worse_at (f n) (least n f) most above) in
     record { cost = is.cost ∙ sym kept.0; option = is.option ∙ sym kept.1 }
@@ -326,7 +327,7 @@ best_stays w x d allowed n p to best found is same below none =
 pub best_found : (w : Situation) (x : List ℕ) (d : Drawing) (allowed n p to cost : ℕ) (best : Best)
     (found : Option ℕ) →
     IsBest w x d allowed n best → steps_in w x d n ≡ leaving w.here p to ∷ [] →
-    IsCostBelow w p to (bound_of best.cost (cost_now w + allowed + 1)) found → found ≡ Some cost →
+    IsCostBelow w p to (cost_to_beat best.cost (cost_now w + allowed + 1)) found → found ≡ Some cost →
     IsBest w x d allowed (n + 1) (record { cost = found; option = n })
 best_found w x d allowed n p to cost best found is same below some =
     let f : ℕ → Option ℕ = cost_in w x d allowed in
@@ -342,15 +343,16 @@ best_found w x d allowed n p to cost best found is same below some =
 
 -- a cost that was found is the next bound, and lower than the one before
 pub bound_falls : (w : Situation) (p to most cost : ℕ) (least found : Option ℕ) →
-    IsCostBelow w p to (bound_of least most) found → found ≡ Some cost → bound_of found most ≤ bound_of least most
-unfolding bound_of
+    IsCostBelow w p to (cost_to_beat least most) found → found ≡ Some cost →
+    cost_to_beat found most ≤ cost_to_beat least most
+unfolding cost_to_beat
 bound_falls w p to most cost least found below some =
     let low = below.below cost some in
     rw some (omega (arith, low))
 
-none_at : (o : Option ℕ) (most : ℕ) → o ≡ None → bound_of o most ≤ most
-unfolding bound_of
+none_at : (o : Option ℕ) (most : ℕ) → o ≡ None → cost_to_beat o most ≤ most
+unfolding cost_to_beat
 none_at o most none = rw none (omega arith)
 
-pub none_low : (w : Situation) (best : Best) (most : ℕ) → IsBest w [] Two 0 0 best → bound_of best.cost most ≤ most
+pub none_low : (w : Situation) (best : Best) (most : ℕ) → IsBest w [] Two 0 0 best → cost_to_beat best.cost most ≤ most
 none_low w best most is = none_at best.cost most (is.cost ∙ least_none (cost_in w [] Two 0))

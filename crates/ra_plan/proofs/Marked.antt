@@ -7,8 +7,8 @@ use Rattle.ra_model.specs.Numbers.{machine_count}
 use Rattle.ra_model.specs.Assignments.{machine_at}
 use Rattle.ra_model.specs.Situations.{Situation}
 use Rattle.ra_weigh_shift.specs.Arriving.{cost_now, sum_at, IsCostBelow}
-use Rattle.ra_weigh_shift.specs.Lanes.{machine_in, AreMarked}
-use Rattle.ra_plan.specs.Choosing.{IsBest, IsWindowOf, bound_of}
+use Rattle.ra_weigh_shift.specs.Lanes.{machine_in, AreCheapMarked}
+use Rattle.ra_plan.specs.Choosing.{IsBest, IsWindowOf, cost_to_beat}
 use Rattle.ra_plan.specs.declared.best.Best.{Best}
 use Rattle.std.specs.Prelude.{slice_index}
 use Rattle.ra_moves.specs.declared.steps.MoveKind.TheVariants.{Shift}
@@ -28,7 +28,7 @@ lower_none w p to most bound below low = record {
 
 -- options that cost too much are passed over
 skips_by : (d : ℕ) (w : Situation) (x : List ℕ) (allowed p first most from : ℕ) (best : Best) →
-    most ≡ cost_now w + allowed + 1 → IsWindowOf w x p first → bound_of best.cost most ≤ most →
+    most ≡ cost_now w + allowed + 1 → IsWindowOf w x p first → cost_to_beat best.cost most ≤ most →
     ((k : ℕ) → from ≤ k → k < from + d → IsCostBelow w p (machine_in w first k) most None) →
     IsBest w x Two allowed from best → IsBest w x Two allowed (from + d) best
 skips_by zero w x allowed p first most from best is window low dear best_is =
@@ -37,13 +37,13 @@ skips_by (suc d) w x allowed p first most from best is window low dear best_is =
     let so_far = skips_by d w x allowed p first most from best is window low
     (λ k after before. dear k after (omega arith)) best_is in
     let to : ℕ = machine_in w first (from + d) in
-    let none = lower_none w p to most (bound_of best.cost most) (dear (from + d) (omega arith) (omega arith)) low in
-    let here = subst (λ m. IsCostBelow w p to (bound_of best.cost m) None) is none in
+    let none = lower_none w p to most (cost_to_beat best.cost most) (dear (from + d) (omega arith) (omega arith)) low in
+    let here = subst (λ m. IsCostBelow w p to (cost_to_beat best.cost m) None) is none in
     subst (λ n. IsBest w x Two allowed n best) (omega arith)
     (best_stays w x Two allowed (from + d) p to best None so_far (window.each (from + d)) here refl)
 
 pub skips : (w : Situation) (x : List ℕ) (allowed p first most from end : ℕ) (best : Best) →
-    most ≡ cost_now w + allowed + 1 → IsWindowOf w x p first → bound_of best.cost most ≤ most → from ≤ end →
+    most ≡ cost_now w + allowed + 1 → IsWindowOf w x p first → cost_to_beat best.cost most ≤ most → from ≤ end →
     ((k : ℕ) → from ≤ k → k < end → IsCostBelow w p (machine_in w first k) most None) →
     IsBest w x Two allowed from best → IsBest w x Two allowed end best
 skips w x allowed p first most from end best is window low within dear best_is =
@@ -69,14 +69,14 @@ with_home w p first count home machines marks all home_is machines_is count_is h
 }
 
 pub unmarked_dear : (w : Situation) (p first most count marks all k : ℕ) (sums : List ℕ) →
-    AreMarked w p first most marks sums → HasHome w p first count marks all → count ≤ 64 → k < count →
+    AreCheapMarked w p first most marks sums → HasHome w p first count marks all → count ≤ 64 → k < count →
     bit_at all k ≢ 1 → IsCostBelow w p (machine_in w first k) most None
 unmarked_dear w p first most count marks all k sums marked home few below unset =
     let apart : machine_in w first k ≢ machine_at w.start p = λ same. unset (home.here k below same) in
     marked.dear k (omega arith) (λ set. unset (home.others k below apart ∙ set)) (λ same. apart (sym same))
 
 pub marked_sum : (w : Situation) (p first most count marks all k : ℕ) (sums : List ℕ) →
-    AreMarked w p first most marks sums → HasHome w p first count marks all → count ≤ 64 → k < count →
+    AreCheapMarked w p first most marks sums → HasHome w p first count marks all → count ≤ 64 → k < count →
     bit_at all k ≡ 1 → machine_at w.start p ≢ machine_in w first k →
     get_or sums k 0 ≡ sum_at w p (machine_in w first k)
 marked_sum w p first most count marks all k sums marked home few below set apart =

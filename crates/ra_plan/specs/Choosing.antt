@@ -19,9 +19,9 @@ unfoldable pub steps_in : Situation → List ℕ → Drawing → ℕ → List St
 steps_in st x d k = (option_at st.here x (machine_count st.tables) d k).steps
 
 -- what a cost has to be below: that of the best so far, or else the first that is too high
-unfoldable pub bound_of : Option ℕ → ℕ → ℕ
-bound_of None most = most
-bound_of (Some least) most = least
+unfoldable pub cost_to_beat : Option ℕ → ℕ → ℕ
+cost_to_beat None most = most
+cost_to_beat (Some least) most = least
 
 -- the first of least cost among the first n options that are judged Done, with its cost
 pub record IsBest (st : Situation) (x : List ℕ) (d : Drawing) (allowed n : ℕ) (best : Best) : Type 0

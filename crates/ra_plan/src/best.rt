@@ -5,7 +5,7 @@ ghost use Rattle.ra_model.specs.Situations.{Situation};
 ghost use Rattle.ra_moves.specs.Judging.{judge};
 ghost use Rattle.ra_moves.specs.Options.{leaving};
 ghost use Rattle.ra_weigh_shift.specs.Arriving.{cost_now, IsCostBelow};
-ghost use Rattle.ra_plan.specs.Choosing.{IsBest, steps_in, bound_of};
+ghost use Rattle.ra_plan.specs.Choosing.{IsBest, steps_in, cost_to_beat};
 
 use ra_moves::Verdict;
 
@@ -33,9 +33,9 @@ impl Best {
     /// What a cost has to be below so that its option becomes the best: the cost of the best so far, or the first cost
     /// that is too high.
     #[inline(always)]
-    #[tactic(auto, unfolding(crate::specs::Choosing::bound_of))]
+    #[tactic(auto, unfolding(crate::specs::Choosing::cost_to_beat))]
     pub(crate) fn bound(&self, most: u128) -> u128
-        ensures { result ≡ bound_of self.now.cost most }
+        ensures { result ≡ cost_to_beat self.now.cost most }
     {
         match self.cost {
             Some(least) => least,
@@ -49,11 +49,11 @@ impl Best {
         ensures best { (st : Situation) (x : List ℕ) (d : Drawing) (allowed p to : ℕ)
             → IsBest st x d allowed option self
             → steps_in st x d option ≡ leaving st.here p to ∷ []
-            → IsCostBelow st p to (bound_of self.cost (cost_now st + allowed + 1)) found
+            → IsCostBelow st p to (cost_to_beat self.cost (cost_now st + allowed + 1)) found
             → IsBest st x d allowed (option + 1) result }
         ensures bound { (st : Situation) (p to most : ℕ)
-            → IsCostBelow st p to (bound_of self.cost most) found
-            → bound_of result.cost most ≤ bound_of self.cost most }
+            → IsCostBelow st p to (cost_to_beat self.cost most) found
+            → cost_to_beat result.cost most ≤ cost_to_beat self.cost most }
     {
         match found {
             Some(_) => Best {

@@ -7,7 +7,7 @@ ghost use Rattle.ra_moves.specs.declared.steps.Step.{Step};
 ghost use Rattle.ra_moves.specs.Options.{kind_of, option_count};
 ghost use Rattle.ra_moves.specs.Moving.{IsOffered};
 ghost use Rattle.ra_weigh_shift.specs.Arriving.{cost_now};
-ghost use Rattle.ra_plan.specs.Choosing.{IsBest, steps_in, bound_of};
+ghost use Rattle.ra_plan.specs.Choosing.{IsBest, steps_in, cost_to_beat};
 ghost use Rattle.ra_plan.specs.Deciding.{IsMoveBelow};
 
 use crate::best::Best;
@@ -84,7 +84,7 @@ fn or_below(best: Best, option: u32, found: Option<u128>) -> Best
     ensures { (st : Situation) (x : List ℕ) (d : Drawing) (allowed : ℕ) (steps : List Step)
         → IsBest st x d allowed option best
         → steps_in st x d option ≡ steps
-        → IsMoveBelow st steps (bound_of best.cost (cost_now st + allowed + 1)) found
+        → IsMoveBelow st steps (cost_to_beat best.cost (cost_now st + allowed + 1)) found
         → IsBest st x d allowed (option + 1) result }
 {
     match found {

@@ -7,8 +7,8 @@ ghost use Rattle.ra_moves.specs.Options.{leaving};
 ghost use Rattle.ra_base.specs.declared.causes.Drawing.TheVariants.{Two};
 ghost use Rattle.ra_model.specs.Assignments.{machine_at};
 ghost use Rattle.ra_weigh_shift.specs.Arriving.{cost_now, sum_at};
-ghost use Rattle.ra_weigh_shift.specs.Lanes.{AreMarked};
-ghost use Rattle.ra_plan.specs.Choosing.{IsBest, IsWindowOf, steps_in, bound_of};
+ghost use Rattle.ra_weigh_shift.specs.Lanes.{AreCheapMarked};
+ghost use Rattle.ra_plan.specs.Choosing.{IsBest, IsWindowOf, steps_in, cost_to_beat};
 
 use crate::best::Best;
 use crate::marks::{next_mark, with_mark};
@@ -95,7 +95,7 @@ fn best_marked(
     requires world { shift.now.world.now ≡ world.now }
     requires first { first < machine_count world.now.tables }
     requires most { most ≤ 2 ^ 120 }
-    requires marked { AreMarked world.now shift.now.process.0 first most marks sums.now }
+    requires marked { AreCheapMarked world.now shift.now.process.0 first most marks sums.now }
     ensures { (x : List ℕ) (allowed : ℕ) → most ≡ cost_now world.now + allowed + 1
         → IsWindowOf world.now x shift.now.process.0 first
         → IsBest world.now x Two allowed (min 64 (machine_count world.now.tables)) result }
@@ -127,14 +127,14 @@ fn with_sum(
     requires world { shift.now.world.now ≡ world.now }
     requires machine { to.0 < machine_count world.now.tables }
     requires most { most ≤ 2 ^ 120 }
-    requires bound { bound_of best.cost most ≤ most }
+    requires bound { cost_to_beat best.cost most ≤ most }
     requires sum { machine_at world.now.start shift.now.process.0 ≢ to.0 →
         sum ≡ sum_at world.now shift.now.process.0 to.0 }
     ensures best { (x : List ℕ) (allowed : ℕ) → most ≡ cost_now world.now + allowed + 1
         → IsBest world.now x Two allowed option best
         → steps_in world.now x Two option ≡ leaving world.now.here shift.now.process.0 to.0 ∷ []
         → IsBest world.now x Two allowed (option + 1) result }
-    ensures bound { bound_of result.cost most ≤ most }
+    ensures bound { cost_to_beat result.cost most ≤ most }
 {
     best.or_found(option, shift.cost_summed(to, sum, best.bound(most)))
 }
@@ -151,7 +151,7 @@ fn with_shift(
 ) -> Best
     requires world { shift.now.world.now ≡ world.now }
     requires machine { to.0 < machine_count world.now.tables }
-    requires bound { bound_of best.cost most ≤ 2 ^ 120 }
+    requires bound { cost_to_beat best.cost most ≤ 2 ^ 120 }
     ensures { (x : List ℕ) (d : Drawing) (allowed : ℕ) →
         most ≡ cost_now world.now + allowed + 1 → IsBest world.now x d allowed option best →
         steps_in world.now x d option ≡ leaving world.now.here shift.now.process.0 to.0 ∷ [] →

@@ -7,7 +7,7 @@ use Rattle.ra_model.specs.Assignments.{IsAssignment}
 use Rattle.ra_rows.specs.Rows as rows
 use Rattle.ra_cells.specs.Stands as cells
 use Rattle.ra_repair.specs.declared.kept.Kept.{Kept}
-use Rattle.ra_repair.specs.Keeping.{Stands, Keeps}
+use Rattle.ra_repair.specs.Keeping.{StandsForKept, KeepsPenalty}
 use Rattle.ra_repair.specs.Penalty.{penalty}
 use Rattle.ra_repair.specs.Touched.{touched}
 use Rattle.ra_repair.proofs.BoundLemmas.{penalty_few}
@@ -15,7 +15,7 @@ use Rattle.ra_repair.proofs.StepLemmas.{Goes, penalty_set}
 
 pub stands_on : (kept : Kept) (i : Tables) (a0 a : List Machine) → kept.assignment.items ≡ a → IsAssignment i a →
     kept.rows.tables ≡ i → kept.rows.start ≡ a0 → rows.StandFor kept.rows a → cells.StandFor kept.cells i a0 a →
-    Stands kept i a0
+    StandsForKept kept i a0
 stands_on kept i a0 a is fits tables start by_rows by_cells = record {
   fits = rw is fits;
   tables = tables;
@@ -25,8 +25,8 @@ stands_on kept i a0 a is fits tables start by_rows by_cells = record {
 }
 
 -- the penalty is kept after the step
-pub keeps_on : (kept : Kept) (now : ℕ) (i : Tables) (a0 : List Machine) → Stands kept i a0 →
-    now ≡ penalty i a0 kept.assignment.items → Keeps (record kept { penalty = now }) i a0
+pub keeps_on : (kept : Kept) (now : ℕ) (i : Tables) (a0 : List Machine) → StandsForKept kept i a0 →
+    now ≡ penalty i a0 kept.assignment.items → KeepsPenalty (record kept { penalty = now }) i a0
 keeps_on kept now i a0 stands is = record {
   stands = record {
     fits = stands.fits;

@@ -13,7 +13,7 @@ use Rattle.ra_repair.specs.declared.tries.Try.{Try}
 use Rattle.ra_repair.specs.Penalty.{penalty}
 
 -- rows and counters of an instance and an initial assignment represent the kept assignment
-pub record Stands (kept : Kept) (i : Tables) (a0 : List Machine) : Type 0 where
+pub record StandsForKept (kept : Kept) (i : Tables) (a0 : List Machine) : Type 0 where
   pub fits : IsAssignment i kept.assignment.items
   pub tables : kept.rows.tables ≡ i
   pub start : kept.rows.start ≡ a0
@@ -21,8 +21,8 @@ pub record Stands (kept : Kept) (i : Tables) (a0 : List Machine) : Type 0 where
   pub cells : cells.StandFor kept.cells i a0 kept.assignment.items
 
 -- all that is kept is right, and the kept penalty is that of the kept assignment, reached from a0
-pub record Keeps (kept : Kept) (i : Tables) (a0 : List Machine) : Type 0 where
-  pub stands : Stands kept i a0
+pub record KeepsPenalty (kept : Kept) (i : Tables) (a0 : List Machine) : Type 0 where
+  pub stands : StandsForKept kept i a0
   pub penalty_is : kept.penalty ≡ penalty i a0 kept.assignment.items
 
 -- a lot may be used, no try was made for it yet, and there is room for as many as its budget

@@ -1,6 +1,6 @@
 ghost use Rattle.std.specs.Prelude.{◌≡◌, ◌*◌, ◌^◌, ◌<◌, ◌≤◌};
 ghost use Rattle.ra_model.specs.Numbers.{resource_count, machine_count};
-ghost use Rattle.ra_repair.specs.Keeping.{Stands};
+ghost use Rattle.ra_repair.specs.Keeping.{StandsForKept};
 ghost use Rattle.ra_repair.specs.Penalty.{use_above, row_above, transient_above, row_transient_above};
 
 use crate::kept::Kept;
@@ -10,7 +10,7 @@ use ra_model::Instance;
 /// The use of the resources of a machine above its capacities.
 #[tactic(auto, using(ra_base::proofs::Sums::sums), unfolding(crate::specs::Penalty::row_above))]
 pub(crate) fn row_above(inst: &Instance, start: &Assignment, kept: &Kept<'_>, m: Machine) -> u64
-    requires stands { Stands kept.now inst.now.tables start.now.items }
+    requires stands { StandsForKept kept.now inst.now.tables start.now.items }
     requires machine { m.0 < machine_count inst.now.tables }
     ensures value { result ≡ row_above inst.now.tables kept.now.assignment.items m.0 }
     ensures few { result ≤ 20 * 2 ^ 48 }
@@ -25,7 +25,7 @@ pub(crate) fn row_above(inst: &Instance, start: &Assignment, kept: &Kept<'_>, m:
 /// The use of a resource of a machine above its capacity.
 #[tactic(auto, unfolding(crate::specs::Penalty::use_above))]
 fn use_above(inst: &Instance, start: &Assignment, kept: &Kept<'_>, m: Machine, r: Resource) -> u64
-    requires stands { Stands kept.now inst.now.tables start.now.items }
+    requires stands { StandsForKept kept.now inst.now.tables start.now.items }
     requires machine { m.0 < machine_count inst.now.tables }
     requires resource { r.0 < resource_count inst.now.tables }
     ensures value { result ≡ use_above inst.now.tables kept.now.assignment.items m.0 r.0 }
@@ -43,7 +43,7 @@ pub(crate) fn row_transient_above(
     kept: &Kept<'_>,
     m: Machine,
 ) -> u64
-    requires stands { Stands kept.now inst.now.tables start.now.items }
+    requires stands { StandsForKept kept.now inst.now.tables start.now.items }
     requires machine { m.0 < machine_count inst.now.tables }
     ensures value { result ≡
         row_transient_above inst.now.tables start.now.items kept.now.assignment.items m.0 }
@@ -65,7 +65,7 @@ fn transient_above(
     m: Machine,
     r: Resource,
 ) -> u64
-    requires stands { Stands kept.now inst.now.tables start.now.items }
+    requires stands { StandsForKept kept.now inst.now.tables start.now.items }
     requires machine { m.0 < machine_count inst.now.tables }
     requires resource { r.0 < resource_count inst.now.tables }
     ensures value { result ≡

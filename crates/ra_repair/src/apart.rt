@@ -1,7 +1,7 @@
 ghost use Rattle.std.specs.Prelude.{◌≡◌, ◌*◌, ◌^◌, ◌<◌, ◌≤◌};
 ghost use Rattle.ra_model.specs.Numbers.{machine_count, service_count, process_count};
 ghost use Rattle.ra_model.specs.Assignments.{IsAssignment, machine_at};
-ghost use Rattle.ra_repair.specs.Keeping.{Stands};
+ghost use Rattle.ra_repair.specs.Keeping.{StandsForKept};
 ghost use Rattle.ra_repair.specs.Penalty.{crowd_on, spread_lack, closed_share};
 
 use crate::kept::Kept;
@@ -17,7 +17,7 @@ pub(crate) fn crowd_on(
     s: Service,
     m: Machine,
 ) -> u64
-    requires stands { Stands kept.now inst.now.tables start.now.items }
+    requires stands { StandsForKept kept.now inst.now.tables start.now.items }
     requires service { s.0 < service_count inst.now.tables }
     ensures value { result ≡ crowd_on inst.now.tables kept.now.assignment.items s.0 m.0 }
     ensures few { result ≤ 50000 }
@@ -29,7 +29,7 @@ pub(crate) fn crowd_on(
 /// How many more locations a service needs for its spread.
 #[tactic(auto, unfolding(crate::specs::Penalty::spread_lack))]
 pub(crate) fn spread_lack(inst: &Instance, start: &Assignment, kept: &Kept<'_>, s: Service) -> u64
-    requires stands { Stands kept.now inst.now.tables start.now.items }
+    requires stands { StandsForKept kept.now inst.now.tables start.now.items }
     requires service { s.0 < service_count inst.now.tables }
     ensures value { result ≡ spread_lack inst.now.tables kept.now.assignment.items s.0 }
     ensures few { result ≤ 2 ^ 32 }
@@ -41,7 +41,7 @@ pub(crate) fn spread_lack(inst: &Instance, start: &Assignment, kept: &Kept<'_>, 
 /// 1 for a process that is now on a closed machine which isn't its initial one.
 pub(crate) fn closed_now(inst: &Instance, start: &Assignment, kept: &Kept<'_>, p: Process) -> u64
     requires start { IsAssignment inst.now.tables start.now.items }
-    requires stands { Stands kept.now inst.now.tables start.now.items }
+    requires stands { StandsForKept kept.now inst.now.tables start.now.items }
     requires process { p.0 < process_count inst.now.tables }
     ensures value { result ≡ closed_share inst.now.tables start.now.items p.0
         (machine_at kept.now.assignment.items p.0) }

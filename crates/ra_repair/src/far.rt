@@ -3,7 +3,7 @@ ghost use Rattle.ra_model.specs.Numbers.{service_count, dependency_count, need_o
 ghost use Rattle.ra_model.specs.Services.{in_neighbourhood};
 ghost use Rattle.ra_topology.specs.Fits.{IsTopologyOf};
 ghost use Rattle.ra_topology.specs.Lists.{AreDependantsOf};
-ghost use Rattle.ra_repair.specs.Keeping.{Stands};
+ghost use Rattle.ra_repair.specs.Keeping.{StandsForKept};
 ghost use Rattle.ra_repair.specs.Touched.{is_missing, missing_near, is_link, links, left_alone, all_alone, far_near, far_between};
 
 use crate::kept::Kept;
@@ -24,7 +24,7 @@ pub(crate) fn far_between(
     come: u32,
 ) -> u64
     requires topology { IsTopologyOf topo.now inst.now.tables }
-    requires stands { Stands kept.now inst.now.tables start.now.items }
+    requires stands { StandsForKept kept.now inst.now.tables start.now.items }
     requires service { s.0 < service_count inst.now.tables }
     ensures value { result ≡
         far_between inst.now.tables kept.now.assignment.items s.0 left come }
@@ -49,7 +49,7 @@ fn far_near(
     label: u32,
 ) -> u64
     requires topology { IsTopologyOf topo.now inst.now.tables }
-    requires stands { Stands kept.now inst.now.tables start.now.items }
+    requires stands { StandsForKept kept.now inst.now.tables start.now.items }
     requires service { s.0 < service_count inst.now.tables }
     ensures value { result ≡ far_near inst.now.tables kept.now.assignment.items s.0 label }
     ensures few { result ≤ 250000000000000 }
@@ -70,7 +70,7 @@ pub(crate) fn near(
     s: Service,
     label: u32,
 ) -> u64
-    requires stands { Stands kept.now inst.now.tables start.now.items }
+    requires stands { StandsForKept kept.now inst.now.tables start.now.items }
     requires service { s.0 < service_count inst.now.tables }
     ensures value { result ≡ in_neighbourhood inst.now.tables kept.now.assignment.items s.0 label }
     ensures few { result ≤ 50000 }
@@ -82,7 +82,7 @@ pub(crate) fn near(
 /// How many dependencies of a service have no process of the needed service there.
 #[tactic(auto, using(ra_base::proofs::Counts::counts, crate::proofs::ReadLemmas::dependency_few), unfolding(crate::specs::Touched::missing_near))]
 fn missing_near(inst: &Instance, start: &Assignment, kept: &Kept<'_>, s: Service, label: u32) -> u64
-    requires stands { Stands kept.now inst.now.tables start.now.items }
+    requires stands { StandsForKept kept.now inst.now.tables start.now.items }
     requires service { s.0 < service_count inst.now.tables }
     ensures value { result ≡ missing_near inst.now.tables kept.now.assignment.items s.0 label }
     ensures few { result ≤ 100000 }
@@ -108,7 +108,7 @@ fn is_missing(
     k: usize,
     need: Service,
 ) -> bool
-    requires stands { Stands kept.now inst.now.tables start.now.items }
+    requires stands { StandsForKept kept.now inst.now.tables start.now.items }
     requires service { s.0 < service_count inst.now.tables }
     requires dependency { k < dependency_count inst.now.tables s.0 }
     requires need { need.0 ≡ need_of inst.now.tables s.0 k }
@@ -153,7 +153,7 @@ fn all_alone(
     label: u32,
 ) -> u64
     requires topology { IsTopologyOf topo.now inst.now.tables }
-    requires stands { Stands kept.now inst.now.tables start.now.items }
+    requires stands { StandsForKept kept.now inst.now.tables start.now.items }
     requires service { s.0 < service_count inst.now.tables }
     ensures value { result ≡ all_alone inst.now.tables kept.now.assignment.items s.0 label }
     ensures few { result ≤ 250000000000000 }
@@ -176,7 +176,7 @@ fn left_alone(
     label: u32,
     u: Service,
 ) -> u64
-    requires stands { Stands kept.now inst.now.tables start.now.items }
+    requires stands { StandsForKept kept.now inst.now.tables start.now.items }
     requires service { u.0 < service_count inst.now.tables }
     ensures value { result ≡
         left_alone inst.now.tables kept.now.assignment.items s.0 label u.0 }

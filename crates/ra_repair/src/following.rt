@@ -4,7 +4,7 @@ ghost use Rattle.ra_model.specs.Assignments.{IsAssignment, machine_at};
 ghost use Rattle.ra_moves.specs.Replacing.{applied, turned};
 ghost use Rattle.ra_topology.specs.Fits.{IsTopologyOf};
 ghost use Rattle.ra_repair.specs.Following.{AreSteps, AreMade};
-ghost use Rattle.ra_repair.specs.Keeping.{Stands, Keeps};
+ghost use Rattle.ra_repair.specs.Keeping.{StandsForKept, KeepsPenalty};
 
 use crate::kept::Kept;
 use crate::touched::touched;
@@ -25,9 +25,9 @@ pub(crate) fn follow<L: Ledger>(
 )
     requires start { IsAssignment inst.now.tables start.now.items }
     requires topology { IsTopologyOf topo.now inst.now.tables }
-    requires keeps { Keeps kept.old inst.now.tables start.now.items }
+    requires keeps { KeepsPenalty kept.old inst.now.tables start.now.items }
     requires moves { AreSteps inst.now.tables kept.old.assignment.items mv.now.steps }
-    ensures keeps { Keeps kept.new inst.now.tables start.now.items }
+    ensures keeps { KeepsPenalty kept.new inst.now.tables start.now.items }
     ensures assignment { kept.new.assignment.items ≡
         applied kept.old.assignment.items mv.now.steps }
 {
@@ -48,12 +48,12 @@ pub(crate) fn follow_step<L: Ledger>(
 )
     requires start { IsAssignment inst.now.tables start.now.items }
     requires topology { IsTopologyOf topo.now inst.now.tables }
-    requires keeps { Keeps kept.old inst.now.tables start.now.items }
+    requires keeps { KeepsPenalty kept.old inst.now.tables start.now.items }
     requires process { step.process.0 < process_count inst.now.tables }
     requires to { step.to.0 < machine_count inst.now.tables }
     requires apart { step.from.0 ≢ step.to.0 }
     requires at_from { machine_at kept.old.assignment.items step.process.0 ≡ step.from.0 }
-    ensures keeps { Keeps kept.new inst.now.tables start.now.items }
+    ensures keeps { KeepsPenalty kept.new inst.now.tables start.now.items }
     ensures assignment { kept.new.assignment.items ≡
         slice_set kept.old.assignment.items step.process.0 step.to }
 {
@@ -71,9 +71,9 @@ pub(crate) fn go_back<L: Ledger>(
     mv: &Move,
     steps: &mut Steps<L>,
 )
-    requires stands { Stands kept.old inst.now.tables start.now.items }
+    requires stands { StandsForKept kept.old inst.now.tables start.now.items }
     requires made { AreMade inst.now.tables kept.old.assignment.items mv.now.steps }
-    ensures stands { Stands kept.new inst.now.tables start.now.items }
+    ensures stands { StandsForKept kept.new inst.now.tables start.now.items }
     ensures assignment { kept.new.assignment.items ≡
         applied kept.old.assignment.items (turned mv.now.steps) }
     ensures penalty { kept.new.penalty ≡ kept.old.penalty }
@@ -94,12 +94,12 @@ fn put<L: Ledger>(
     to: Machine,
     steps: &mut Steps<L>,
 )
-    requires stands { Stands kept.old inst.now.tables start.now.items }
+    requires stands { StandsForKept kept.old inst.now.tables start.now.items }
     requires process { p.0 < process_count inst.now.tables }
     requires to { to.0 < machine_count inst.now.tables }
     requires apart { from.0 ≢ to.0 }
     requires at_from { machine_at kept.old.assignment.items p.0 ≡ from.0 }
-    ensures stands { Stands kept.new inst.now.tables start.now.items }
+    ensures stands { StandsForKept kept.new inst.now.tables start.now.items }
     ensures assignment { kept.new.assignment.items ≡
         slice_set kept.old.assignment.items p.0 to }
     ensures penalty { kept.new.penalty ≡ kept.old.penalty }

@@ -6,7 +6,7 @@ ghost use Rattle.ra_moves.specs.Steps.{StandsAt, from_in, to_in};
 ghost use Rattle.ra_moves.specs.Replacing.{applied};
 ghost use Rattle.ra_topology.specs.Fits.{IsTopologyOf};
 ghost use Rattle.ra_repair.specs.Following.{AreSteps};
-ghost use Rattle.ra_repair.specs.Keeping.{Keeps};
+ghost use Rattle.ra_repair.specs.Keeping.{KeepsPenalty};
 ghost use Rattle.ra_repair.specs.Penalty.{penalty};
 ghost use Rattle.ra_repair.specs.Runs.{try_count, try_option, penalty_by, option_penalty, chosen, least_after};
 
@@ -38,12 +38,12 @@ pub(crate) fn choose<L: Ledger>(
 ) -> Choice
     requires start { IsAssignment inst.now.tables start.now.items }
     requires topology { IsTopologyOf topo.now inst.now.tables }
-    requires keeps { Keeps kept.old inst.now.tables start.now.items }
+    requires keeps { KeepsPenalty kept.old inst.now.tables start.now.items }
     ensures chosen { result.mv ≡
         chosen inst.now.tables start.now.items kept.old.assignment.items words.now }
     ensures least { result.after ≡
         least_after inst.now.tables start.now.items kept.old.assignment.items words.now }
-    ensures keeps { Keeps kept.new inst.now.tables start.now.items }
+    ensures keeps { KeepsPenalty kept.new inst.now.tables start.now.items }
     ensures same { kept.new.assignment.items ≡ kept.old.assignment.items }
 {
     let first = resolve(&kept.assignment, words, inst.machines(), Drawing::Two, 0);
@@ -69,12 +69,12 @@ fn choose_in_turn<L: Ledger>(
 ) -> Choice
     requires start { IsAssignment inst.now.tables start.now.items }
     requires topology { IsTopologyOf topo.now inst.now.tables }
-    requires keeps { Keeps kept.old inst.now.tables start.now.items }
+    requires keeps { KeepsPenalty kept.old inst.now.tables start.now.items }
     ensures chosen { result.mv ≡
         chosen inst.now.tables start.now.items kept.old.assignment.items words.now }
     ensures least { result.after ≡
         least_after inst.now.tables start.now.items kept.old.assignment.items words.now }
-    ensures keeps { Keeps kept.new inst.now.tables start.now.items }
+    ensures keeps { KeepsPenalty kept.new inst.now.tables start.now.items }
     ensures same { kept.new.assignment.items ≡ kept.old.assignment.items }
 {
     let machines = inst.machines();
@@ -99,13 +99,13 @@ fn try_option<L: Ledger>(
 ) -> Choice
     requires start { IsAssignment inst.now.tables start.now.items }
     requires topology { IsTopologyOf topo.now inst.now.tables }
-    requires keeps { Keeps kept.old inst.now.tables start.now.items }
+    requires keeps { KeepsPenalty kept.old inst.now.tables start.now.items }
     requires named { option < try_count inst.now.tables words.now }
     ensures option { result.mv ≡
         try_option inst.now.tables kept.old.assignment.items words.now option }
     ensures after { result.after ≡ option_penalty inst.now.tables start.now.items
         kept.old.assignment.items words.now option }
-    ensures keeps { Keeps kept.new inst.now.tables start.now.items }
+    ensures keeps { KeepsPenalty kept.new inst.now.tables start.now.items }
     ensures same { kept.new.assignment.items ≡ kept.old.assignment.items }
 {
     let mv = resolve(
@@ -130,13 +130,13 @@ fn penalty_after<L: Ledger>(
 ) -> Option<u128>
     requires start { IsAssignment inst.now.tables start.now.items }
     requires topology { IsTopologyOf topo.now inst.now.tables }
-    requires keeps { Keeps kept.old inst.now.tables start.now.items }
+    requires keeps { KeepsPenalty kept.old inst.now.tables start.now.items }
     requires stands { StandsAt from_in mv.now.steps kept.old.assignment.items }
     requires reaches { (j : ℕ) → j < length mv.now.steps →
         to_in mv.now.steps j < machine_count inst.now.tables }
     ensures after { result ≡ penalty_by inst.now.tables start.now.items
         kept.old.assignment.items mv.now.steps }
-    ensures keeps { Keeps kept.new inst.now.tables start.now.items }
+    ensures keeps { KeepsPenalty kept.new inst.now.tables start.now.items }
     ensures same { kept.new.assignment.items ≡ kept.old.assignment.items }
 {
     match first_flaw(mv) {
@@ -156,11 +156,11 @@ fn penalty_beyond<L: Ledger>(
 ) -> u128
     requires start { IsAssignment inst.now.tables start.now.items }
     requires topology { IsTopologyOf topo.now inst.now.tables }
-    requires keeps { Keeps kept.old inst.now.tables start.now.items }
+    requires keeps { KeepsPenalty kept.old inst.now.tables start.now.items }
     requires moves { AreSteps inst.now.tables kept.old.assignment.items mv.now.steps }
     ensures after { result ≡ penalty inst.now.tables start.now.items
         (applied kept.old.assignment.items mv.now.steps) }
-    ensures keeps { Keeps kept.new inst.now.tables start.now.items }
+    ensures keeps { KeepsPenalty kept.new inst.now.tables start.now.items }
     ensures same { kept.new.assignment.items ≡ kept.old.assignment.items }
 {
     let before = kept.penalty;

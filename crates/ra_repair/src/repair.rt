@@ -2,7 +2,7 @@ ghost use Rattle.std.specs.Prelude.{◌≡◌, ◌<◌, [], ◌∷◌, length, I
 ghost use Rattle.ra_draws.specs.Lots.{IsLots};
 ghost use Rattle.ra_model.specs.Assignments.{IsAssignment};
 ghost use Rattle.ra_topology.specs.Fits.{IsTopologyOf};
-ghost use Rattle.ra_repair.specs.Keeping.{Keeps, Stands};
+ghost use Rattle.ra_repair.specs.Keeping.{KeepsPenalty, StandsForKept};
 ghost use Rattle.ra_repair.specs.Penalty.{penalty};
 
 use crate::kept::Kept;
@@ -32,7 +32,7 @@ pub struct Repair<'a> {
     pub ghost fits: { IsAssignment inst.now.tables start.now.items },
     pub ghost topology: { IsTopologyOf topo.now inst.now.tables },
     pub ghost lot_fits: { IsLots (lot.now ∷ []) },
-    pub ghost keeps: { Keeps kept inst.now.tables start.now.items },
+    pub ghost keeps: { KeepsPenalty kept inst.now.tables start.now.items },
     pub ghost room: { tries.room ≡ lot.now.budget },
 }
 
@@ -132,7 +132,7 @@ fn kept_of<'a>(
 ) -> Result<Kept<'a>, NoMemory>
     requires fits { IsAssignment inst.now.tables a0.now.items }
     requires topology { IsTopologyOf topo.now inst.now.tables }
-    ensures keeps { IfOk result (λ kept. Keeps kept inst.now.tables a0.now.items) }
+    ensures keeps { IfOk result (λ kept. KeepsPenalty kept inst.now.tables a0.now.items) }
     ensures assignment { IfOk result (λ kept. kept.assignment.items ≡ a0.now.items) }
 {
     let mut kept = standing(alloc, inst, a0)?;
@@ -143,7 +143,7 @@ fn kept_of<'a>(
 /// A copy of an initial assignment with its rows and counters, before its penalty is summed up.
 fn standing<'a>(alloc: Global, inst: &'a Instance, a0: &'a Assignment) -> Result<Kept<'a>, NoMemory>
     requires { IsAssignment inst.now.tables a0.now.items }
-    ensures stands { IfOk result (λ kept. Stands kept inst.now.tables a0.now.items) }
+    ensures stands { IfOk result (λ kept. StandsForKept kept inst.now.tables a0.now.items) }
     ensures assignment { IfOk result (λ kept. kept.assignment.items ≡ a0.now.items) }
 {
     let assignment = copied(alloc, a0)?;

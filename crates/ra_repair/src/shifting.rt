@@ -4,7 +4,7 @@ ghost use Rattle.ra_model.specs.Numbers.{machine_count, process_count};
 ghost use Rattle.ra_model.specs.Assignments.{IsAssignment};
 ghost use Rattle.ra_moves.specs.Judging.{repeat_of, same_of};
 ghost use Rattle.ra_topology.specs.Fits.{IsTopologyOf};
-ghost use Rattle.ra_repair.specs.Keeping.{Keeps};
+ghost use Rattle.ra_repair.specs.Keeping.{KeepsPenalty};
 ghost use Rattle.ra_repair.specs.Runs.{unless, try_count, try_option, option_penalty, chosen, least_after};
 ghost use Rattle.ra_repair.specs.Shifting.{AskForShifts};
 
@@ -31,13 +31,13 @@ pub(crate) fn choose_shift<L: Ledger>(
 ) -> Choice
     requires start { IsAssignment inst.now.tables start.now.items }
     requires topology { IsTopologyOf topo.now inst.now.tables }
-    requires keeps { Keeps kept.old inst.now.tables start.now.items }
+    requires keeps { KeepsPenalty kept.old inst.now.tables start.now.items }
     requires asks { AskForShifts words.now kept.old.assignment.items process.0 home.0 }
     ensures chosen { result.mv ≡
         chosen inst.now.tables start.now.items kept.old.assignment.items words.now }
     ensures least { result.after ≡
         least_after inst.now.tables start.now.items kept.old.assignment.items words.now }
-    ensures keeps { Keeps kept.new inst.now.tables start.now.items }
+    ensures keeps { KeepsPenalty kept.new inst.now.tables start.now.items }
     ensures same { kept.new.assignment.items ≡ kept.old.assignment.items }
 {
     let machines = inst.machines();
@@ -66,7 +66,7 @@ fn try_shift<L: Ledger>(
 ) -> Choice
     requires start { IsAssignment inst.now.tables start.now.items }
     requires topology { IsTopologyOf topo.now inst.now.tables }
-    requires keeps { Keeps kept.old inst.now.tables start.now.items }
+    requires keeps { KeepsPenalty kept.old inst.now.tables start.now.items }
     requires asks { AskForShifts words.now
         (slice_set kept.old.assignment.items process.0 home) process.0 home.0 }
     requires named { option < try_count inst.now.tables words.now }
@@ -74,7 +74,7 @@ fn try_shift<L: Ledger>(
         (slice_set kept.old.assignment.items process.0 home) words.now option }
     ensures after { result.after ≡ option_penalty inst.now.tables start.now.items
         (slice_set kept.old.assignment.items process.0 home) words.now option }
-    ensures keeps { Keeps kept.new inst.now.tables start.now.items }
+    ensures keeps { KeepsPenalty kept.new inst.now.tables start.now.items }
     ensures home { slice_set kept.new.assignment.items process.0 home ≡
         slice_set kept.old.assignment.items process.0 home }
 {
@@ -119,10 +119,10 @@ fn carry<L: Ledger>(
 )
     requires start { IsAssignment inst.now.tables start.now.items }
     requires topology { IsTopologyOf topo.now inst.now.tables }
-    requires keeps { Keeps kept.old inst.now.tables start.now.items }
+    requires keeps { KeepsPenalty kept.old inst.now.tables start.now.items }
     requires process { process.0 < process_count inst.now.tables }
     requires to { to.0 < machine_count inst.now.tables }
-    ensures keeps { Keeps kept.new inst.now.tables start.now.items }
+    ensures keeps { KeepsPenalty kept.new inst.now.tables start.now.items }
     ensures assignment { kept.new.assignment.items ≡
         slice_set kept.old.assignment.items process.0 to }
 {

@@ -4,7 +4,7 @@ ghost use Rattle.ra_model.specs.Numbers.{machine_count, service_count, process_c
 ghost use Rattle.ra_model.specs.Assignments.{IsAssignment};
 ghost use Rattle.ra_model.specs.Members.{AreProcessesOf};
 ghost use Rattle.ra_topology.specs.Fits.{IsTopologyOf};
-ghost use Rattle.ra_repair.specs.Keeping.{Stands};
+ghost use Rattle.ra_repair.specs.Keeping.{StandsForKept};
 ghost use Rattle.ra_repair.specs.Members.{seat_of, is_far};
 ghost use Rattle.ra_repair.specs.Penalty.{capacity_penalty, transient_penalty, crowd_on, service_crowd, conflict_penalty, spread_penalty, pair_far, service_far, dependency_penalty, closed_penalty, penalty};
 
@@ -26,7 +26,7 @@ pub(crate) fn penalty_now(
 ) -> u128
     requires start { IsAssignment inst.now.tables start.now.items }
     requires topology { IsTopologyOf topo.now inst.now.tables }
-    requires stands { Stands kept.now inst.now.tables start.now.items }
+    requires stands { StandsForKept kept.now inst.now.tables start.now.items }
     ensures { result ≡ penalty inst.now.tables start.now.items kept.now.assignment.items }
 {
     capacity_sum(inst, start, kept)
@@ -40,7 +40,7 @@ pub(crate) fn penalty_now(
 /// The use of all resources of all machines above their capacities.
 #[tactic(auto, using(ra_base::proofs::Sums::sums), unfolding(crate::specs::Penalty::capacity_penalty))]
 fn capacity_sum(inst: &Instance, start: &Assignment, kept: &Kept<'_>) -> u128
-    requires stands { Stands kept.now inst.now.tables start.now.items }
+    requires stands { StandsForKept kept.now inst.now.tables start.now.items }
     ensures value { result ≡ capacity_penalty inst.now.tables kept.now.assignment.items }
     ensures few { result ≤ 5000 * (20 * 2 ^ 48) }
 {
@@ -54,7 +54,7 @@ fn capacity_sum(inst: &Instance, start: &Assignment, kept: &Kept<'_>) -> u128
 /// The transient use of all transient resources of all machines above their capacities.
 #[tactic(auto, using(ra_base::proofs::Sums::sums), unfolding(crate::specs::Penalty::transient_penalty))]
 fn transient_sum(inst: &Instance, start: &Assignment, kept: &Kept<'_>) -> u128
-    requires stands { Stands kept.now inst.now.tables start.now.items }
+    requires stands { StandsForKept kept.now inst.now.tables start.now.items }
     ensures value { result ≡
         transient_penalty inst.now.tables start.now.items kept.now.assignment.items }
     ensures few { result ≤ 5000 * (20 * 2 ^ 48) }
@@ -69,7 +69,7 @@ fn transient_sum(inst: &Instance, start: &Assignment, kept: &Kept<'_>) -> u128
 /// How many more locations all services together need for their spreads.
 #[tactic(auto, using(ra_base::proofs::Sums::sums), unfolding(crate::specs::Penalty::spread_penalty))]
 fn spread_sum(inst: &Instance, start: &Assignment, kept: &Kept<'_>) -> u64
-    requires stands { Stands kept.now inst.now.tables start.now.items }
+    requires stands { StandsForKept kept.now inst.now.tables start.now.items }
     ensures value { result ≡ spread_penalty inst.now.tables kept.now.assignment.items }
     ensures few { result ≤ 50000 * 2 ^ 32 }
 {
@@ -84,7 +84,7 @@ fn spread_sum(inst: &Instance, start: &Assignment, kept: &Kept<'_>) -> u64
 #[tactic(auto, using(ra_model::proofs::TallyLemmas::tallies), unfolding(crate::specs::Penalty::closed_penalty))]
 fn closed_sum(inst: &Instance, start: &Assignment, kept: &Kept<'_>) -> u64
     requires start { IsAssignment inst.now.tables start.now.items }
-    requires stands { Stands kept.now inst.now.tables start.now.items }
+    requires stands { StandsForKept kept.now inst.now.tables start.now.items }
     ensures value { result ≡
         closed_penalty inst.now.tables start.now.items kept.now.assignment.items }
     ensures few { result ≤ 50000 }
@@ -100,7 +100,7 @@ fn closed_sum(inst: &Instance, start: &Assignment, kept: &Kept<'_>) -> u64
 #[tactic(auto, using(ra_base::proofs::Sums::sums), unfolding(crate::specs::Penalty::conflict_penalty))]
 fn conflict_sum(inst: &Instance, topo: &Topology, start: &Assignment, kept: &Kept<'_>) -> u64
     requires topology { IsTopologyOf topo.now inst.now.tables }
-    requires stands { Stands kept.now inst.now.tables start.now.items }
+    requires stands { StandsForKept kept.now inst.now.tables start.now.items }
     ensures value { result ≡ conflict_penalty inst.now.tables kept.now.assignment.items }
     ensures few { result ≤ 50000 * 2500000000 }
 {
@@ -121,7 +121,7 @@ fn service_crowd(
     s: Service,
 ) -> u64
     requires topology { IsTopologyOf topo.now inst.now.tables }
-    requires stands { Stands kept.now inst.now.tables start.now.items }
+    requires stands { StandsForKept kept.now inst.now.tables start.now.items }
     requires service { s.0 < service_count inst.now.tables }
     ensures value { result ≡ service_crowd inst.now.tables kept.now.assignment.items s.0 }
     ensures few { result ≤ 2500000000 }
@@ -144,7 +144,7 @@ fn crowd_at(
     members: &[Process],
     k: usize,
 ) -> u64
-    requires stands { Stands kept.now inst.now.tables start.now.items }
+    requires stands { StandsForKept kept.now inst.now.tables start.now.items }
     requires service { s.0 < service_count inst.now.tables }
     requires members { AreProcessesOf inst.now.tables s.0 members.now }
     requires member { k < length members.now }
@@ -172,7 +172,7 @@ fn is_seated(
     count: usize,
     at: Machine,
 ) -> bool
-    requires stands { Stands kept.now inst.now.tables start.now.items }
+    requires stands { StandsForKept kept.now inst.now.tables start.now.items }
     requires members { AreProcessesOf inst.now.tables s.0 members.now }
     requires count { count ≤ length members.now }
     ensures { result ≡ is_named count (seat_of kept.now.assignment.items members.now) at.0 }
@@ -194,7 +194,7 @@ fn seat(
     members: &[Process],
     k: usize,
 ) -> Machine
-    requires stands { Stands kept.now inst.now.tables start.now.items }
+    requires stands { StandsForKept kept.now inst.now.tables start.now.items }
     requires members { AreProcessesOf inst.now.tables s.0 members.now }
     requires member { k < length members.now }
     ensures value { result.0 ≡ seat_of kept.now.assignment.items members.now k }
@@ -207,7 +207,7 @@ fn seat(
 #[tactic(auto, using(ra_base::proofs::Sums::sums), unfolding(crate::specs::Penalty::dependency_penalty))]
 fn dependency_sum(inst: &Instance, topo: &Topology, start: &Assignment, kept: &Kept<'_>) -> u64
     requires topology { IsTopologyOf topo.now inst.now.tables }
-    requires stands { Stands kept.now inst.now.tables start.now.items }
+    requires stands { StandsForKept kept.now inst.now.tables start.now.items }
     ensures value { result ≡ dependency_penalty inst.now.tables kept.now.assignment.items }
     ensures few { result ≤ 50000 * 5000000000 }
 {
@@ -228,7 +228,7 @@ fn service_far(
     s: Service,
 ) -> u64
     requires topology { IsTopologyOf topo.now inst.now.tables }
-    requires stands { Stands kept.now inst.now.tables start.now.items }
+    requires stands { StandsForKept kept.now inst.now.tables start.now.items }
     requires service { s.0 < service_count inst.now.tables }
     ensures value { result ≡ service_far inst.now.tables kept.now.assignment.items s.0 }
     ensures few { result ≤ 5000000000 }
@@ -253,7 +253,7 @@ fn pair_far(
     k: usize,
     need: Service,
 ) -> u64
-    requires stands { Stands kept.now inst.now.tables start.now.items }
+    requires stands { StandsForKept kept.now inst.now.tables start.now.items }
     requires service { s.0 < service_count inst.now.tables }
     requires members { AreProcessesOf inst.now.tables s.0 members.now }
     requires dependency { k < dependency_count inst.now.tables s.0 }
@@ -281,7 +281,7 @@ fn is_far(
     k: usize,
     need: Service,
 ) -> bool
-    requires stands { Stands kept.now inst.now.tables start.now.items }
+    requires stands { StandsForKept kept.now inst.now.tables start.now.items }
     requires service { s.0 < service_count inst.now.tables }
     requires members { AreProcessesOf inst.now.tables s.0 members.now }
     requires member { j < length members.now }

@@ -2,7 +2,7 @@ ghost use Rattle.std.specs.Prelude.{◌≡◌, ◌*◌, ◌^◌, ◌<◌, ◌≤
 ghost use Rattle.ra_model.specs.Numbers.{machine_count, service_count, process_count};
 ghost use Rattle.ra_model.specs.Assignments.{IsAssignment};
 ghost use Rattle.ra_topology.specs.Fits.{IsTopologyOf};
-ghost use Rattle.ra_repair.specs.Keeping.{Stands};
+ghost use Rattle.ra_repair.specs.Keeping.{StandsForKept};
 ghost use Rattle.ra_repair.specs.Touched.{touched, rows_touched, transient_touched, crowds_touched};
 
 use crate::above::{row_above, row_transient_above};
@@ -26,7 +26,7 @@ pub(crate) fn touched(
 ) -> u64
     requires start { IsAssignment inst.now.tables start.now.items }
     requires topology { IsTopologyOf topo.now inst.now.tables }
-    requires stands { Stands kept.now inst.now.tables start.now.items }
+    requires stands { StandsForKept kept.now inst.now.tables start.now.items }
     requires process { step.process.0 < process_count inst.now.tables }
     requires from { step.from.0 < machine_count inst.now.tables }
     requires to { step.to.0 < machine_count inst.now.tables }
@@ -53,7 +53,7 @@ fn rows_touched(
     from: Machine,
     to: Machine,
 ) -> u64
-    requires stands { Stands kept.now inst.now.tables start.now.items }
+    requires stands { StandsForKept kept.now inst.now.tables start.now.items }
     requires from { from.0 < machine_count inst.now.tables }
     requires to { to.0 < machine_count inst.now.tables }
     ensures value { result ≡
@@ -72,7 +72,7 @@ fn transient_touched(
     from: Machine,
     to: Machine,
 ) -> u64
-    requires stands { Stands kept.now inst.now.tables start.now.items }
+    requires stands { StandsForKept kept.now inst.now.tables start.now.items }
     requires from { from.0 < machine_count inst.now.tables }
     requires to { to.0 < machine_count inst.now.tables }
     ensures value { result ≡ transient_touched inst.now.tables start.now.items
@@ -92,7 +92,7 @@ fn crowds_touched(
     from: Machine,
     to: Machine,
 ) -> u64
-    requires stands { Stands kept.now inst.now.tables start.now.items }
+    requires stands { StandsForKept kept.now inst.now.tables start.now.items }
     requires service { s.0 < service_count inst.now.tables }
     ensures value { result ≡
         crowds_touched inst.now.tables kept.now.assignment.items s.0 from.0 to.0 }

@@ -3,7 +3,7 @@ ghost use Rattle.ra_model.specs.Assignments.{IsAssignment};
 ghost use Rattle.ra_moves.specs.Replacing.{applied};
 ghost use Rattle.ra_topology.specs.Fits.{IsTopologyOf};
 ghost use Rattle.ra_repair.specs.Following.{AreSteps};
-ghost use Rattle.ra_repair.specs.Keeping.{Keeps, AreToCome};
+ghost use Rattle.ra_repair.specs.Keeping.{KeepsPenalty, AreToCome};
 ghost use Rattle.ra_repair.specs.Runs.{is_taken, try_with, after_try, repair_run};
 
 use crate::following::follow;
@@ -32,10 +32,10 @@ pub(crate) fn make_tries<L: Ledger>(
     requires some { 0 < blank.parts }
     requires start { IsAssignment inst.now.tables start.now.items }
     requires topology { IsTopologyOf topo.now inst.now.tables }
-    requires keeps { Keeps kept.old inst.now.tables start.now.items }
+    requires keeps { KeepsPenalty kept.old inst.now.tables start.now.items }
     requires begins { kept.old.assignment.items ≡ start.now.items }
     requires tries { AreToCome lot.now tries.old }
-    ensures keeps { Keeps kept.new inst.now.tables start.now.items }
+    ensures keeps { KeepsPenalty kept.new inst.now.tables start.now.items }
     ensures room { tries.new.room ≡ tries.old.room }
     ensures run { record { assignment = kept.new.assignment.items; tries = tries.new.items }
         ≡ repair_run inst.now.tables start.now.items lot.now }
@@ -64,10 +64,10 @@ fn make_try<L: Ledger>(
 ) -> Try
     requires start { IsAssignment inst.now.tables start.now.items }
     requires topology { IsTopologyOf topo.now inst.now.tables }
-    requires keeps { Keeps kept.old inst.now.tables start.now.items }
+    requires keeps { KeepsPenalty kept.old inst.now.tables start.now.items }
     ensures made { result ≡ try_with inst.now.tables start.now.items kept.old.assignment.items
         words.now k }
-    ensures keeps { Keeps kept.new inst.now.tables start.now.items }
+    ensures keeps { KeepsPenalty kept.new inst.now.tables start.now.items }
     ensures assignment { kept.new.assignment.items ≡ after_try kept.old.assignment.items result }
 {
     let before = kept.penalty;
@@ -95,10 +95,10 @@ fn take_if<L: Ledger>(
 )
     requires start { IsAssignment inst.now.tables start.now.items }
     requires topology { IsTopologyOf topo.now inst.now.tables }
-    requires keeps { Keeps kept.old inst.now.tables start.now.items }
+    requires keeps { KeepsPenalty kept.old inst.now.tables start.now.items }
     requires moves { taken ≡ true →
         AreSteps inst.now.tables kept.old.assignment.items mv.now.steps }
-    ensures keeps { Keeps kept.new inst.now.tables start.now.items }
+    ensures keeps { KeepsPenalty kept.new inst.now.tables start.now.items }
     ensures assignment { kept.new.assignment.items ≡
         (if taken then applied kept.old.assignment.items mv.now.steps
         else kept.old.assignment.items) }

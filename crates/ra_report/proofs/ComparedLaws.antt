@@ -4,12 +4,12 @@ use Rattle.std.proofs.Common.{Ok, Err, OnOk, OnErr, inl, inr, arith, sym, ap, �
 use Rattle.std.specs.Io.KnownBytes.{Appends}
 use Rattle.ra_report_lines.specs.Comparing.{opened, WasGiven}
 use Rattle.ra_report_lines.specs.Lines.{lines_of, FirstUnlike}
-use Rattle.ra_report_text.specs.Pieces.{Breaks}
+use Rattle.ra_report_text.specs.Pieces.{BreaksOff}
 use Rattle.ra_report.proofs.LineEnds.{unlike_within}
 
 pub was_given : {T E : Type 0} (r : Result T E) (expected old taken text : List ℕ) (before after : ℕ) →
     old ≡ opened expected → before ≡ 0
-    → OnOk r (Appends (Some old) (Some taken) text) → OnErr r (Breaks (Some old) (Some taken) before after text) →
+    → OnOk r (Appends (Some old) (Some taken) text) → OnErr r (BreaksOff (Some old) (Some taken) before after text) →
     WasGiven expected taken after text
 was_given (Ok t) expected old taken text before after starts none whole part =
     inl (whole ∙ ap (λ xs. xs ++ text) starts)

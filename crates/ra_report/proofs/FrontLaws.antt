@@ -12,7 +12,7 @@ use Rattle.ra_report.specs.declared.front.Front.{Front}
 use Rattle.ra_report_text.specs.Numbers.{is_digit, told, past}
 use Rattle.ra_report_text.specs.Texts.{number_text}
 use Rattle.ra_report.specs.JournalTexts.{entry_line, kind_text, steps_text, verdict_text}
-use Rattle.ra_report.specs.Fronts.{IsSmallFront, IsBehind, four_numbers}
+use Rattle.ra_report.specs.Fronts.{IsSmallFront, FindsRest, four_numbers}
 use Rattle.ra_report_text.proofs.NumberTexts.{number_told, number_past}
 use Rattle.ra_report.proofs.EntryTexts.{blank, entry_parts}
 use Rattle.ra_report.proofs.LengthLaws.{label_length, number_length}
@@ -87,7 +87,7 @@ behind_found bytes rest from k n e over =
     sym (drop-drop k from bytes) ∙ over ∙ ap past e ∙ number_past n (32 ∷ rest) (blank rest)
 
 pub behind_next : (bytes rest : List ℕ) (from k n : ℕ) → drop from bytes ≡ number_text n ++ 32 ∷ rest →
-    drop k (drop from bytes) ≡ past (drop from bytes) → IsBehind bytes rest (Some (from + k + 1))
+    drop k (drop from bytes) ≡ past (drop from bytes) → FindsRest bytes rest (Some (from + k + 1))
 behind_next bytes rest from k n e over = record {
   at = from + k + 1;
   is = refl;
@@ -105,13 +105,13 @@ value_of : Option ℕ → ℕ → ℕ
 value_of None d = d
 value_of (Some x) d = x
 
-pub is_behind : (bytes rest : List ℕ) (found : Option ℕ) (at : ℕ) → found ≡ Some at → IsBehind bytes rest found →
+pub is_behind : (bytes rest : List ℕ) (found : Option ℕ) (at : ℕ) → found ≡ Some at → FindsRest bytes rest found →
     drop at bytes ≡ rest
 unfolding value_of
 is_behind bytes rest found at here b =
     subst (λ k. drop k bytes ≡ rest) (ap (λ o. value_of o 0) (sym b.is ∙ here)) b.follows
 
-pub not_behind : (bytes rest : List ℕ) (found : Option ℕ) → found ≡ None → IsBehind bytes rest found → ⊥
+pub not_behind : (bytes rest : List ℕ) (found : Option ℕ) → found ≡ None → FindsRest bytes rest found → ⊥
 not_behind bytes rest found none b = none-some b.at (sym none ∙ b.is)
 
 -- a number from a place on
@@ -160,9 +160,9 @@ front_is w q = record { worker = w; q = q }
 
 -- if three numbers were passed, the second and the fourth come after them
 pub numbers_there : (line : List ℕ) (j w k q : ℕ) (rest : List ℕ) (r s t : Option ℕ) (a b c : ℕ)
-    → ((n : ℕ) (x : List ℕ) → drop 0 line ≡ number_text n ++ 32 ∷ x → IsBehind line x r) → r ≡ Some a
-    → ((n : ℕ) (x : List ℕ) → drop a line ≡ number_text n ++ 32 ∷ x → IsBehind line x s) → s ≡ Some b
-    → ((n : ℕ) (x : List ℕ) → drop b line ≡ number_text n ++ 32 ∷ x → IsBehind line x t) → t ≡ Some c
+    → ((n : ℕ) (x : List ℕ) → drop 0 line ≡ number_text n ++ 32 ∷ x → FindsRest line x r) → r ≡ Some a
+    → ((n : ℕ) (x : List ℕ) → drop a line ≡ number_text n ++ 32 ∷ x → FindsRest line x s) → s ≡ Some b
+    → ((n : ℕ) (x : List ℕ) → drop b line ≡ number_text n ++ 32 ∷ x → FindsRest line x t) → t ≡ Some c
     → line ≡ four_numbers j w k q rest → (told 0 (drop a line) ≡ w) × (told 0 (drop c line) ≡ q)
 numbers_there line j w k q rest r s t a b c first at_a second at_b third at_c e =
     let worker = is_behind line _ r a at_a (first j _ e) in

@@ -6,7 +6,7 @@ use Rattle.ra_journal.specs.declared.entries.Entry.{Entry}
 use Rattle.ra_journal.specs.Entries.{entry_at}
 use Rattle.ra_report.specs.JournalTexts.{entry_line, entries_text, IsJournalOf}
 use Rattle.ra_report_text.specs.declared.gathered.Gathered.{Gathered}
-use Rattle.ra_report_text.specs.Gathering.{Adds}
+use Rattle.ra_report_text.specs.Gathering.{AddsText}
 use Rattle.ra_report_text.proofs.GatheringLemmas.{adds_more}
 use Rattle.ra_report.proofs.EntryTexts.{entry_then, line_some}
 
@@ -99,8 +99,8 @@ one_journal_of_bytes bytes h k one two = same_lines_same_journal h k (let e = sy
 -- one more line
 pub adds_line : {O : Type 0} (taken : O → Option (List ℕ)) (faults : O → ℕ) (h : List Entry) (n : ℕ)
     (a b c : Gathered O)
-    → Adds taken faults a b (entries_text h n) → Adds taken faults b c (entry_line n (entry_at h n)) →
-    Adds taken faults a c (entries_text h (n + 1))
+    → AddsText taken faults a b (entries_text h n) → AddsText taken faults b c (entry_line n (entry_at h n)) →
+    AddsText taken faults a c (entries_text h (n + 1))
 unfolding entries_text
 adds_line taken faults h n a b c first next =
     rw add-one (adds_more taken faults a b c (entries_text h n) (entry_line n (entry_at h n)) first next)

@@ -5,31 +5,31 @@ use Rattle.std.proofs.lemmas.List.{append-nil, take_more}
 use Rattle.ra_journal.specs.declared.entries.Entry.{Entry}
 use Rattle.ra_journal.specs.Entries.{entry_at}
 use Rattle.ra_report_text.specs.declared.gathered.Gathered.{Gathered}
-use Rattle.ra_report_text.specs.Gathering.{Adds}
+use Rattle.ra_report_text.specs.Gathering.{AddsText}
 use Rattle.ra_report_text.specs.Pieces.{joined}
 use Rattle.ra_report_text.proofs.GatheringLemmas.{adds_more}
 use Rattle.ra_report.specs.JournalTexts.{entries_text, entry_line}
-use Rattle.ra_report.specs.Shares.{share_start, AreLines, IsShare}
+use Rattle.ra_report.specs.Shares.{share_start, AreLinesOfEntries, IsShare}
 
-pub lines_none : (h : List Entry) (m : ℕ) → AreLines h m m []
+pub lines_none : (h : List Entry) (m : ℕ) → AreLinesOfEntries h m m []
 lines_none h m = sym (append-nil (entries_text h m))
 
 -- some lines after others
-pub lines_more : (h : List Entry) (m n o : ℕ) (s t : List ℕ) → AreLines h m n s → AreLines h n o t →
-    AreLines h m o (s ++ t)
+pub lines_more : (h : List Entry) (m n o : ℕ) (s t : List ℕ) → AreLinesOfEntries h m n s → AreLinesOfEntries h n o t →
+    AreLinesOfEntries h m o (s ++ t)
 lines_more h m n o s t first next =
     next ∙ (ap (λ (l : List ℕ). l ++ t) first ∙ append_assoc (entries_text h m) s t)
 
 -- one line more
-pub line_more : (h : List Entry) (m n : ℕ) (s : List ℕ) → AreLines h m n s →
-    AreLines h m (n + 1) (s ++ entry_line n (entry_at h n))
+pub line_more : (h : List Entry) (m n : ℕ) (s : List ℕ) → AreLinesOfEntries h m n s →
+    AreLinesOfEntries h m (n + 1) (s ++ entry_line n (entry_at h n))
 unfolding entries_text
 line_more h m n s first = rw add-one (lines_more h m n (suc n) s (entry_line n (entry_at h n)) first refl)
 
 -- texts of the entries between places, one after another
 pub parts_are_lines : (h : List Entry) (place : ℕ → ℕ) (parts : List (List ℕ))
-    → ((n : ℕ) → n < length parts → AreLines h (place n) (place (suc n)) (get_or parts n [])) →
-    AreLines h (place 0) (place (length parts)) (joined parts)
+    → ((n : ℕ) → n < length parts → AreLinesOfEntries h (place n) (place (suc n)) (get_or parts n [])) →
+    AreLinesOfEntries h (place 0) (place (length parts)) (joined parts)
 parts_are_lines h place [] each = lines_none h (place 0)
 parts_are_lines h place (part ∷ parts) each =
     lines_more h (place 0) (place 1) (place (suc (length parts))) part (joined parts) (each 0 (omega arith))
@@ -50,22 +50,22 @@ joined_take xs i d within =
 -- and one text more is added
 pub adds_joined : {O : Type 0} (taken : O → Option (List ℕ)) (faults : O → ℕ) (xs : List (List ℕ)) (i : ℕ) (d : List ℕ)
     (a b c : Gathered O) → i < length xs
-    → Adds taken faults a b (joined (take i xs)) → Adds taken faults b c (get_or xs i d) →
-    Adds taken faults a c (joined (take (i + 1) xs))
+    → AddsText taken faults a b (joined (take i xs)) → AddsText taken faults b c (get_or xs i d) →
+    AddsText taken faults a c (joined (take (i + 1) xs))
 adds_joined taken faults xs i d a b c within first next =
     rw (joined_take xs i d within) (adds_more taken faults a b c (joined (take i xs)) (get_or xs i d) first next)
 
 -- all shares of some desks
 pub shares_are_lines : (h : List Entry) (from : ℕ) (parts : List (List ℕ)) → from < length h
     → ((n : ℕ) (d : List ℕ) → n < length parts → IsShare h from n (get_or parts n d)) →
-    AreLines h from (share_start h from (length parts)) (joined parts)
+    AreLinesOfEntries h from (share_start h from (length parts)) (joined parts)
 unfolding share_start
 shares_are_lines h from parts within each =
     let first : share_start h from 0 ≡ from = omega arith in
-    subst (λ m. AreLines h m (share_start h from (length parts)) (joined parts)) first
+    subst (λ m. AreLinesOfEntries h m (share_start h from (length parts)) (joined parts)) first
     (parts_are_lines h (share_start h from) parts
-    (λ n below. subst (λ k. AreLines h (share_start h from n) (share_start h from k) (get_or parts n [])) (add-one n)
-    (each n [] below)))
+    (λ n below. subst (λ k. AreLinesOfEntries h (share_start h from n) (share_start h from k) (get_or parts n []))
+    (add-one n) (each n [] below)))
 
 -- with a desk and an entry a share is written
 pub share_on : (h : List Entry) (from n : ℕ) → from < length h → 1 ≤ n → from < share_start h from n
@@ -77,7 +77,7 @@ unfolding share_start
 share_within h from n = omega arith
 
 -- what is left of the lines
-pub rest_after : (h : List Entry) (m n : ℕ) → m ≤ n → (rest : List ℕ) × AreLines h m n rest
+pub rest_after : (h : List Entry) (m n : ℕ) → m ≤ n → (rest : List ℕ) × AreLinesOfEntries h m n rest
 unfolding entries_text
 rest_after h m zero within = rw (let same : m ≡ 0 = omega arith in same) ([], lines_none h 0)
 rest_after h m (suc n) within =

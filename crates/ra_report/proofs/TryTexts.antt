@@ -6,7 +6,7 @@ use Rattle.ra_repair.specs.declared.repair.Repair.{Repair}
 use Rattle.ra_repair.specs.declared.tries.Try.{Try}
 use Rattle.ra_repair.specs.Repairs.{try_in}
 use Rattle.ra_report_text.specs.declared.gathered.Gathered.{Gathered}
-use Rattle.ra_report_text.specs.Gathering.{Adds}
+use Rattle.ra_report_text.specs.Gathering.{AddsText}
 use Rattle.ra_report.specs.JournalTexts.{assignment_line}
 use Rattle.ra_report.specs.RepairTexts.{state_line, try_line, tries_text, repair_lines, text_of_repair}
 use Rattle.ra_report_text.proofs.GatheringLemmas.{adds_more}
@@ -14,8 +14,8 @@ use Rattle.ra_report_text.proofs.GatheringLemmas.{adds_more}
 -- one more line
 pub adds_try : {O : Type 0} (taken : O → Option (List ℕ)) (faults : O → ℕ) (tries : List Try) (n : ℕ)
     (a b c : Gathered O)
-    → Adds taken faults a b (tries_text tries n) → Adds taken faults b c (try_line (try_in tries n)) →
-    Adds taken faults a c (tries_text tries (n + 1))
+    → AddsText taken faults a b (tries_text tries n) → AddsText taken faults b c (try_line (try_in tries n)) →
+    AddsText taken faults a c (tries_text tries (n + 1))
 unfolding tries_text
 adds_try taken faults tries n a b c first next =
     rw add-one (adds_more taken faults a b c (tries_text tries n) (try_line (try_in tries n)) first next)
@@ -31,10 +31,10 @@ repair_told r broken is = rw is refl
 pub adds_repair : {O : Type 0} (taken : O → Option (List ℕ)) (faults : O → ℕ) (r : Repair) (broken : Option Cause)
     (a b c d : Gathered O)
     → broken ≡ first_broken r.inst.now.tables r.start.now.items r.kept.assignment.items →
-    Adds taken faults a b (state_line broken)
-    → Adds taken faults b c (assignment_line r.kept.assignment.items) →
-    Adds taken faults c d (tries_text r.tries.items (length r.tries.items)) →
-    Adds taken faults a d (text_of_repair r)
+    AddsText taken faults a b (state_line broken)
+    → AddsText taken faults b c (assignment_line r.kept.assignment.items) →
+    AddsText taken faults c d (tries_text r.tries.items (length r.tries.items)) →
+    AddsText taken faults a d (text_of_repair r)
 unfolding repair_lines
 adds_repair taken faults r broken a b c d is state listed tries =
     let last = assignment_line r.kept.assignment.items in

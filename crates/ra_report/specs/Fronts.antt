@@ -26,7 +26,7 @@ four_numbers j w k q rest =
     ∷ (number_text w ++ 32 ∷ (number_text k ++ 32 ∷ (number_text q ++ 32 ∷ rest)))
 
 -- a place was found, and from there on the bytes are the rest
-pub record IsBehind (bytes rest : List ℕ) (found : Option ℕ) : Type 0 where
+pub record FindsRest (bytes rest : List ℕ) (found : Option ℕ) : Type 0 where
   pub at : ℕ
   pub is : found ≡ Some at
   pub follows : drop at bytes ≡ rest

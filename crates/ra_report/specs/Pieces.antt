@@ -1,2 +1,2 @@
 -- What a sink has taken of a text, passed on.
-pub use Rattle.ra_report_text.specs.Pieces.{joined, Breaks, Puts}
+pub use Rattle.ra_report_text.specs.Pieces.{joined, BreaksOff, Puts}

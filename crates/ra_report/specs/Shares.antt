@@ -6,8 +6,8 @@ use Rattle.ra_report.specs.JournalTexts.{entries_text}
 
 -- a text is the lines of the entries from place m on, before place n: the lines of the first n entries are those of the
 -- first m, and then the text
-abbrev pub AreLines : List Entry → ℕ → ℕ → List ℕ → Type 0
-AreLines h m n text = entries_text h n ≡ entries_text h m ++ text
+abbrev pub AreLinesOfEntries : List Entry → ℕ → ℕ → List ℕ → Type 0
+AreLinesOfEntries h m n text = entries_text h n ≡ entries_text h m ++ text
 
 -- where share number n of the entries from a place on begins: all shares have equally many entries, except that the
 -- last ones may have fewer or none
@@ -16,4 +16,4 @@ share_start h from n = min (from + SHARE * n) (length h)
 
 -- a text is the lines of a share
 abbrev pub IsShare : List Entry → ℕ → ℕ → List ℕ → Type 0
-IsShare h from n text = AreLines h (share_start h from n) (share_start h from (n + 1)) text
+IsShare h from n text = AreLinesOfEntries h (share_start h from n) (share_start h from (n + 1)) text

@@ -1,8 +1,8 @@
 ghost use Rattle.std.specs.Prelude.{◌≡◌, ℕ, ◌+◌, ◌<◌, ◌≤◌, List, [], length, slice_index_or, IfOk};
-ghost use Rattle.ra_report_text.specs.Gathering.{Adds};
+ghost use Rattle.ra_report_text.specs.Gathering.{AddsText};
 ghost use Rattle.ra_report_text.specs.Pieces.{joined};
 ghost use Rattle.ra_report.specs.JournalTexts.{entries_text};
-ghost use Rattle.ra_report.specs.Shares.{share_start, AreLines, IsShare};
+ghost use Rattle.ra_report.specs.Shares.{share_start, AreLinesOfEntries, IsShare};
 
 use crate::journal::write_line;
 use crate::lengths::entry_is_short;
@@ -63,7 +63,7 @@ impl Desk {
         requires order { start ≤ end }
         requires within { end ≤ length entries.now.items }
         requires few { end ≤ start + 4096 }
-        ensures { AreLines entries.now.items start end self.new }
+        ensures { AreLinesOfEntries entries.now.items start end self.new }
     {
         self.text.clear();
         let mut line = Line::new();
@@ -119,7 +119,7 @@ impl Desks {
         requires { from < length entries.now.items }
         ensures on { from < result }
         ensures within { result ≤ length entries.now.items }
-        ensures lines { AreLines entries.now.items from result (joined self.new.desks.items) }
+        ensures lines { AreLinesOfEntries entries.now.items from result (joined self.new.desks.items) }
     {
         write_beside(rt, &mut self.desks, entries, from);
         share_start(entries, from, self.desks.len())
@@ -152,7 +152,7 @@ fn write_beside<R: Threads + Sync>(rt: &R, desks: &mut Vec<Desk>, entries: &Entr
 
 /// Adds what is written at all desks, in order.
 fn add_desks<O: Sink>(text: &mut Gathered<'_, O>, desks: &[Desk])
-    ensures { Adds O.taken O.faults text.old text.new (joined desks.now) }
+    ensures { AddsText O.taken O.faults text.old text.new (joined desks.now) }
 {
     for desk in desks {
         text.add(desk.as_slice());
@@ -167,7 +167,7 @@ pub(crate) fn add_entries_at<R: Threads + Sync, O: Sink>(
     text: &mut Gathered<'_, O>,
     entries: &Entries,
 )
-    ensures { Adds O.taken O.faults text.old text.new
+    ensures { AddsText O.taken O.faults text.old text.new
         (entries_text entries.now.items (length entries.now.items)) }
 {
     let mut next = 0;

@@ -1,5 +1,5 @@
 ghost use Rattle.std.specs.Prelude.{◌≡◌};
-ghost use Rattle.ra_report_text.specs.Gathering.{Adds};
+ghost use Rattle.ra_report_text.specs.Gathering.{AddsText};
 ghost use Rattle.ra_report_text.specs.Notes.{note_text};
 ghost use Rattle.ra_report.specs.FaultTexts.{CanBeTold, fault_text, line_of, about, line_said};
 
@@ -54,7 +54,7 @@ struct FaultLine<'n> {
 /// Adds the line of a fault.
 pub(crate) fn add_fault<O: Sink>(text: &mut Gathered<'_, O>, fault: &Fault<'_>)
     requires { CanBeTold fault.now }
-    ensures { Adds O.taken O.faults text.old text.new (fault_text fault.now) }
+    ensures { AddsText O.taken O.faults text.old text.new (fault_text fault.now) }
 {
     let line = fault_line(fault);
     add_pieces(

@@ -4,7 +4,7 @@ ghost use Rattle.ra_report.specs.declared.lengths.TheConstants.{LONGEST_FRONT};
 ghost use Rattle.ra_report_text.specs.Texts.{number_text};
 ghost use Rattle.ra_report_text.specs.Numbers.{told, past};
 ghost use Rattle.ra_report.specs.JournalTexts.{entry_line};
-ghost use Rattle.ra_report.specs.Fronts.{IsSmallEntry, IsSmallFront, IsBehind, front_of, four_numbers};
+ghost use Rattle.ra_report.specs.Fronts.{IsSmallEntry, IsSmallFront, FindsRest, front_of, four_numbers};
 
 /// What a line of an entry says of who made it and when.
 #[derive(Clone, Copy, Debug, PartialEq, Eq)]
@@ -51,7 +51,7 @@ fn read_numbers(line: &[u8]) -> Option<Front>
 fn behind_number(bytes: &[u8], from: usize) -> Option<usize>
     requires { from ≤ length bytes.now }
     ensures behind { (n : ℕ) (rest : List ℕ) → drop from bytes.now ≡ number_text n ++ 32 ∷ rest
-        → IsBehind bytes.now rest result }
+        → FindsRest bytes.now rest result }
     ensures within { IfSome result (λ at. at ≤ length bytes.now) }
 {
     let end = from + digits_length(&bytes[from..]);

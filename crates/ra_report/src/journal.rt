@@ -1,6 +1,6 @@
 ghost use Rattle.std.specs.Prelude.{◌≡◌, ◌++◌, length};
-ghost use Rattle.ra_report_text.specs.Gathering.{Adds};
-ghost use Rattle.ra_report_text.specs.Lines.{HasRoom, Prepends};
+ghost use Rattle.ra_report_text.specs.Gathering.{AddsText};
+ghost use Rattle.ra_report_text.specs.Lines.{HasRoomForBytes, Prepends};
 ghost use Rattle.ra_report_text.specs.Texts.{space};
 ghost use Rattle.ra_report.specs.JournalTexts.{verdict_text, kind_text, step_word, steps_text, entry_front, entry_line, entries_text};
 
@@ -11,7 +11,7 @@ use ra_report_text::{Gathered, Line, prepend_cause};
 
 /// Adds a line for each entry, in order.
 pub(crate) fn add_entries<O: Sink>(text: &mut Gathered<'_, O>, entries: &Entries)
-    ensures { Adds O.taken O.faults text.old text.new
+    ensures { AddsText O.taken O.faults text.old text.new
         (entries_text entries.now.items (length entries.now.items)) }
 {
     let mut line = Line::new();
@@ -23,7 +23,7 @@ pub(crate) fn add_entries<O: Sink>(text: &mut Gathered<'_, O>, entries: &Entries
 
 /// Adds the line of the entry at a place.
 pub(crate) fn add_entry<O: Sink>(text: &mut Gathered<'_, O>, place: u64, entry: &Entry)
-    ensures { Adds O.taken O.faults text.old text.new (entry_line place entry.now) }
+    ensures { AddsText O.taken O.faults text.old text.new (entry_line place entry.now) }
 {
     let mut line = Line::new();
     add_line(text, &mut line, place, entry)
@@ -32,7 +32,7 @@ pub(crate) fn add_entry<O: Sink>(text: &mut Gathered<'_, O>, place: u64, entry: 
 /// Adds the line of the entry at a place, which is written in `line` first.
 #[inline(always)]
 fn add_line<O: Sink>(text: &mut Gathered<'_, O>, line: &mut Line, place: u64, entry: &Entry)
-    ensures { Adds O.taken O.faults text.old text.new (entry_line place entry.now) }
+    ensures { AddsText O.taken O.faults text.old text.new (entry_line place entry.now) }
 {
     write_line(line, place, entry);
     text.add(line.as_slice())
@@ -53,7 +53,7 @@ pub(crate) fn write_line(line: &mut Line, place: u64, entry: &Entry)
 /// Writes the words of an entry before its steps in front, with a space after each.
 #[inline(always)]
 fn prepend_front(line: &mut Line, place: u64, entry: &Entry)
-    requires { HasRoom line.old 90 }
+    requires { HasRoomForBytes line.old 90 }
     ensures { Prepends line.old line.new (entry_front place entry.now) 90 }
 {
     prepend_kind(line, entry.mv.kind());
@@ -66,7 +66,7 @@ fn prepend_front(line: &mut Line, place: u64, entry: &Entry)
 /// Writes the printed name of a kind of moves in front, between two spaces.
 #[inline(always)]
 pub(crate) fn prepend_kind(line: &mut Line, kind: MoveKind)
-    requires { HasRoom line.old 7 }
+    requires { HasRoomForBytes line.old 7 }
     ensures { Prepends line.old line.new (space ++ kind_text kind ++ space) 7 }
 {
     match kind {
@@ -79,7 +79,7 @@ pub(crate) fn prepend_kind(line: &mut Line, kind: MoveKind)
 /// Writes the steps of a move in front, with a space after each.
 #[inline(always)]
 pub(crate) fn prepend_steps(line: &mut Line, mv: &Move)
-    requires { HasRoom line.old 189 }
+    requires { HasRoomForBytes line.old 189 }
     ensures { Prepends line.old line.new (steps_text mv.now.steps) 189 }
 {
     let mut left = mv.steps();
@@ -92,7 +92,7 @@ pub(crate) fn prepend_steps(line: &mut Line, mv: &Move)
 /// Writes a step in front, with a space after it.
 #[inline(always)]
 fn prepend_step(line: &mut Line, step: Step)
-    requires { HasRoom line.old 63 }
+    requires { HasRoomForBytes line.old 63 }
     ensures { Prepends line.old line.new (step_word step) 63 }
 {
     line.prepend_byte(b' ');
@@ -104,7 +104,7 @@ fn prepend_step(line: &mut Line, step: Step)
 /// Writes a verdict in front.
 #[inline(always)]
 fn prepend_verdict(line: &mut Line, verdict: &Verdict)
-    requires { HasRoom line.old 113 }
+    requires { HasRoomForBytes line.old 113 }
     ensures { Prepends line.old line.new (verdict_text verdict.now) 113 }
 {
     match verdict {

@@ -1,8 +1,8 @@
 ghost use Rattle.std.specs.Prelude.{◌≡◌, ◌++◌, length};
 ghost use Rattle.ra_io.specs.Outside.{writing};
 ghost use Rattle.std.specs.Option.{option_copied};
-ghost use Rattle.ra_report_text.specs.Gathering.{Adds};
-ghost use Rattle.ra_report_text.specs.Lines.{HasRoom, Prepends};
+ghost use Rattle.ra_report_text.specs.Gathering.{AddsText};
+ghost use Rattle.ra_report_text.specs.Lines.{HasRoomForBytes, Prepends};
 ghost use Rattle.ra_report_text.specs.Writes.{Writes};
 ghost use Rattle.ra_report_text.specs.Notes.{note_text};
 ghost use Rattle.ra_report_text.specs.Texts.{space};
@@ -33,7 +33,7 @@ pub fn write_repair<O: Sink>(
 
 /// Adds the line that says whether an assignment is feasible, or what is broken first.
 fn add_state<O: Sink>(text: &mut Gathered<'_, O>, broken: Option<&Cause>)
-    ensures { Adds O.taken O.faults text.old text.new
+    ensures { AddsText O.taken O.faults text.old text.new
         (state_line (option_copied broken.entry)) }
 {
     add_note(text, state_note(broken));
@@ -53,7 +53,7 @@ fn state_note(broken: Option<&Cause>) -> Note<'static>
 
 /// Adds a line for each try, in order.
 fn add_tries<O: Sink>(text: &mut Gathered<'_, O>, repair: &Repair<'_>)
-    ensures { Adds O.taken O.faults text.old text.new
+    ensures { AddsText O.taken O.faults text.old text.new
         (tries_text repair.now.tries.items (length repair.now.tries.items)) }
 {
     let mut line = Line::new();
@@ -64,7 +64,7 @@ fn add_tries<O: Sink>(text: &mut Gathered<'_, O>, repair: &Repair<'_>)
 
 /// Adds the line of a try, which is written in `line` first.
 fn add_try<O: Sink>(text: &mut Gathered<'_, O>, line: &mut Line, one: &Try)
-    ensures { Adds O.taken O.faults text.old text.new (try_line one.now) }
+    ensures { AddsText O.taken O.faults text.old text.new (try_line one.now) }
 {
     write_try(line, one);
     text.add(line.as_slice())
@@ -82,7 +82,7 @@ fn write_try(line: &mut Line, one: &Try)
 
 /// Writes the words of a try before its steps in front.
 fn prepend_front(line: &mut Line, one: &Try)
-    requires { HasRoom line.old 27 }
+    requires { HasRoomForBytes line.old 27 }
     ensures { Prepends line.old line.new (try_front one.now) 27 }
 {
     prepend_kind(line, one.mv.kind());
@@ -91,7 +91,7 @@ fn prepend_front(line: &mut Line, one: &Try)
 
 /// Writes the words of a try after its steps in front.
 fn prepend_back(line: &mut Line, one: &Try)
-    requires { HasRoom line.old 86 }
+    requires { HasRoomForBytes line.old 86 }
     ensures { Prepends line.old line.new (try_back one.now) 86 }
 {
     line.prepend_byte(b'\n');
@@ -103,7 +103,7 @@ fn prepend_back(line: &mut Line, one: &Try)
 
 /// Writes in front whether a move was taken, and a space after it.
 fn prepend_taken(line: &mut Line, taken: bool)
-    requires { HasRoom line.old 6 }
+    requires { HasRoomForBytes line.old 6 }
     ensures { Prepends line.old line.new (taken_text taken ++ space) 6 }
 {
     if taken {

@@ -1,5 +1,5 @@
 ghost use Rattle.std.specs.Prelude.{◌≡◌};
-ghost use Rattle.ra_report_text.specs.Gathering.{Adds};
+ghost use Rattle.ra_report_text.specs.Gathering.{AddsText};
 ghost use Rattle.ra_report_text.specs.Texts.{number_line};
 ghost use Rattle.ra_report.specs.JournalTexts.{outcome_text, drawing_number, drawing_line, head_text, report_lines, bound_text};
 
@@ -21,7 +21,7 @@ pub(crate) fn add_report<O: Sink>(
     drawing: Drawing,
     entries: &Entries,
 )
-    ensures { Adds O.taken O.faults text.old text.new
+    ensures { AddsText O.taken O.faults text.old text.new
         (report_lines parts.now bound.now.total best_at best.now.items drawing
         entries.now.items) }
 {
@@ -38,7 +38,7 @@ pub(crate) fn add_head<O: Sink>(
     best_at: u64,
     drawing: Drawing,
 )
-    ensures { Adds O.taken O.faults text.old text.new
+    ensures { AddsText O.taken O.faults text.old text.new
         (head_text parts.now bound_total best_at best.now.items drawing) }
 {
     add_outcome(text, parts, bound_total, best_at);
@@ -53,7 +53,7 @@ pub(crate) fn add_outcome<O: Sink>(
     bound_total: u128,
     best_at: u64,
 )
-    ensures { Adds O.taken O.faults text.old text.new
+    ensures { AddsText O.taken O.faults text.old text.new
         (outcome_text parts.now bound_total best_at) }
 {
     add_parts(text, parts);
@@ -63,7 +63,7 @@ pub(crate) fn add_outcome<O: Sink>(
 
 /// Adds a line of a word and a number.
 pub(crate) fn add_number<O: Sink>(text: &mut Gathered<'_, O>, word: &str, number: u128)
-    ensures { Adds O.taken O.faults text.old text.new (number_line word.now number) }
+    ensures { AddsText O.taken O.faults text.old text.new (number_line word.now number) }
 {
     add_pieces(
         text,
@@ -90,7 +90,7 @@ fn drawing_number(drawing: Drawing) -> u128
 /// Adds the three lines of a bound: its total, its load and its balance.
 #[tactic(auto, unfolding(crate::specs::JournalTexts::bound_text))]
 pub(crate) fn add_bound<O: Sink>(text: &mut Gathered<'_, O>, bound: &Bound)
-    ensures { Adds O.taken O.faults text.old text.new (bound_text bound.now) }
+    ensures { AddsText O.taken O.faults text.old text.new (bound_text bound.now) }
 {
     add_pieces(
         text,

@@ -1,5 +1,5 @@
 ghost use Rattle.std.specs.Prelude.{◌≡◌, ◌≤◌, cond, length};
-ghost use Rattle.ra_report_text.specs.Gathering.{Adds};
+ghost use Rattle.ra_report_text.specs.Gathering.{AddsText};
 ghost use Rattle.ra_report.specs.Summaries.{is_done, done_count, summary_lines};
 
 use crate::solved::{add_number, add_outcome};
@@ -17,7 +17,7 @@ pub(crate) fn add_summary<O: Sink>(
     best_at: u64,
     entries: &Entries,
 )
-    ensures { Adds O.taken O.faults text.old text.new
+    ensures { AddsText O.taken O.faults text.old text.new
         (summary_lines parts.now bound_total best_at entries.now.items) }
 {
     let done = count_done(entries);

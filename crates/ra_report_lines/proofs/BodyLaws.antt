@@ -3,7 +3,7 @@ use Rattle.std.proofs.Common.{◌≡◌, ℕ, suc, ◌+◌, ◌<◌, ◌≤◌, 
 use Rattle.std.proofs.Common.{take, drop, get_or, refl, sym, ◌∙◌, ap, arith, length-append}
 use Rattle.std.proofs.lemmas.List.{append-nil, take_more, take-append-drop}
 use Rattle.std.proofs.Math.Seq.{drop-cons}
-use Rattle.ra_report_lines.specs.Lines.{ends_line, body_of, HasNoEnd, end_count}
+use Rattle.ra_report_lines.specs.Lines.{ends_line, body_of, HasNoEnd, line_end_count}
 
 -- of bytes without LF the first is none, and there is none after it
 pub record NoEndFirst (byte : ℕ) (bytes : List ℕ) : Type 0 where
@@ -91,37 +91,37 @@ body_found bytes i within is none =
     sym (ap body_of (cut_at bytes i within is) ∙ body_before (take i bytes) (drop (suc i) bytes) none)
 
 -- one more byte, and how many LF there are
-pub count_none : end_count [] ≡ 0
-unfolding end_count
+pub count_none : line_end_count [] ≡ 0
+unfolding line_end_count
 count_none = refl
 
 count_cons : (is : Bool) (c n m : ℕ) → n ≡ m + c → cond is (suc n) n ≡ cond is (suc m) m + c
 count_cons true c n m e = omega arith
 count_cons false c n m e = e
 
-pub count_more : (t : List ℕ) (b : ℕ) → end_count (t ++ b ∷ []) ≡ end_count t + cond (eqb b 10) 1 0
-unfolding end_count
+pub count_more : (t : List ℕ) (b : ℕ) → line_end_count (t ++ b ∷ []) ≡ line_end_count t + cond (eqb b 10) 1 0
+unfolding line_end_count
 count_more [] b = omega arith
 count_more (a ∷ t) b =
-    count_cons (eqb a 10) (cond (eqb b 10) 1 0) (end_count (t ++ b ∷ [])) (end_count t) (count_more t b)
+    count_cons (eqb a 10) (cond (eqb b 10) 1 0) (line_end_count (t ++ b ∷ [])) (line_end_count t) (count_more t b)
 
 one_more : (bytes : List ℕ) (i byte : ℕ) (is : Bool) → i < length bytes → byte ≡ get_or bytes i 0 → eqb byte 10 ≡ is →
-    end_count (take (i + 1) bytes) ≡ end_count (take i bytes) + cond is 1 0
+    line_end_count (take (i + 1) bytes) ≡ line_end_count (take i bytes) + cond is 1 0
 one_more bytes i byte is within read test =
-    ap end_count (take_more bytes i 0 within)
+    ap line_end_count (take_more bytes i 0 within)
     ∙ count_more (take i bytes) (get_or bytes i 0)
-    ∙ ap (λ (t : Bool). end_count (take i bytes) + cond t 1 0) (ap (λ (b : ℕ). eqb b 10) (sym read) ∙ test)
+    ∙ ap (λ (t : Bool). line_end_count (take i bytes) + cond t 1 0) (ap (λ (b : ℕ). eqb b 10) (sym read) ∙ test)
 
 pub count_next : (bytes : List ℕ) (i byte n : ℕ) → i < length bytes → byte ≡ get_or bytes i 0 → eqb byte 10 ≡ false →
-    n ≡ end_count (take i bytes) → n ≡ end_count (take (i + 1) bytes)
+    n ≡ line_end_count (take i bytes) → n ≡ line_end_count (take (i + 1) bytes)
 count_next bytes i byte n within read test before =
-    let more : end_count (take (i + 1) bytes) ≡ end_count (take i bytes) + 0 =
+    let more : line_end_count (take (i + 1) bytes) ≡ line_end_count (take i bytes) + 0 =
     one_more bytes i byte false within read test in
     omega arith
 
 pub count_end : (bytes : List ℕ) (i byte n : ℕ) → i < length bytes → byte ≡ get_or bytes i 0 → eqb byte 10 ≡ true →
-    n ≡ end_count (take i bytes) → n + 1 ≡ end_count (take (i + 1) bytes)
+    n ≡ line_end_count (take i bytes) → n + 1 ≡ line_end_count (take (i + 1) bytes)
 count_end bytes i byte n within read test before =
-    let more : end_count (take (i + 1) bytes) ≡ end_count (take i bytes) + 1 =
+    let more : line_end_count (take (i + 1) bytes) ≡ line_end_count (take i bytes) + 1 =
     one_more bytes i byte true within read test in
     omega arith

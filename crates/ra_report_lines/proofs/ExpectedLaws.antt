@@ -7,7 +7,7 @@ use Rattle.std.proofs.lemmas.List.{append-nil, append_cancel_left, take-append-d
 use Rattle.std.proofs.lemmas.List.{length-drop}
 use Rattle.std.proofs.Math.Seq.{take-length, take-add}
 use Rattle.std.proofs.lemmas.Option.{none-some, slice_get_within, get_or_from_slice_get}
-use Rattle.ra_report_lines.specs.Lines.{end_count, FirstUnlike}
+use Rattle.ra_report_lines.specs.Lines.{line_end_count, FirstUnlike}
 use Rattle.ra_report_lines.specs.Comparing.{is_byte_at, one_or_none, given_of, opened, taken_of, WasGiven}
 use Rattle.ra_report_lines.proofs.UnlikeLaws.{unlike_at}
 
@@ -124,15 +124,15 @@ agrees_same expected text agreed faults other sound given none all =
 pub unlike_behind : (expected text : List ℕ) (agreed faults : ℕ) (other : Option ℕ) → agreed ≤ length expected →
     ForSome other (λ b. is_byte_at expected agreed b ≡ false) → ForNone other (faults ≡ 0) →
     WasPut (given_of expected agreed other) faults text → text ≢ expected →
-    FirstUnlike text expected (end_count (take agreed expected))
+    FirstUnlike text expected (line_end_count (take agreed expected))
 unlike_behind expected text agreed faults other within differs sound given unlike =
     let b = behind_given expected text agreed faults other sound given in
     let heads : slice_get b.rest 0 ≢ slice_get (drop agreed expected) 0 =
     λ e. let all = all_agree expected agreed other within differs (sym b.first ∙ e) in
     unlike (agrees_same expected text agreed faults other sound given all.0 all.1) in
     let u = unlike_at (take agreed expected) b.rest (drop agreed expected) heads in
-    subst (λ a. FirstUnlike a expected (end_count (take agreed expected))) (sym b.split)
-    (subst (λ e. FirstUnlike (take agreed expected ++ b.rest) e (end_count (take agreed expected)))
+    subst (λ a. FirstUnlike a expected (line_end_count (take agreed expected))) (sym b.split)
+    (subst (λ e. FirstUnlike (take agreed expected ++ b.rest) e (line_end_count (take agreed expected)))
     (take-append-drop agreed expected) u)
 
 -- the two texts in the other order

@@ -7,7 +7,7 @@ use Rattle.std.proofs.lemmas.Bool.{cases_lt}
 use Rattle.ra_report_lines.specs.Lines.{lines_of, body_of, HasNoEnd}
 use Rattle.ra_report_lines.specs.declared.answers.Next.{Next}
 use Rattle.ra_report_lines.specs.declared.answers.Next.TheVariants.{Last, Long, End}
-use Rattle.ra_report_lines.specs.Reading.{BeginsWithLine, IsLastLine, BeginsOverLong, IsNext}
+use Rattle.ra_report_lines.specs.Reading.{BeginsWithLine, IsLastLine, BeginsOverLong, IsNextLine}
 use Rattle.ra_report_lines.specs.Buffers.{IsEnded, Gave}
 use Rattle.ra_report_lines.proofs.BodyLaws.{body_twice, body_before, body_at_least, no_end_both, no_end_none}
 use Rattle.ra_report_lines.proofs.BodyLaws.{no_end_ends, ends_behind}
@@ -193,11 +193,11 @@ told_end (Some bytes) told_now place now same at end =
 -- if nothing is left, all lines were given, or what was given is the last line
 ended_here : (bytes after : List ℕ) (room given : ℕ) (next : Next) → (given ≡ 0 → next ≡ End) →
     (0 < given → next ≡ Last) → (given ≡ 0 → bytes ≡ []) → (0 < given → IsLastLine room bytes after) →
-    IsNext room bytes after next
+    IsNextLine room bytes after next
 ended_here bytes after room given next none some end last = ⊎_elim
-    (λ (more : 0 < given). subst (IsNext room bytes after) (sym (some more)) (last more))
+    (λ (more : 0 < given). subst (IsNextLine room bytes after) (sym (some more)) (last more))
     (λ (less : given ≤ 0). let zero_is : given ≡ 0 = omega arith in
-    subst (IsNext room bytes after) (sym (none zero_is)) (end zero_is))
+    subst (IsNextLine room bytes after) (sym (none zero_is)) (end zero_is))
     (cases_lt 0 given)
 
 pub told_ended : (told told_now : Option (List ℕ)) (place given room now : ℕ) (before line ready : List ℕ)
@@ -205,7 +205,7 @@ pub told_ended : (told told_now : Option (List ℕ)) (place given room now : ℕ
     (given ≡ 0 → next ≡ End) → (0 < given → next ≡ Last)
     → IfSome told (λ bytes. GaveNoEnd bytes place given before line ready) →
     IfSome told_now (λ bytes. drop now bytes ≡ []) →
-    IfSome told (λ bytes. IsNext room (drop place bytes) (drop now bytes) next)
+    IfSome told (λ bytes. IsNextLine room (drop place bytes) (drop now bytes) next)
 told_ended None told_now place given room now before line ready next same at most long none some gave end = tt
 told_ended (Some bytes) told_now place given room now before line ready next same at most long none some gave end =
     ended_here (drop place bytes) (drop now bytes) room given next none some
@@ -217,9 +217,9 @@ pub told_ended_at : (told told_now : Option (List ℕ)) (place given room now : 
     (given ≡ 0 → next ≡ End) → (0 < given → next ≡ Last)
     → IfSome told (λ bytes. GaveNoEnd bytes place given before line ready) →
     IfSome told_now (λ bytes. drop (place + given) bytes ≡ []) →
-    IfSome told (λ bytes. IsNext room (drop place bytes) (drop now bytes) next)
+    IfSome told (λ bytes. IsNextLine room (drop place bytes) (drop now bytes) next)
 told_ended_at told told_now place given room now before line ready next same at most long none some gave end =
-    subst (λ k. IfSome told (λ bytes. IsNext room (drop place bytes) (drop k bytes) next)) (sym at)
+    subst (λ k. IfSome told (λ bytes. IsNextLine room (drop place bytes) (drop k bytes) next)) (sym at)
     (told_ended told told_now place given room (place + given) before line ready next same refl most long none some gave
     end)
 

@@ -2,7 +2,7 @@
 use Rattle.std.proofs.Common.{◌≡◌, ◌≢◌, ℕ, zero, suc, ◌<◌, Bool, true, false, cond, eqb, List, [], ◌∷◌, ◌++◌, drop}
 use Rattle.std.proofs.Common.{slice_get, Option, Some, None, refl, sym, ◌∙◌, ap, arith}
 use Rattle.std.proofs.lemmas.Option.{none-some}
-use Rattle.ra_report_lines.specs.Lines.{onto_first, lines_of, line_at, end_count, FirstUnlike}
+use Rattle.ra_report_lines.specs.Lines.{onto_first, lines_of, line_at, line_end_count, FirstUnlike}
 use Rattle.ra_report_lines.proofs.SplitLaws.{lines_onto, lines_end}
 
 -- the first byte of a line that may be there
@@ -86,15 +86,15 @@ unlike_onto b x y n test u = record {
 }
 
 -- the first line that differs is that of the first byte that differs
-pub unlike_at : (p x y : List ℕ) → slice_get x 0 ≢ slice_get y 0 → FirstUnlike (p ++ x) (p ++ y) (end_count p)
-unfolding end_count
+pub unlike_at : (p x y : List ℕ) → slice_get x 0 ≢ slice_get y 0 → FirstUnlike (p ++ x) (p ++ y) (line_end_count p)
+unfolding line_end_count
 unlike_at [] x y other = record {
   before = λ m less. absurd (omega arith);
   here = λ e. other (sym (line_start x) ∙ ap start_of e ∙ line_start y);
 }
 unlike_at (b ∷ p) x y other = either (eqb b 10) refl (unlike_at p x y other)
   where
-    either : (is : Bool) → eqb b 10 ≡ is → FirstUnlike (p ++ x) (p ++ y) (end_count p) →
-        FirstUnlike (b ∷ (p ++ x)) (b ∷ (p ++ y)) (cond is (suc (end_count p)) (end_count p))
-    either true test u = unlike_end b (p ++ x) (p ++ y) (end_count p) test u
-    either false test u = unlike_onto b (p ++ x) (p ++ y) (end_count p) test u
+    either : (is : Bool) → eqb b 10 ≡ is → FirstUnlike (p ++ x) (p ++ y) (line_end_count p) →
+        FirstUnlike (b ∷ (p ++ x)) (b ∷ (p ++ y)) (cond is (suc (line_end_count p)) (line_end_count p))
+    either true test u = unlike_end b (p ++ x) (p ++ y) (line_end_count p) test u
+    either false test u = unlike_onto b (p ++ x) (p ++ y) (line_end_count p) test u

@@ -8,7 +8,7 @@ use Rattle.ra_report_lines.specs.declared.answers.Next.{Next}
 use Rattle.ra_report_lines.specs.declared.answers.Next.TheVariants.{Long}
 use Rattle.ra_report_lines.specs.declared.answers.ReadFault.{ReadFault}
 use Rattle.ra_report_lines.specs.Lines.{HasNoEnd}
-use Rattle.ra_report_lines.specs.Reading.{IsNext}
+use Rattle.ra_report_lines.specs.Reading.{IsNextLine}
 
 -- the bytes that were fetched and not given
 abbrev pub ready_of : Buffer → List ℕ
@@ -26,18 +26,18 @@ pub record Gave (bytes : List ℕ) (place given : ℕ) (before line ready : List
   pub front : take (length ready) (drop (place + given) bytes) ≡ ready
 
 -- how many bytes were added to a list
-abbrev pub added : Fixed ℕ → Fixed ℕ → ℕ
-added before after = length after.items - length before.items
+abbrev pub bytes_added : Fixed ℕ → Fixed ℕ → ℕ
+bytes_added before after = length after.items - length before.items
 
 -- the next line from a place on was added to a list as far as there was room, and the answer says what it is
 pub record GivesLine (files : Reading) (name : List ℕ) (place most_before : ℕ) (before after : Fixed ℕ)
     (ready : List ℕ) (answer : Result Next ReadFault) : Type 0 where
   pub gave :
       IfSome (files.held name) (λ bytes.
-      Gave bytes place (added before after) before.items after.items ready)
+      Gave bytes place (bytes_added before after) before.items after.items ready)
   pub next :
       IfSome (files.held name) (λ bytes.
-      IfOk answer (IsNext most_before (drop place bytes) (drop (place + added before after) bytes)))
+      IfOk answer (IsNextLine most_before (drop place bytes) (drop (place + bytes_added before after) bytes)))
   pub grows : length before.items ≤ length after.items
   pub most : length after.items ≤ length before.items + most_before + 1
   pub long : answer ≡ Ok Long → length after.items ≡ length before.items + most_before + 1
@@ -62,10 +62,10 @@ pub record MakesReady (files : Reading) (name : List ℕ) (place : ℕ) (old new
 -- was room for
 pub record GivesFront (most_bytes : ℕ) (old new : List ℕ) (before after : Fixed ℕ) (is_ended : Bool) : Type
     0 where
-  pub given : after.items ≡ before.items ++ take (added before after) old
-  pub left : new ≡ drop (added before after) old
-  pub ended : is_ended ≡ true → IsEnded (take (added before after) old)
-  pub unended : is_ended ≡ false → HasNoEnd (take (added before after) old)
+  pub given : after.items ≡ before.items ++ take (bytes_added before after) old
+  pub left : new ≡ drop (bytes_added before after) old
+  pub ended : is_ended ≡ true → IsEnded (take (bytes_added before after) old)
+  pub unended : is_ended ≡ false → HasNoEnd (take (bytes_added before after) old)
   pub most : length after.items ≤ length before.items + most_bytes
   pub some : 0 < most_bytes → 0 < length old → length before.items < length after.items
   pub grows : length before.items ≤ length after.items

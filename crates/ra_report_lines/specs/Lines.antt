@@ -38,9 +38,9 @@ abbrev pub HasNoEnd : List ℕ → Type 0
 HasNoEnd bytes = body_of bytes ≡ bytes
 
 -- how many LF there are
-unfoldable pub end_count : List ℕ → ℕ
-end_count [] = 0
-end_count (byte ∷ bytes) = if byte == 10 then suc (end_count bytes) else end_count bytes
+unfoldable pub line_end_count : List ℕ → ℕ
+line_end_count [] = 0
+line_end_count (byte ∷ bytes) = if byte == 10 then suc (line_end_count bytes) else line_end_count bytes
 
 -- how many bytes of a line come before its LF or its end; and whether they are more than there is room for
 abbrev pub length_before_end : List ℕ → ℕ

@@ -40,11 +40,11 @@ pub record BeginsOverLong (room : ℕ) (bytes : List ℕ) : Type 0 where
   pub long : IsOverLong room line
 
 -- what the next line of the bytes is, and what is left after it
-abbrev pub IsNext : ℕ → List ℕ → List ℕ → Next → Type 0
-IsNext room bytes after Line = BeginsWithLine room bytes after
-IsNext room bytes after Last = IsLastLine room bytes after
-IsNext room bytes after Long = BeginsOverLong room bytes
-IsNext room bytes after End = (bytes ≡ [])
+abbrev pub IsNextLine : ℕ → List ℕ → List ℕ → Next → Type 0
+IsNextLine room bytes after Line = BeginsWithLine room bytes after
+IsNextLine room bytes after Last = IsLastLine room bytes after
+IsNextLine room bytes after Long = BeginsOverLong room bytes
+IsNextLine room bytes after End = (bytes ≡ [])
 
 -- the next line was asked for, with room for a number of bytes before its end: it was added to a list as far as there
 -- was room, and the answer says what it is
@@ -57,7 +57,7 @@ pub record TakesLine (files : Reading) (most_before : ℕ) (old new : Standing) 
       after.items ≡ before.items ++ take (new.place - old.place) (drop old.place bytes))
   pub next :
       IfSome (files.held old.name) (λ bytes.
-      IfOk answer (IsNext most_before (drop old.place bytes) (drop new.place bytes)))
+      IfOk answer (IsNextLine most_before (drop old.place bytes) (drop new.place bytes)))
   pub number : length after.items + old.place ≡ length before.items + new.place
   pub goes_on : old.place ≤ new.place
   pub most : new.place ≤ old.place + most_before + 1

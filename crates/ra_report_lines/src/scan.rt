@@ -1,5 +1,5 @@
 ghost use Rattle.std.specs.Prelude.{◌≡◌, ◌<◌, ◌≤◌, ◌≢◌, true, false, length, take, get_or};
-ghost use Rattle.ra_report_lines.specs.Lines.{body_of, HasNoEnd, end_count};
+ghost use Rattle.ra_report_lines.specs.Lines.{body_of, HasNoEnd, line_end_count};
 ghost use Rattle.ra_report_lines.specs.Buffers.{IsEnded};
 
 /// How many bytes come before the first LF, or all if there is none.
@@ -52,7 +52,7 @@ pub fn same_length(a: &[u8], b: &[u8]) -> usize
 
 /// How many LF there are.
 pub fn count_ends(bytes: &[u8]) -> usize
-    ensures { result ≡ end_count bytes.now }
+    ensures { result ≡ line_end_count bytes.now }
 {
     let mut count = 0;
     for i in 0..bytes.len() {

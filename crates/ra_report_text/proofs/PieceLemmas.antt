@@ -10,7 +10,7 @@ use Rattle.std.proofs.KnownBytes.{Appends-trans}
 use Rattle.ra_io.specs.Faults.{Rose}
 use Rattle.ra_io.specs.Pieces.{AppendsPart}
 use Rattle.ra_report_text.specs.declared.pieces.Piece.{Piece}
-use Rattle.ra_report_text.specs.Pieces.{bytes_of, piece_bytes, Breaks}
+use Rattle.ra_report_text.specs.Pieces.{bytes_of, piece_bytes, BreaksOff}
 
 -- a front of the second text, after the whole first one
 pub part_after : (a b c : Option (List ℕ)) (s t : List ℕ) → Appends a b s → AppendsPart b c t → AppendsPart a c (s ++ t)
@@ -33,12 +33,12 @@ pub rose_later : (a b c : ℕ) → a ≤ b → Rose b c → Rose a c
 rose_later a b c never_fell rose =
     ⊎_elim (λ (more : b < c). let h : a < c = omega arith in inl h) (λ (last : c ≡ 2 ^ 64 - 1). inr last) rose
 
-pub breaks_after : (a b c : Option (List ℕ)) (s t : List ℕ) (f g h : ℕ) → Appends a b s → f ≤ g → Breaks b c g h t →
-    Breaks a c f h (s ++ t)
+pub breaks_after : (a b c : Option (List ℕ)) (s t : List ℕ) (f g h : ℕ) → Appends a b s → f ≤ g → BreaksOff b c g h t →
+    BreaksOff a c f h (s ++ t)
 breaks_after a b c s t f g h first never_fell breaks =
     (part_after a b c s t first breaks.0, rose_later f g h never_fell breaks.1)
 
-pub breaks_before : (a c : Option (List ℕ)) (s t : List ℕ) (f g : ℕ) → Breaks a c f g s → Breaks a c f g (s ++ t)
+pub breaks_before : (a c : Option (List ℕ)) (s t : List ℕ) (f g : ℕ) → BreaksOff a c f g s → BreaksOff a c f g (s ++ t)
 breaks_before a c s t f g breaks = (part_before a c s t breaks.0, breaks.1)
 
 pub bytes_append : (xs ys : List Piece) → bytes_of (xs ++ ys) ≡ bytes_of xs ++ bytes_of ys

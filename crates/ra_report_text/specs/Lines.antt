@@ -3,8 +3,8 @@ use Rattle.std.specs.Prelude.{◌≡◌, ℕ, ◌+◌, ◌≤◌, List, ◌++◌
 use Rattle.ra_report_text.specs.declared.line.TheConstants.{LINE_ROOM}
 
 -- this number of bytes more fit into the line
-abbrev pub HasRoom : List ℕ → ℕ → Type 0
-HasRoom line more = more + length line ≤ LINE_ROOM
+abbrev pub HasRoomForBytes : List ℕ → ℕ → Type 0
+HasRoomForBytes line more = more + length line ≤ LINE_ROOM
 
 -- a text of at most this number of bytes was written in front of what was there
 pub record Prepends (old new text : List ℕ) (most : ℕ) : Type 0 where

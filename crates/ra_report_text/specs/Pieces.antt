@@ -24,9 +24,9 @@ bytes_of [] = []
 bytes_of (piece ∷ pieces) = piece_bytes piece ++ bytes_of pieces
 
 -- the sink took a front of the text, and a fault was counted
-abbrev pub Breaks : Option (List ℕ) → Option (List ℕ) → ℕ → ℕ → List ℕ → Type 0
-Breaks old new before after text = AppendsPart old new text × Rose before after
+abbrev pub BreaksOff : Option (List ℕ) → Option (List ℕ) → ℕ → ℕ → List ℕ → Type 0
+BreaksOff old new before after text = AppendsPart old new text × Rose before after
 
 -- the sink took the whole text, or a front of it if a fault was counted
 abbrev pub Puts : Option (List ℕ) → Option (List ℕ) → ℕ → ℕ → List ℕ → Type 0
-Puts old new before after text = Appends old new text ⊎ Breaks old new before after text
+Puts old new before after text = Appends old new text ⊎ BreaksOff old new before after text

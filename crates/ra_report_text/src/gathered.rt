@@ -1,5 +1,5 @@
 ghost use Rattle.std.specs.Prelude.{◌≡◌, ◌≤◌, [], true, false, OnOk, OnErr};
-ghost use Rattle.ra_report_text.specs.Gathering.{Moves, Adds};
+ghost use Rattle.ra_report_text.specs.Gathering.{MovesText, AddsText};
 
 use crate::waiting::Waiting;
 use ra_io::{Sink, put_all};
@@ -37,7 +37,7 @@ impl<'a, O: Sink> Gathered<'a, O> {
     /// Adds a piece.
     #[inline(always)]
     pub fn add(&mut self, piece: &[u8])
-        ensures { Adds O.taken O.faults self.old self.new piece.now }
+        ensures { AddsText O.taken O.faults self.old self.new piece.now }
     {
         if !self.waiting.add(piece) {
             self.add_past(piece);
@@ -48,7 +48,7 @@ impl<'a, O: Sink> Gathered<'a, O> {
     #[cold]
     #[inline(never)]
     fn add_past(&mut self, piece: &[u8])
-        ensures { Adds O.taken O.faults self.old self.new piece.now }
+        ensures { AddsText O.taken O.faults self.old self.new piece.now }
     {
         self.put_waiting();
         if !self.waiting.add(piece) {
@@ -65,7 +65,7 @@ impl<'a, O: Sink> Gathered<'a, O> {
 
     /// Puts what still waits, and says whether the sink took all that was added.
     pub fn finish(&mut self) -> Result<(), WriteFault>
-        ensures adds { Adds O.taken O.faults self.old self.new [] }
+        ensures adds { AddsText O.taken O.faults self.old self.new [] }
         ensures none { self.new.waiting ≡ [] }
         ensures whole { OnOk result (self.new.failed ≡ false) }
         ensures part { OnErr result (self.new.failed ≡ true) }
@@ -80,7 +80,7 @@ impl<'a, O: Sink> Gathered<'a, O> {
 
     /// Puts what waits.
     fn put_waiting(&mut self)
-        ensures adds { Adds O.taken O.faults self.old self.new [] }
+        ensures adds { AddsText O.taken O.faults self.old self.new [] }
         ensures none { self.new.waiting ≡ [] }
     {
         self.failed = put_unless(self.failed, self.to, self.waiting.as_slice());
@@ -90,7 +90,7 @@ impl<'a, O: Sink> Gathered<'a, O> {
     /// Puts a piece, while nothing waits.
     fn put(&mut self, piece: &[u8])
         requires { self.old.waiting ≡ [] }
-        ensures { Adds O.taken O.faults self.old self.new piece.now }
+        ensures { AddsText O.taken O.faults self.old self.new piece.now }
     {
         self.failed = put_unless(self.failed, self.to, piece);
     }
@@ -98,7 +98,7 @@ impl<'a, O: Sink> Gathered<'a, O> {
 
 /// Puts a text, unless a put has failed before, and says whether one has.
 fn put_unless<O: Sink>(failed: bool, to: &mut O, text: &[u8]) -> bool
-    ensures moves { Moves failed result (O.taken to.old) (O.taken to.new) (O.faults to.old)
+    ensures moves { MovesText failed result (O.taken to.old) (O.taken to.new) (O.faults to.old)
         (O.faults to.new) [] [] text.now }
     ensures never_falls { O.faults to.old ≤ O.faults to.new }
 {

@@ -1,5 +1,5 @@
 ghost use Rattle.std.specs.Prelude.{◌≡◌, [], ◌∷◌, length};
-ghost use Rattle.ra_report_text.specs.Lines.{HasRoom, Prepends};
+ghost use Rattle.ra_report_text.specs.Lines.{HasRoomForBytes, Prepends};
 ghost use Rattle.ra_report_text.specs.Texts.{number_text};
 
 use itoa::{Buffer, write_digits};
@@ -55,7 +55,7 @@ impl Line {
     /// Writes a word in front.
     #[inline(always)]
     pub fn prepend(&mut self, word: &[u8])
-        requires { HasRoom self.old (length word.now) }
+        requires { HasRoomForBytes self.old (length word.now) }
         ensures { Prepends self.old self.new word.now (length word.now) }
     {
         let to = self.from;
@@ -66,7 +66,7 @@ impl Line {
     /// Writes a byte in front.
     #[inline(always)]
     pub fn prepend_byte(&mut self, byte: u8)
-        requires { HasRoom self.old 1 }
+        requires { HasRoomForBytes self.old 1 }
         ensures { Prepends self.old self.new (byte ∷ []) 1 }
     {
         self.from -= 1;
@@ -76,7 +76,7 @@ impl Line {
     /// Writes a number in decimal in front.
     #[inline(always)]
     pub fn prepend_number(&mut self, number: u64)
-        requires { HasRoom self.old 20 }
+        requires { HasRoomForBytes self.old 20 }
         ensures { Prepends self.old self.new (number_text number) 20 }
     {
         self.from = write_digits(number, &mut self.bytes, self.from);
@@ -85,7 +85,7 @@ impl Line {
     /// Writes a byte in front, and after this byte a number in decimal.
     #[inline(always)]
     pub fn prepend_marked(&mut self, mark: u8, number: u64)
-        requires { HasRoom self.old 21 }
+        requires { HasRoomForBytes self.old 21 }
         ensures { Prepends self.old self.new (mark ∷ number_text number) 21 }
     {
         self.prepend_number(number);
@@ -95,7 +95,7 @@ impl Line {
     /// Writes a number of up to 128 bits in front.
     #[inline(always)]
     pub fn prepend_wide(&mut self, number: u128)
-        requires { HasRoom self.old 39 }
+        requires { HasRoomForBytes self.old 39 }
         ensures { Prepends self.old self.new (number_text number) 39 }
     {
         if number <= u64::MAX as u128 {
@@ -109,7 +109,7 @@ impl Line {
     #[cold]
     #[inline(never)]
     fn prepend_widest(&mut self, number: u128)
-        requires { HasRoom self.old 39 }
+        requires { HasRoomForBytes self.old 39 }
         ensures { Prepends self.old self.new (number_text number) 39 }
     {
         self.prepend(Buffer::new().format(number).as_bytes())

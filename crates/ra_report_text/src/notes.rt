@@ -1,4 +1,4 @@
-ghost use Rattle.ra_report_text.specs.Gathering.{Adds};
+ghost use Rattle.ra_report_text.specs.Gathering.{AddsText};
 ghost use Rattle.ra_report_text.specs.Notes.{note_text, range_text};
 
 use crate::gathered::Gathered;
@@ -29,7 +29,7 @@ pub enum Note<'a> {
 /// Adds what a note says, without an end of the line.
 #[tactic(auto, unfolding(crate::specs::Notes::note_text))]
 pub fn add_note<O: Sink>(text: &mut Gathered<'_, O>, note: Note<'_>)
-    ensures { Adds O.taken O.faults text.old text.new (note_text note.entry) }
+    ensures { AddsText O.taken O.faults text.old text.new (note_text note.entry) }
 {
     match note {
         Note::Nothing => {}
@@ -72,7 +72,7 @@ fn add_range<'a, O: Sink>(
     least: u32,
     most: u32,
 )
-    ensures { Adds O.taken O.faults text.old text.new
+    ensures { AddsText O.taken O.faults text.old text.new
         (range_text words.now field.now at value least most) }
 {
     add_pieces(

@@ -1,5 +1,5 @@
 ghost use Rattle.std.specs.Prelude.{◌≡◌, ◌∷◌};
-ghost use Rattle.ra_report_text.specs.Gathering.{Adds};
+ghost use Rattle.ra_report_text.specs.Gathering.{AddsText};
 ghost use Rattle.ra_report_text.specs.Pieces.{bytes_of, piece_bytes};
 ghost use Rattle.ra_report_text.specs.Texts.{number_text};
 
@@ -22,7 +22,7 @@ pub enum Piece<'a> {
 #[inline(always)]
 #[tactic(auto, using(crate::proofs::NumberTexts::decimal_number))]
 pub fn add_decimal<O: Sink>(text: &mut Gathered<'_, O>, number: u64)
-    ensures { Adds O.taken O.faults text.old text.new (number_text number) }
+    ensures { AddsText O.taken O.faults text.old text.new (number_text number) }
 {
     text.add(Buffer::new().format(number).as_bytes())
 }
@@ -30,7 +30,7 @@ pub fn add_decimal<O: Sink>(text: &mut Gathered<'_, O>, number: u64)
 /// Adds a byte, and after it a number in decimal.
 #[inline(always)]
 pub fn add_marked<O: Sink>(text: &mut Gathered<'_, O>, mark: u8, number: u64)
-    ensures { Adds O.taken O.faults text.old text.new (mark ∷ number_text number) }
+    ensures { AddsText O.taken O.faults text.old text.new (mark ∷ number_text number) }
 {
     text.add(&[mark]);
     add_decimal(text, number)
@@ -40,7 +40,7 @@ pub fn add_marked<O: Sink>(text: &mut Gathered<'_, O>, mark: u8, number: u64)
 #[inline(always)]
 #[tactic(auto, using(crate::proofs::NumberTexts::decimal_number))]
 fn add_piece<O: Sink>(text: &mut Gathered<'_, O>, piece: Piece<'_>)
-    ensures { Adds O.taken O.faults text.old text.new (piece_bytes piece.entry) }
+    ensures { AddsText O.taken O.faults text.old text.new (piece_bytes piece.entry) }
 {
     match piece {
         Piece::Text(word) => text.add(word.as_bytes()),
@@ -55,7 +55,7 @@ fn add_piece<O: Sink>(text: &mut Gathered<'_, O>, piece: Piece<'_>)
 /// Adds pieces one after another.
 #[inline(always)]
 pub fn add_pieces<O: Sink>(text: &mut Gathered<'_, O>, pieces: &[Piece<'_>])
-    ensures { Adds O.taken O.faults text.old text.new (bytes_of pieces.now) }
+    ensures { AddsText O.taken O.faults text.old text.new (bytes_of pieces.now) }
 {
     for piece in pieces {
         add_piece(text, *piece);

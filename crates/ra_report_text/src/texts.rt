@@ -1,7 +1,7 @@
 ghost use Rattle.std.specs.Prelude.{◌≡◌, ◌≤◌, length};
 ghost use Rattle.ra_report_text.specs.CauseTexts.{words_text, cause_name};
-ghost use Rattle.ra_report_text.specs.Gathering.{Adds};
-ghost use Rattle.ra_report_text.specs.Lines.{HasRoom, Prepends};
+ghost use Rattle.ra_report_text.specs.Gathering.{AddsText};
+ghost use Rattle.ra_report_text.specs.Lines.{HasRoomForBytes, Prepends};
 ghost use Rattle.ra_report_text.specs.Texts.{parts_text, cause_text, machines_text, assignment_line, with_four};
 
 use crate::gathered::Gathered;
@@ -13,7 +13,7 @@ use ra_io::Sink;
 /// Adds the six lines of the parts: `cost`, `load`, `balance`, `process`, `service`, `machine`.
 #[tactic(auto, unfolding(crate::specs::Texts::parts_text))]
 pub fn add_parts<O: Sink>(text: &mut Gathered<'_, O>, parts: &Parts)
-    ensures { Adds O.taken O.faults text.old text.new (parts_text parts.now) }
+    ensures { AddsText O.taken O.faults text.old text.new (parts_text parts.now) }
 {
     add_pieces(
         text,
@@ -38,7 +38,7 @@ pub fn add_parts<O: Sink>(text: &mut Gathered<'_, O>, parts: &Parts)
 /// Adds a cause: its name and its numbers, without an end of the line.
 #[tactic(auto, unfolding(crate::specs::CauseTexts::words_text))]
 pub fn add_cause<O: Sink>(text: &mut Gathered<'_, O>, cause: &Cause)
-    ensures { Adds O.taken O.faults text.old text.new (cause_text cause.now) }
+    ensures { AddsText O.taken O.faults text.old text.new (cause_text cause.now) }
 {
     match cause_words(cause) {
         CauseWords::One(name, a) => {
@@ -78,7 +78,7 @@ pub fn add_cause<O: Sink>(text: &mut Gathered<'_, O>, cause: &Cause)
 /// Writes a cause in front: its name and its numbers.
 #[inline(always)]
 pub fn prepend_cause(line: &mut Line, cause: &Cause)
-    requires { HasRoom line.old 105 }
+    requires { HasRoomForBytes line.old 105 }
     ensures { Prepends line.old line.new (cause_text cause.now) 105 }
 {
     match cause_words(cause) {
@@ -175,7 +175,7 @@ pub fn cause_words(cause: &Cause) -> CauseWords
 
 /// A word and four numbers.
 fn add_four<O: Sink>(text: &mut Gathered<'_, O>, word: &str, a: u32, b: u32, c: u64, d: u32)
-    ensures { Adds O.taken O.faults text.old text.new (with_four word.now a b c d) }
+    ensures { AddsText O.taken O.faults text.old text.new (with_four word.now a b c d) }
 {
     text.add(word.as_bytes());
     add_marked(text, b' ', a as u64);
@@ -186,7 +186,7 @@ fn add_four<O: Sink>(text: &mut Gathered<'_, O>, word: &str, a: u32, b: u32, c: 
 
 /// Adds the line of an assignment.
 pub fn add_assignment<O: Sink>(text: &mut Gathered<'_, O>, machines: &[Machine])
-    ensures { Adds O.taken O.faults text.old text.new (assignment_line machines.now) }
+    ensures { AddsText O.taken O.faults text.old text.new (assignment_line machines.now) }
 {
     add_pieces(text, &[Piece::Text("assignment")]);
     add_machines(text, machines);
@@ -195,7 +195,7 @@ pub fn add_assignment<O: Sink>(text: &mut Gathered<'_, O>, machines: &[Machine])
 
 /// Adds the numbers of machines, with a space before each.
 pub fn add_machines<O: Sink>(text: &mut Gathered<'_, O>, machines: &[Machine])
-    ensures { Adds O.taken O.faults text.old text.new (machines_text machines.now) }
+    ensures { AddsText O.taken O.faults text.old text.new (machines_text machines.now) }
 {
     for machine in machines {
         add_pieces(text, &[Piece::Marked(b' ', machine.0 as u64)]);

@@ -13,7 +13,7 @@ use Rattle.ra_model.proofs.TallyLemmas.{tally_same, tally_term, use_set, transie
 use Rattle.ra_model.proofs.BoundLemmas.{use_under, transient_under}
 use Rattle.ra_rows.specs.RowTables.{RowTables}
 use Rattle.ra_rows.specs.Rows.{StandFor, HasAt, IsBelow, AreRows}
-use Rattle.ra_rows.specs.Changes.{Shifts, IsTally, HasRoomFor}
+use Rattle.ra_rows.specs.Changes.{Shifts, IsTally, HasEnoughFor}
 
 -- the rows of these tables
 abbrev pub rows_of : Tables → List Machine → List ℕ → List ℕ → RowTables
@@ -103,13 +103,13 @@ transient_within i a0 a p at r there is =
     )
 
 pub used_enough : (rows : RowTables) (p from : ℕ) → p < process_count rows.tables → HasAt rows p from →
-    HasRoomFor rows.tables p from rows.used
+    HasEnoughFor rows.tables p from rows.used
 used_enough rows p from there has = record {
   each = λ r w. omega (arith, has.stands.usage from r w, used_within rows.tables has.assignment p from r there has.at);
 }
 
 pub transient_enough : (rows : RowTables) (p from : ℕ) → p < process_count rows.tables → HasAt rows p from →
-    HasRoomFor rows.tables p from rows.between
+    HasEnoughFor rows.tables p from rows.between
 transient_enough rows p from there has = record {
   each = λ r w.
       omega (

@@ -45,12 +45,12 @@ pub record IsTally (width n : ℕ) (share : ℕ → ℕ → ℕ → ℕ → ℕ)
   pub each : (m r : ℕ) → r < width → cell width table m r ≡ tally n (share m r) a
 
 -- row `at` has at least what process p requires of each resource, so that it can be subtracted
-pub record HasRoomFor (i : Tables) (p at : ℕ) (table : List ℕ) : Type 0 where
+pub record HasEnoughFor (i : Tables) (p at : ℕ) (table : List ℕ) : Type 0 where
   pub each : (r : ℕ) → r < resource_count i
       → requirement_of i p r ≤ cell (resource_count i) table at r
 
 -- a table with a small number for each machine and resource, and its row `at` has at least what process p requires
-pub record MayLeave (i : Tables) (p at : ℕ) (table : List ℕ) : Type 0 where
+pub record MayBeTakenFrom (i : Tables) (p at : ℕ) (table : List ℕ) : Type 0 where
   pub grid : length table ≡ machine_count i * resource_count i
   pub below : IsBelow (resource_count i) (2 ^ 48) table
-  pub enough : HasRoomFor i p at table
+  pub enough : HasEnoughFor i p at table

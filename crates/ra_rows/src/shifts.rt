@@ -3,7 +3,7 @@ ghost use Rattle.ra_base.specs.declared.ids.Machine.{Machine};
 ghost use Rattle.ra_model.specs.Numbers.{resource_count, machine_count, process_count};
 ghost use Rattle.ra_model.specs.Assignments.{machine_at};
 ghost use Rattle.ra_model.specs.Usage.{use_share, transient_share};
-ghost use Rattle.ra_rows.specs.Changes.{Shifts, MayLeave};
+ghost use Rattle.ra_rows.specs.Changes.{Shifts, MayBeTakenFrom};
 
 use crate::cells::{move_amount, move_beside_home};
 use ra_base::{Fixed, Machine, Process, Resource, Steps};
@@ -26,8 +26,8 @@ pub(crate) fn shift_rows<L: Ledger>(
     requires from { from.0 < machine_count inst.now.tables }
     requires to { to.0 < machine_count inst.now.tables }
     requires apart { from.0 ≢ to.0 }
-    requires used { MayLeave inst.now.tables p.0 from.0 used.old.items }
-    requires between { MayLeave inst.now.tables p.0 from.0 between.old.items }
+    requires used { MayBeTakenFrom inst.now.tables p.0 from.0 used.old.items }
+    requires between { MayBeTakenFrom inst.now.tables p.0 from.0 between.old.items }
     ensures used { Shifts (resource_count inst.now.tables)
         (use_share inst.now.tables) p.0 from.0 to.0 used.old.items used.new.items }
     ensures between { (a0 : List Machine) → machine_at a0 p.0 ≡ home.0 →

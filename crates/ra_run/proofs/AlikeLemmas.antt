@@ -14,7 +14,7 @@ use Rattle.ra_journal.specs.declared.entries.Entry.{Entry}
 use Rattle.ra_journal.specs.Best.{best_place, best_of}
 use Rattle.ra_journal.specs.Entries.{entry_at, words, allowed}
 use Rattle.ra_journal.specs.Legal.{Legal, IsLegalAt}
-use Rattle.ra_journal.specs.States.{state, cost_at}
+use Rattle.ra_journal.specs.States.{state, cost_of_state}
 use Rattle.ra_moves.specs.Touched.{service_in, moves_service, reads_service}
 use Rattle.ra_model.specs.declared.raw.RawInstance.{RawInstance}
 use Rattle.ra_model.specs.declared.raw.Tables.{Tables}
@@ -24,7 +24,8 @@ use Rattle.ra_model.specs.Situations.{situation}
 use Rattle.ra_moves.specs.declared.steps.Step.{Step}
 use Rattle.ra_moves.specs.Judging.{broken_by, judge}
 use Rattle.ra_moves.specs.Options.{option_cost, plan_place, plan_of}
-use Rattle.ra_pins.specs.Pinned.{flagged_share, flagged_use, lacks, lacks_between, holds, taken, blocked, is_open}
+use Rattle.ra_pins.specs.Pinned.{flagged_share, flagged_use, lacks, lacks_between, holds, flagged_starts_on, blocked}
+use Rattle.ra_pins.specs.Pinned.{is_open}
 use Rattle.ra_pins.specs.Pinned.{stuck, round, rounds, is_pinned, pinned_load}
 use Rattle.ra_report.specs.JournalTexts.{report_text}
 use Rattle.ra_verify.specs.WrongLines.{AreRight, AreAllRight, IsWrongEntry, IsCutOff, IsWrongHead, IsWrongLine}
@@ -42,7 +43,8 @@ parts_bare raw closed a0 a = refl
 pinned_bound_bare : (raw : RawInstance) (closed : Option (Listed Bool)) (a0 : List Machine) →
     pinned_bound_of (bare (whole raw closed)) a0 ≡ pinned_bound_of (whole raw closed) a0
 unfolding opened required safety capacity overload spare lack balance_bound pinned_excess pinned_overload
-    pinned_load_bound pinned_bound_of flagged_share flagged_use lacks lacks_between holds taken blocked is_open stuck
+    pinned_load_bound pinned_bound_of flagged_share flagged_use lacks lacks_between holds flagged_starts_on blocked
+    is_open stuck
     round rounds is_pinned pinned_load
 pinned_bound_bare raw None a0 = refl
 pinned_bound_bare raw (Some flags) a0 = refl
@@ -76,7 +78,7 @@ version_bare raw closed made n (guard.Service s) = refl
 
 best_bare : (raw : RawInstance) (closed : Option (Listed Bool)) (a0 : List Machine) (h : List Entry) →
     best_of (bare (whole raw closed)) a0 h ≡ best_of (whole raw closed) a0 h
-unfolding opened cost_at best_place best_of
+unfolding opened cost_of_state best_place best_of
 best_bare raw closed a0 h = refl
 
 module _ (i j : Tables) (same : bare i ≡ bare j) where

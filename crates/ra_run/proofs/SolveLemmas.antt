@@ -10,7 +10,7 @@ use Rattle.ra_bounds.proofs.PinnedLemmas.{none_costs_less_pinned}
 use Rattle.ra_draws.specs.declared.budgets.Lots.{Lots}
 use Rattle.ra_journal.specs.declared.entries.Entry.{Entry}
 use Rattle.ra_journal.specs.Best.{best_place, best_of}
-use Rattle.ra_journal.specs.States.{cost_at}
+use Rattle.ra_journal.specs.States.{cost_of_state}
 use Rattle.ra_journal.proofs.SoloLemmas.{one_lot}
 use Rattle.ra_journal.proofs.SoundLemmas.{sound}
 use Rattle.ra_model.specs.declared.raw.Tables.{Tables}
@@ -33,7 +33,7 @@ use Rattle.ra_jobs.specs.Files.{Held, Faults, Names}
 use Rattle.ra_jobs.specs.Lines.{refusal_line}
 use Rattle.ra_jobs.specs.Output.{Output, BrokeOff, Put}
 use Rattle.ra_jobs.specs.Refusals.{Reason, Judges}
-use Rattle.ra_jobs.specs.Stages.{IsStart, StartReason}
+use Rattle.ra_jobs.specs.Stages.{IsAcceptedStart, StartReason}
 use Rattle.ra_jobs.proofs.ComesLemmas.{Went}
 use Rattle.ra_jobs.proofs.DoesLemmas.{does_more, judged_so, judged_memory}
 use Rattle.ra_jobs.proofs.StageLemmas.{breaks_start, judges_more, reason_more}
@@ -67,19 +67,19 @@ bound_told i a0 l run bound is told = told ∙ ap₂ pinned_bound_of (sym is.ins
 pub first_least : (i : Tables) (a0 : List Machine) (h : List Entry) → IsFirstLeast i a0 h (best_of i a0 h)
 unfolding best_of best_place
 first_least i a0 h =
-    let f : ℕ → Option ℕ = λ j. Some (cost_at i a0 h j) in
+    let f : ℕ → Option ℕ = λ j. Some (cost_of_state i a0 h j) in
     let n = suc (length h) in
-    let there = least_there n 0 (cost_at i a0 h 0) f (omega arith) refl in
+    let there = least_there n 0 (cost_of_state i a0 h 0) f (omega arith) refl in
     let is = least_means n there.0 f there.1 in
-    let cost : cost_at i a0 h (least_place n f) ≡ there.0 = (let e = is.answer in cc) in
+    let cost : cost_of_state i a0 h (least_place n f) ≡ there.0 = (let e = is.answer in cc) in
     record {
       within = omega (arith, is.below);
-      least = λ k within. omega (arith, cost, is.smallest k (cost_at i a0 h k) (omega arith) refl);
-      first = λ k before. omega (arith, cost, is.earliest k (cost_at i a0 h k) before refl);
+      least = λ k within. omega (arith, cost, is.smallest k (cost_of_state i a0 h k) (omega arith) refl);
+      first = λ k before. omega (arith, cost, is.earliest k (cost_of_state i a0 h k) before refl);
     }
 
 unfoldable pub solved : (held : Held) (names : Names) (i : Tables) (a0 : List Machine) (l : Lots)
-    (sent : List ℕ → Type 0) → WellFormed i → IsStart held names i a0 → IsReported i a0 l sent →
+    (sent : List ℕ → Type 0) → WellFormed i → IsAcceptedStart held names i a0 → IsReported i a0 l sent →
     SolvePrinted held names l sent
 unfolding report_text
 solved held names i a0 l sent limits start told =
@@ -116,7 +116,8 @@ start_more i a0 written more step refusal reason = reason
 
 -- the reason of a refusal of a run, of the files
 pub reason_run : (held : Held) (names : Names) (i : Tables) (a0 : List Machine) (l : Lots) (first now : Faults)
-    (sent : List ℕ → Type 0) → IsSome names.initial → WellFormed i → IsStart held names i a0 → (refusal : Refusal) →
+    (sent : List ℕ → Type 0) → IsSome names.initial → WellFormed i → IsAcceptedStart held names i a0 →
+    (refusal : Refusal) →
     StartReason i a0 (IsReported i a0 l sent) refusal →
     Reason held names first now (Judges held names (SolvePrinted held names l sent)) refusal
 reason_run held names i a0 l first now sent initial limits start (Broken role.Initial cause) reason =

@@ -23,7 +23,7 @@ use Rattle.ra_worker_crew.specs.Runs.{IsRun}
 use Rattle.ra_report.specs.Summaries.{summary_of}
 use Rattle.ra_trial.specs.Instances.{IsTrial, start_list}
 use Rattle.ra_trial.specs.Numbers.{trial_word}
-use Rattle.ra_trial.specs.Trials.{model_text, start_text}
+use Rattle.ra_trial.specs.Trials.{trial_model_text, start_text}
 use Rattle.ra_trial.proofs.TextMeans.{text_accepted_whole, text_is_trial}
 use Rattle.ra_trial.proofs.StartText.{start_text_is_start}
 use Rattle.ra_trial.proofs.StartFeasible.{start_fits, start_feasible}
@@ -41,7 +41,7 @@ use Rattle.ra_jobs.specs.Ends.{Does, Leaves}
 use Rattle.ra_jobs.specs.Lines.{refusal_line}
 use Rattle.ra_jobs.specs.Output.{Output, BrokeOff, Put}
 use Rattle.ra_jobs.specs.Statuses.{status_of}
-use Rattle.ra_jobs.specs.Stages.{IsStart}
+use Rattle.ra_jobs.specs.Stages.{IsAcceptedStart}
 use Rattle.ra_jobs.proofs.CompleteLemmas.{never_rose, own_left}
 use Rattle.ra_run.specs.declared.trial.TrialFault.{TrialFault}
 use Rattle.ra_run.specs.declared.trial.TrialFault.TheVariants as fault
@@ -56,10 +56,10 @@ told (Some other) bytes P is p = let same : other ≡ bytes = cc in subst P same
 -- the instance that is read is that of the number
 instance_read : (number : ℕ) (held : Held) (i : Tables) → HoldsTrial number held →
     InstanceIs held (codes "model") None i → IsTrial (trial_word number) i
-unfolding model_text
+unfolding trial_model_text
 instance_read number held i holds instance =
-    let is : IsModel (model_text number) instance.model =
-    told (held (codes "model")) (model_text number) (λ bytes. IsModel bytes instance.model) holds.model
+    let is : IsModel (trial_model_text number) instance.model =
+    told (held (codes "model")) (trial_model_text number) (λ bytes. IsModel bytes instance.model) holds.model
     instance.read in
     subst (IsTrial (trial_word number)) (sym instance.closed) ((text_is_trial (trial_word number) instance.model).0 is)
 
@@ -72,9 +72,9 @@ list_read number held i a0 holds is list =
 
 pub start_read : (number : ℕ) (held : Held) (names : Names) (model start : List ℕ) (i : Tables) (a0 : List Machine) →
     HoldsTrial number held → model ≡ codes "model" → start ≡ codes "start" → names ≡ solve_names model start None →
-    IsStart held names i a0 → IsTrialStart number i a0
+    IsAcceptedStart held names i a0 → IsTrialStart number i a0
 start_read number held names model start i a0 holds model_is start_is names_are is_read =
-    let read = subst (λ (n : Names). IsStart held n i a0) names_are is_read in
+    let read = subst (λ (n : Names). IsAcceptedStart held n i a0) names_are is_read in
     let instance = subst (λ (name : List ℕ). InstanceIs held name None i) model_is read.accepts.instance in
     let list = subst (λ (name : List ℕ). ListIs held name i a0) start_is read.accepts.initial in
     let is = instance_read number held i holds instance in
@@ -83,9 +83,9 @@ start_read number held names model start i a0 holds model_is start_is names_are 
 -- both texts are accepted, and files in memory have no fault: so only memory can be refused
 accepted : (number : ℕ) (held : Held) → HoldsTrial number held →
     AreAccepted held (solve_names (codes "model") (codes "start") None)
-unfolding model_text
+unfolding trial_model_text
 accepted number held holds = record {
-  model = (model_text number, holds.model, text_accepted_whole (trial_word number));
+  model = (trial_model_text number, holds.model, text_accepted_whole (trial_word number));
   closed = λ name named. absurd (cc);
   initial = λ name named i instance.
       let is = instance_read number held i holds instance in

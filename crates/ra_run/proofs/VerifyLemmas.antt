@@ -34,7 +34,7 @@ use Rattle.ra_jobs.specs.Files.{Held, Faults, Names, name_of, is_up_to, IsNamed,
 use Rattle.ra_jobs.specs.Lines.{refusal_line}
 use Rattle.ra_jobs.specs.Output.{Output, BrokeOff, Put}
 use Rattle.ra_jobs.specs.Refusals.{Reason, RoleBreaks, CanTell}
-use Rattle.ra_jobs.specs.Stages.{IsStart, StartReason}
+use Rattle.ra_jobs.specs.Stages.{IsAcceptedStart, StartReason}
 use Rattle.ra_jobs.specs.Statuses.{status_of}
 use Rattle.ra_jobs.proofs.ComesLemmas.{Listed, Went, breaks_listed, infeasible_of, known_model, own_known, passed_went}
 use Rattle.ra_jobs.proofs.ComesLemmas.{told_closed, told_role}
@@ -53,13 +53,14 @@ use Rattle.ra_run.proofs.SolveLemmas.{solved}
 
 -- ---- the stages
 
-passes_from : (held : Held) (names : Names) (i : Tables) (a0 : List Machine) → IsStart held names i a0 →
+passes_from : (held : Held) (names : Names) (i : Tables) (a0 : List Machine) → IsAcceptedStart held names i a0 →
     Feasible i a0 a0 → Passes held names i a0 a0
 passes_from held names i a0 start feasible = record { accepts = start.accepts; initial = feasible; changed = feasible }
 
 -- a right report is one of `solve`
 solved_so : (held : Held) (names : Names) (i : Tables) (a0 : List Machine) (l : Lots) (n : ℕ) (bytes : List ℕ) →
-    WellFormed i → IsStart held names i a0 → Feasible i a0 a0 → IsRightAt i a0 l n bytes → IsSolved held names l n bytes
+    WellFormed i → IsAcceptedStart held names i a0 → Feasible i a0 a0 → IsRightAt i a0 l n bytes →
+    IsSolved held names l n bytes
 unfolding solved
 solved_so held names i a0 l n bytes limits start feasible right = record {
   solved = solved held names i a0 l (λ text. text ≡ bytes) limits start (record {
@@ -74,7 +75,7 @@ solved_so held names i a0 l n bytes limits start feasible right = record {
 }
 
 pub read_so : (held later : Held) (names : Names) (i : Tables) (a0 : List Machine) (l : Lots) (n : ℕ) →
-    ((other : List ℕ) → later other ≡ held other) → WellFormed i → IsStart held names i a0 →
+    ((other : List ℕ) → later other ≡ held other) → WellFormed i → IsAcceptedStart held names i a0 →
     IsCounted later (name_of names file.Report) i a0 l n → IsRead held names l n
 read_so held later names i a0 l n same limits start counted = record {
   tables = i;
@@ -88,7 +89,7 @@ read_so held later names i a0 l n same limits start counted = record {
 pub reason_count : (held later : Held) (names : Names) (i : Tables) (a0 : List Machine) (l : Lots)
     (first before now : Faults) (written : Type 0) → ((other : List ℕ) → later other ≡ held other) →
     ((other : List ℕ) → first other ≤ before other) → IsNamed names file.Initial → IsNamed names file.Report →
-    IsStart held names i a0 → (refusal : Refusal) →
+    IsAcceptedStart held names i a0 → (refusal : Refusal) →
     CountReason later (name_of names file.Report) i a0 l before now refusal →
     Reason held names first now (VerifyOwn held names l written) refusal
 reason_count held later names i a0 l first before now written same never_fell initial report start

@@ -10,10 +10,10 @@ use Rattle.ra_bounds.specs.PinnedBounds.{pinned_bound_of}
 use Rattle.ra_draws.specs.declared.budgets.Lots.{Lots}
 use Rattle.ra_journal.specs.declared.entries.Entry.{Entry}
 use Rattle.ra_journal.specs.Entries.{worker_count}
-use Rattle.ra_journal.specs.Laws.{IsSound}
+use Rattle.ra_journal.specs.Laws.{IsSoundAt}
 use Rattle.ra_journal.specs.Legal.{Legal, Whole}
 use Rattle.ra_journal.specs.Solo.{solo}
-use Rattle.ra_journal.specs.States.{state, cost_at}
+use Rattle.ra_journal.specs.States.{state, cost_of_state}
 use Rattle.ra_report.specs.JournalTexts.{report_lines, report_text, IsJournalOf}
 use Rattle.ra_jobs.specs.Commands.{Command, OverFiles, over, judged}
 use Rattle.ra_jobs.specs.Files.{Held, Names, Accepts, solve_names}
@@ -22,8 +22,8 @@ use Rattle.ra_jobs.specs.Files.{Held, Names, Accepts, solve_names}
 -- more
 pub record IsFirstLeast (i : Tables) (a0 : List Machine) (h : List Entry) (j : ℕ) : Type 0 where
   pub within : j ≤ length h
-  pub least : (n : ℕ) → n ≤ length h → cost_at i a0 h j ≤ cost_at i a0 h n
-  pub first : (n : ℕ) → n < j → cost_at i a0 h j < cost_at i a0 h n
+  pub least : (n : ℕ) → n ≤ length h → cost_of_state i a0 h j ≤ cost_of_state i a0 h n
+  pub first : (n : ℕ) → n < j → cost_of_state i a0 h j < cost_of_state i a0 h n
 
 -- `solve`, the headline: the printed journal is one legal history in which every proposal of every worker occurs
 -- exactly once; every state in it meets all constraints, and its kept cost is the challenge's objective computed from
@@ -48,7 +48,7 @@ pub record SolvePrinted (held : Held) (names : Names) (l : Lots) (sent : List �
   -- with one lot it is the run of one worker alone
   pub alone : worker_count l ≡ 1 → journal ≡ solo tables a0 l
   -- every state is a feasible assignment, and the kept cost there is its objective
-  pub sound : (j : ℕ) → j ≤ length journal → IsSound tables a0 journal j
+  pub sound : (j : ℕ) → j ≤ length journal → IsSoundAt tables a0 journal j
   -- the first of least cost among these states is at this place; the lines tell its parts, the bound's total, the
   -- place, the state and the drawing, and then the journal
   pub best_at : ℕ

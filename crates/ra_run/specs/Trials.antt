@@ -9,7 +9,7 @@ use Rattle.ra_model.specs.declared.raw.Tables.{Tables}
 use Rattle.ra_report.specs.Summaries.{summary_text}
 use Rattle.ra_trial.specs.Instances.{IsTrial, start_list}
 use Rattle.ra_trial.specs.Numbers.{trial_word}
-use Rattle.ra_trial.specs.Trials.{model_text, start_text}
+use Rattle.ra_trial.specs.Trials.{trial_model_text, start_text}
 use Rattle.ra_jobs.specs.declared.refusals.Refusal.{Refusal}
 use Rattle.ra_jobs.specs.declared.refusals.Refusal.TheVariants as refusal
 use Rattle.ra_jobs.specs.declared.status.Status.TheVariants.{Done, WriteFault, NoMemory}
@@ -25,7 +25,7 @@ pub record HoldsTexts (held : Held) (of_model of_start : List ℕ) : Type 0 wher
 
 -- the files hold the two texts of a number
 abbrev pub HoldsTrial : ℕ → Held → Type 0
-HoldsTrial number held = HoldsTexts held (model_text number) start_text
+HoldsTrial number held = HoldsTexts held (trial_model_text number) start_text
 
 -- these are the instance of a number and its start
 pub record IsTrialStart (number : ℕ) (i : Tables) (a0 : List Machine) : Type 0 where

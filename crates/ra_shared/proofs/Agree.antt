@@ -7,7 +7,7 @@ use Rattle.ra_model.specs.Numbers.{machine_count}
 use Rattle.ra_moves.specs.declared.steps.Step.{Step}
 use Rattle.ra_guards.specs.Order.{IsKnown}
 use Rattle.ra_guards.specs.Versions.{touches}
-use Rattle.ra_shared.specs.Numbers.{guard_count, number_of, touches_number}
+use Rattle.ra_shared.specs.Numbers.{guard_count, number_of_guard, touches_number}
 use Rattle.ra_shared.specs.Laws.{TouchesAgree, NoneAbove}
 
 -- a number below the machine count is a machine's
@@ -29,7 +29,7 @@ none_above i made n le = cond-false (nat_lt n (machine_count i)) _ _ (le-ltb n (
     ∙ cond-false (nat_lt n (guard_count i)) _ _ (le-ltb n (guard_count i) le)
 
 pub touches_agree : TouchesAgree
-unfolding number_of IsKnown guard_count
+unfolding number_of_guard IsKnown guard_count
 touches_agree i made (guard.Machine m) known = of_machine i made m.0 known
 touches_agree i made (guard.Service s) known =
     let back : (machine_count i + s.0) - machine_count i ≡ s.0 = omega arith in

@@ -12,15 +12,15 @@ use Rattle.ra_turn.specs.declared.pass.Pass.{Pass}
 use Rattle.ra_turn.specs.declared.sight.Grip.{Grip}
 use Rattle.ra_turn.specs.declared.story.Story.{Ghosts}
 use Rattle.ra_turn.specs.Notes.{grip, without, touching, OnlyBy, IsVersion}
-use Rattle.ra_turn.specs.Passes.{seen_by, made_by, grips_of, news_of, IsPassOf, IsIdle, IsSamePass, KnowsSame}
+use Rattle.ra_turn.specs.Passes.{seen_by, notes_made_by, grips_of, news_of, IsPassOf, IsIdle, IsSamePass, KnowsSame}
 use Rattle.ra_turn.proofs.Lists.{prefix_longer}
 use Rattle.ra_shared.specs.declared.books.Book.{Book}
 use Rattle.ra_shared.specs.declared.books.Opening.{Opening}
 use Rattle.ra_shared.specs.declared.shared.Shared.{Shared}
 use Rattle.ra_shared.specs.Books.{entry_touches, committed_in, KnowsOwn, IsCommitOf, IsLegalSeen}
-use Rattle.ra_shared.specs.Holding.{then_version, MayHandIn, IsHandedIn, IsHeldUp}
-use Rattle.ra_shared.specs.Numbers.{number_of}
-use Rattle.ra_shared.specs.Shares.{start_of, IsCommitted, MayCommit, HasCommitted}
+use Rattle.ra_shared.specs.Holding.{then_version, PassMayHandIn, IsHandedIn, IsHeldUp}
+use Rattle.ra_shared.specs.Numbers.{number_of_guard}
+use Rattle.ra_shared.specs.Shares.{start_of, IsCommitted, PassMayCommit, HasCommitted}
 use Rattle.ra_shared.proofs.Gripping.{without_last}
 use Rattle.ra_shared.proofs.Handing.{answered, version_then}
 use Rattle.ra_shared.proofs.Own.{later_commit, prefix_length}
@@ -54,12 +54,13 @@ module _ {g : Ghosts Book Entry Opening} (s : Shared) (plan : Plan) (p q r n : P
   ready_back (Some reply) done none = done.ready.0
   ready_back None done none = none.ready.0
 
-  pub longer_back : (reply : Option Reply) → KnowsOwn q.number (seen_by q) (made_by q) →
+  pub longer_back : (reply : Option Reply) → KnowsOwn q.number (seen_by q) (notes_made_by q) →
       IsCommitOf (start_of s) (seen_by q) q.number plan → IfSome reply (IsHandedIn s plan q r) →
       IfNone reply (IsHeldUp s plan q r) → length (seen_by q) ≤ length (seen_by r)
   longer_back (Some reply) own commit done none =
       prefix_length (seen_by q) (seen_by r)
-      (prefix_then (start_of s) q.number plan (seen_by q) (made_by q) (seen_by r) (made_by r) reply own commit
+      (prefix_then (start_of s) q.number plan (seen_by q) (notes_made_by q) (seen_by r) (notes_made_by r) reply own
+      commit
       done.committed)
   longer_back None own commit done none = (let same = ap length none.same.0 in omega arith)
 
@@ -67,24 +68,25 @@ module _ {g : Ghosts Book Entry Opening} (s : Shared) (plan : Plan) (p q r n : P
   pub version_back : (x : Guard) (v : ℕ) → IsKnown (start_of s).inst.tables x →
       writes (start_of s).inst.tables plan.mv.steps x ≡ true
       → (reply : Option Reply) (S : Type 0) → IfSome reply (λ _. S) →
-      (S → OnlyBy (touching entry_touches (start_of s) (number_of (start_of s).inst.tables x))
+      (S → OnlyBy (touching entry_touches (start_of s) (number_of_guard (start_of s).inst.tables x))
       (λ (e : Entry). e.worker) r.number (seen_by r) v)
       → IfSome reply (IsHandedIn s plan q r) → IfNone reply (IsHeldUp s plan q r) →
-      KnowsOwn q.number (seen_by q) (made_by q) → IsCommitOf (start_of s) (seen_by q) q.number plan →
+      KnowsOwn q.number (seen_by q) (notes_made_by q) → IsCommitOf (start_of s) (seen_by q) q.number plan →
       v ≤ length (seen_by q)
-      → IsVersion (touching entry_touches (start_of s) (number_of (start_of s).inst.tables x)) (seen_by q) v
-      → IsVersion (touching entry_touches (start_of s) (number_of (start_of s).inst.tables x)) (seen_by r)
+      → IsVersion (touching entry_touches (start_of s) (number_of_guard (start_of s).inst.tables x)) (seen_by q) v
+      → IsVersion (touching entry_touches (start_of s) (number_of_guard (start_of s).inst.tables x)) (seen_by r)
       (then_version reply v (length (seen_by r)))
   version_back x v known written (Some reply) S shut only done none own commit le before =
-      version_then (start_of s) q.number plan x known written (seen_by q) (made_by q) (seen_by r) (made_by r) reply v
+      version_then (start_of s) q.number plan x known written (seen_by q) (notes_made_by q) (seen_by r)
+      (notes_made_by r) reply v
       own commit done.committed le before
-      (subst (λ (w : ℕ). OnlyBy (touching entry_touches (start_of s) (number_of (start_of s).inst.tables x))
+      (subst (λ (w : ℕ). OnlyBy (touching entry_touches (start_of s) (number_of_guard (start_of s).inst.tables x))
       (λ (e : Entry). e.worker) w (seen_by r) v) done.number (only shut))
   version_back x v known written None S shut only done none own commit le before =
-      subst (IsVersion (touching entry_touches (start_of s) (number_of (start_of s).inst.tables x)) (seen_by r))
+      subst (IsVersion (touching entry_touches (start_of s) (number_of_guard (start_of s).inst.tables x)) (seen_by r))
       (sym (none_version v (length (seen_by r))))
       (subst (λ (xs : List Entry).
-      IsVersion (touching entry_touches (start_of s) (number_of (start_of s).inst.tables x)) xs v)
+      IsVersion (touching entry_touches (start_of s) (number_of_guard (start_of s).inst.tables x)) xs v)
       (sym none.same.0) before)
 
   module _ (guard v : ℕ) (same : IsSamePass p q) (knows : KnowsSame p q)
@@ -97,13 +99,15 @@ module _ {g : Ghosts Book Entry Opening} (s : Shared) (plan : Plan) (p q r n : P
     still_of : IsPassOf s.turn r → IsPassOf s.turn n
     still_of of = (back.0 ∙ of.0, back.3 ∙ of.1)
 
-    moved : (reply : Reply) → IsCommitted (start_of s) q.number plan.q (seen_by q) (made_by q) (seen_by r) (made_by r)
-        reply → IsCommitted (start_of s) p.number plan.q (seen_by p) (made_by p) (seen_by n) (made_by n) reply
+    moved : (reply : Reply) →
+        IsCommitted (start_of s) q.number plan.q (seen_by q) (notes_made_by q) (seen_by r) (notes_made_by r)
+        reply → IsCommitted (start_of s) p.number plan.q (seen_by p) (notes_made_by p) (seen_by n) (notes_made_by n)
+        reply
     moved reply d = record {
       history = d.history;
       later = subst (λ (xs : List Entry). IsPrefix xs d.history) knows.0 d.later;
       own = subst (λ (ms : List Entry). KnowsOwn p.number d.history ms) knows.1
-          (subst (λ (w : ℕ). KnowsOwn w d.history (made_by q)) same.2 d.own);
+          (subst (λ (w : ℕ). KnowsOwn w d.history (notes_made_by q)) same.2 d.own);
       legal = d.legal;
       journal = still.0 ∙ (d.journal ∙ ap (λ (w : ℕ). (committed_in (start_of s) d.history w plan.q).journal) same.2);
       answer = d.answer ∙ ap (λ (w : ℕ). (committed_in (start_of s) d.history w plan.q).reply) same.2;
@@ -136,7 +140,7 @@ module _ {g : Ghosts Book Entry Opening} (s : Shared) (plan : Plan) (p q r n : P
         written = h.newer.written;
         above = h.newer.above;
         told = subst (λ (ks : List Grip).
-            Contains ks (grip (number_of (start_of s).inst.tables h.newer.guard) h.newer.version))
+            Contains ks (grip (number_of_guard (start_of s).inst.tables h.newer.guard) h.newer.version))
             (sym news) h.newer.told;
       };
     }
@@ -144,7 +148,7 @@ module _ {g : Ghosts Book Entry Opening} (s : Shared) (plan : Plan) (p q r n : P
 -- a plan that is handed in by a pass at rest
 
 module _ {g : Ghosts Book Entry Opening} (s : Shared) (plan : Plan) (p q : Pass Book Entry Opening g) where
-  pub may_hand_in : MayCommit s plan p → MayHandIn s plan p
+  pub may_hand_in : PassMayCommit s plan p → PassMayHandIn s plan p
   may_hand_in may = record {
     ready = may.rest.ready;
     left = may.left;
@@ -152,7 +156,7 @@ module _ {g : Ghosts Book Entry Opening} (s : Shared) (plan : Plan) (p q : Pass 
     commit = may.commit;
   }
 
-  pub may_still : MayCommit s plan p → IsHeldUp s plan p q → MayHandIn s plan q
+  pub may_still : PassMayCommit s plan p → IsHeldUp s plan p q → PassMayHandIn s plan q
   may_still may up = record {
     ready = up.ready;
     left = omega (arith, may.left, up.same.2);
@@ -161,7 +165,7 @@ module _ {g : Ghosts Book Entry Opening} (s : Shared) (plan : Plan) (p q : Pass 
         (subst (λ (xs : List Entry). IsCommitOf (start_of s) xs p.number plan) (sym up.same.0) may.commit);
   }
 
-  pub has_committed : (reply : Reply) → MayCommit s plan p → KnowsOwn q.number (seen_by q) (made_by q) →
+  pub has_committed : (reply : Reply) → PassMayCommit s plan p → KnowsOwn q.number (seen_by q) (notes_made_by q) →
       IsHandedIn s plan p q reply → HasCommitted s plan p q reply
   has_committed reply may own done = record {
     rest = record {
@@ -171,7 +175,8 @@ module _ {g : Ghosts Book Entry Opening} (s : Shared) (plan : Plan) (p q : Pass 
       legal = done.legal;
     };
     turn = (done.number, done.left);
-    seen = prefix_then (start_of s) p.number plan (seen_by p) (made_by p) (seen_by q) (made_by q) reply may.rest.own
+    seen = prefix_then (start_of s) p.number plan (seen_by p) (notes_made_by p) (seen_by q) (notes_made_by q) reply
+        may.rest.own
         may.commit done.committed;
     committed = done.committed;
   }
@@ -185,10 +190,13 @@ module _ {g : Ghosts Book Entry Opening} (s : Shared) (plan : Plan) (p q : Pass 
     left = omega (arith, done.left, up.same.2);
     grips = done.grips ∙ up.grips;
     legal = done.legal;
-    committed = subst (λ (w : ℕ). IsCommitted (start_of s) w plan.q (seen_by p) (made_by p) (seen_by r) (made_by r)
+    committed = subst (λ (w : ℕ). IsCommitted (start_of s) w plan.q (seen_by p) (notes_made_by p) (seen_by r)
+        (notes_made_by r)
         reply) up.number
-        (subst (λ (ms : List Entry). IsCommitted (start_of s) q.number plan.q (seen_by p) ms (seen_by r) (made_by r)
+        (subst (λ (ms : List Entry). IsCommitted (start_of s) q.number plan.q (seen_by p) ms (seen_by r)
+        (notes_made_by r)
         reply) up.same.1
-        (subst (λ (xs : List Entry). IsCommitted (start_of s) q.number plan.q xs (made_by q) (seen_by r) (made_by r)
+        (subst (λ (xs : List Entry). IsCommitted (start_of s) q.number plan.q xs (notes_made_by q) (seen_by r)
+        (notes_made_by r)
         reply) up.same.0 done.committed));
   }

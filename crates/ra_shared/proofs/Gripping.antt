@@ -31,7 +31,7 @@ use Rattle.ra_turn.specs.Notes.{grip, without, touching, TouchedAt, OnlyBy, Shut
 use Rattle.ra_shared.specs.declared.books.Opening.{Opening}
 use Rattle.ra_shared.specs.Books.{entry_touches}
 use Rattle.ra_shared.specs.Holding.{number_at, HoldsFirst, HoldsWrites}
-use Rattle.ra_shared.specs.Numbers.{guard_count, number_of, touches_number}
+use Rattle.ra_shared.specs.Numbers.{guard_count, number_of_guard, touches_number}
 use Rattle.ra_shared.proofs.Agree.{none_above, touches_agree}
 use Rattle.ra_shared.proofs.Own.{entry_get, get_entry}
 
@@ -43,14 +43,15 @@ written_known i steps g limits within written =
     guard_known i steps g limits within (or_left (writes i steps g) (reads i steps g) written)
 
 -- its number is below the guard count
-pub number_below : (i : Tables) (g : Guard) → IsKnown i g → number_of i g < guard_count i
-unfolding IsKnown number_of guard_count
+pub number_below : (i : Tables) (g : Guard) → IsKnown i g → number_of_guard i g < guard_count i
+unfolding IsKnown number_of_guard guard_count
 number_below i (guard.Machine m) known = omega (arith, known)
 number_below i (guard.Service s) known = omega (arith, known)
 
 -- an earlier guard has a smaller number
-before_less : (i : Tables) (g h : Guard) → IsKnown i g → is_before g h ≡ true → number_of i g < number_of i h
-unfolding IsKnown number_of is_before
+before_less : (i : Tables) (g h : Guard) → IsKnown i g → is_before g h ≡ true →
+    number_of_guard i g < number_of_guard i h
+unfolding IsKnown number_of_guard is_before
 before_less i (guard.Machine m) (guard.Machine n) known before = ltb-true m.0 n.0 before
 before_less i (guard.Machine m) (guard.Service s) known before = omega (arith, known)
 before_less i (guard.Service s) (guard.Machine m) known before = absurd (cc before)
@@ -59,11 +60,11 @@ before_less i (guard.Service s) (guard.Service t) known before = omega (arith, l
 -- the guard whose number is touched
 pub record IsTouchedGuard (i : Tables) (made : Option (List Step)) (n : ℕ) : Type 0 where
   pub guard : Guard
-  pub number : number_of i guard ≡ n
+  pub number : number_of_guard i guard ≡ n
   pub touched : touches i made guard ≡ true
 
-number_back : (i : Tables) (n : ℕ) → number_of i (guard_of (machine_count i) n) ≡ n
-unfolding number_of
+number_back : (i : Tables) (n : ℕ) → number_of_guard i (guard_of (machine_count i) n) ≡ n
+unfolding number_of_guard
 number_back i n = ⊎_elim
     (λ (below : n < machine_count i). rw (guard_below (machine_count i) n below) refl)
     (λ (above : machine_count i ≤ n). rw (guard_above (machine_count i) n above) (omega arith))
@@ -154,8 +155,12 @@ module _ (i : Tables) (steps : List Step) (guards : List Guard) (q : ℕ) (limit
   unfolding guard_at
   holds_all k grips holds all = record {
     each = λ g written. (let has = (are.exactly g).1 written in
-        let h = holds.held has.0 (let b = has.1 in omega arith) in
-        (h.0, h.1, subst (λ (x : Guard). Contains grips (grip (number_of i x) h.0)) (listed has.0 g has.1 has.2) h.2));
+        let h = holds.held has.0 (let b = has.1 in omega arith) in (
+          h.0,
+          h.1,
+          subst (λ (x : Guard). Contains grips (grip (number_of_guard i x) h.0)) (listed has.0 g has.1 has.2)
+              h.2,
+        ));
   }
     where
       listed : (j : ℕ) (g : Guard) → j < length guards → get_or guards j g ≡ g → guard_at guards j ≡ g
@@ -188,7 +193,7 @@ module _ (o : Opening) (h : List Entry) (g : Guard) (known : IsKnown o.inst.tabl
   i = o.inst.tables
 
   abbrev pub touched_by : Entry → Bool
-  touched_by = touching entry_touches o (number_of o.inst.tables g)
+  touched_by = touching entry_touches o (number_of_guard o.inst.tables g)
 
   same_touch : (j : ℕ) → touches i (made_at (made_in h) j) g ≡ touched_by (entry_at h j)
   same_touch j = ap (λ (m : Option (List Step)). touches i m g) (made_place h j)
@@ -232,6 +237,6 @@ pub are_held : (o : Opening) (h : List Entry) (w q : ℕ) (steps : List Step) (g
 are_held o h w q steps grips limits within holds shut before = record {
   each = λ g written. (let held = holds.each g written in
       let only = All-contains (λ k. OnlyBy (touching entry_touches o k.guard) (λ (e : Entry). e.worker) w h k.version)
-      grips (grip (number_of o.inst.tables g) held.0) shut held.2 in
+      grips (grip (number_of_guard o.inst.tables g) held.0) shut held.2 in
       held_version o h g (written_known o.inst.tables steps g limits within written) w q held.0 held.1 only before);
 }

@@ -47,7 +47,7 @@ use Rattle.ra_shared.specs.declared.books.Opening.{Opening}
 use Rattle.ra_shared.specs.Books.{entry_touches, committed_in, KnowsOwn, IsCommitOf, IsStartOf, IsLegalSeen}
 use Rattle.ra_shared.specs.Holding.{HoldsWrites, then_version}
 use Rattle.ra_shared.specs.Laws.{RecordedStands, StaleStands}
-use Rattle.ra_shared.specs.Numbers.{guard_count, number_of, touches_number}
+use Rattle.ra_shared.specs.Numbers.{guard_count, number_of_guard, touches_number}
 use Rattle.ra_shared.specs.Shares.{IsCommitted}
 use Rattle.ra_shared.proofs.Agree.{touches_agree}
 use Rattle.ra_shared.proofs.Gripping.{holds_touched}
@@ -230,13 +230,13 @@ module _ (o : Opening) (w : ℕ) (plan : Plan) (g : Guard) (known : IsKnown o.in
     (written : writes o.inst.tables plan.mv.steps g ≡ true) where
   pub version_then : (seen mine seen' mine' : List Entry) (reply : Reply) (v : ℕ) → KnowsOwn w seen mine →
       IsCommitOf o seen w plan → IsCommitted o w plan.q seen mine seen' mine' reply
-      → v ≤ length seen → IsVersion (touching entry_touches o (number_of o.inst.tables g)) seen v →
-      OnlyBy (touching entry_touches o (number_of o.inst.tables g)) (λ (e : Entry). e.worker) w seen' v
-      → IsVersion (touching entry_touches o (number_of o.inst.tables g)) seen'
+      → v ≤ length seen → IsVersion (touching entry_touches o (number_of_guard o.inst.tables g)) seen v →
+      OnlyBy (touching entry_touches o (number_of_guard o.inst.tables g)) (λ (e : Entry). e.worker) w seen' v
+      → IsVersion (touching entry_touches o (number_of_guard o.inst.tables g)) seen'
       (then_version (Some reply) v (length seen'))
   unfolding made_by
   version_then seen mine seen' mine' reply v own commit done le before only =
-      let touched : Entry → Bool = touching entry_touches o (number_of o.inst.tables g) in
+      let touched : Entry → Bool = touching entry_touches o (number_of_guard o.inst.tables g) in
       let h = done.history in
       let later = later_commit w seen h mine done.later own done.own o.inst.tables o.a0.items o.lots plan commit in
       let whole = λ (p : IsPrefix h seen'). version_whole touched (λ (e : Entry). e.worker) w seen h mine v v done.later

@@ -20,17 +20,18 @@ use Rattle.ra_shared.specs.declared.books.Book.{Book}
 use Rattle.ra_shared.specs.declared.books.Opening.{Opening}
 use Rattle.ra_shared.specs.declared.shared.Shared.{Shared}
 use Rattle.ra_shared.specs.Books.{IsCommitOf, IsLegalSeen}
-use Rattle.ra_shared.specs.Holding.{number_at, HoldsFirst, HoldsWrites, MayHandIn, IsHandedIn, IsHeldUp}
-use Rattle.ra_shared.specs.Numbers.{guard_count, number_of}
+use Rattle.ra_shared.specs.Holding.{number_at, HoldsFirst, HoldsWrites, PassMayHandIn, IsHandedIn, IsHeldUp}
+use Rattle.ra_shared.specs.Numbers.{guard_count, number_of_guard}
 use Rattle.ra_shared.specs.Shares.{start_of}
 use Rattle.ra_shared.proofs.Back.{grips_back}
 use Rattle.ra_shared.proofs.Gripping.{number_below, listed_known, listed_written, holds_more, holds_all}
 
 -- the number of guard k, as it is found
 pub number_found : (s : Shared) (guards : List Guard) (k n : ℕ) (guard : Guard) → guard ≡ guard_at guards k →
-    n ≡ number_of s.inst.now.tables guard → n ≡ number_at (start_of s).inst.tables guards k
+    n ≡ number_of_guard s.inst.now.tables guard → n ≡ number_at (start_of s).inst.tables guards k
 number_found s guards k n guard is found =
-    found ∙ (ap (λ (x : Instance). number_of x.tables guard) s.instance ∙ ap (number_of (start_of s).inst.tables) is)
+    found ∙ (ap (λ (x : Instance). number_of_guard x.tables guard) s.instance
+    ∙ ap (number_of_guard (start_of s).inst.tables) is)
 
 module _ {g : Ghosts Book Entry Opening} (s : Shared) (plan : Plan) (guards : List Guard) (k : ℕ)
     (p : Pass Book Entry Opening g) where
@@ -44,11 +45,11 @@ module _ {g : Ghosts Book Entry Opening} (s : Shared) (plan : Plan) (guards : Li
 
   -- the pass p, now q, has locked it too, at version v
   pub record HoldsNext (v : ℕ) (q : Pass Book Entry Opening g) : Type 0 where
-    pub may : MayHandIn s plan q
+    pub may : PassMayHandIn s plan q
     pub held : HoldsFirst (start_of s).inst.tables guards plan.q (k + 1) (grips_of q)
     pub reached : v ≤ length (seen_by q)
 
-  module _ (may : MayHandIn s plan p) (are : AreWrites (start_of s).inst.tables plan.mv.steps guards)
+  module _ (may : PassMayHandIn s plan p) (are : AreWrites (start_of s).inst.tables plan.mv.steps guards)
       (held : HoldsFirst (start_of s).inst.tables guards plan.q k (grips_of p)) where
     within : AreWithin (start_of s).inst.tables plan.mv.steps
     within = planned_within (start_of s).inst.tables (start_of s).a0.items (start_of s).lots (seen_by p) p.number plan

@@ -4,7 +4,7 @@ use Rattle.ra_journal.specs.declared.entries.Entry.{Entry}
 use Rattle.ra_turn.specs.declared.pass.Pass.{Pass}
 use Rattle.ra_turn.specs.declared.story.Story.{Ghosts}
 use Rattle.ra_turn.specs.Notes.{by}
-use Rattle.ra_turn.specs.Passes.{IsFresh}
+use Rattle.ra_turn.specs.Passes.{IsNewPass}
 use Rattle.ra_shared.specs.declared.books.Book.{Book}
 use Rattle.ra_shared.specs.declared.books.Opening.{Opening}
 use Rattle.ra_shared.specs.declared.shared.Shared.{Shared}
@@ -15,7 +15,7 @@ legal_none : (o : Opening) → IsLegalSeen o []
 legal_none o = record { each = λ j lt. absurd (omega arith) }
 
 module _ {g : Ghosts Book Entry Opening} where
-  pub new_pass : (s : Shared) (n : ℕ) (p : Pass Book Entry Opening g) → IsFresh s.turn 4000000 n p → IsNew s n p
+  pub new_pass : (s : Shared) (n : ℕ) (p : Pass Book Entry Opening g) → IsNewPass s.turn 4000000 n p → IsNew s n p
   new_pass s n p fresh = record {
     rest = record {
       ready = (fresh.of, fresh.idle);

@@ -18,7 +18,7 @@ use Rattle.ra_turn.specs.Notes.{grip, touching, TouchedAt, IsNews, ShutBy}
 use Rattle.ra_shared.specs.declared.books.Opening.{Opening}
 use Rattle.ra_shared.specs.Books.{entry_touches, committed_in, KnowsOwn, IsCommitOf, IsLegalSeen, IsStartOf}
 use Rattle.ra_shared.specs.Holding.{HoldsWrites}
-use Rattle.ra_shared.specs.Numbers.{number_of}
+use Rattle.ra_shared.specs.Numbers.{number_of_guard}
 use Rattle.ra_shared.specs.Shares.{IsCommitted}
 use Rattle.ra_shared.proofs.Gripping.{written_known, are_held, newer_there}
 use Rattle.ra_shared.proofs.Handing.{MayGive, answered, may_give, may_give_refused, only_stale}
@@ -96,15 +96,15 @@ turned_refused o p w v u h found xs plan kept opened number worker here start le
 pub turned_stale : (o p : Opening) (w u : ℕ) (h found xs : List Entry) (plan : Plan) (g : Guard) (version : ℕ) → p ≡ o →
     u ≡ w → found ≡ h → IsStartOf p → IsLegalSeen p h → IsCommitOf o h w plan
     → writes o.inst.tables plan.mv.steps g ≡ true → plan.q < version →
-    IsNews entry_touches o found (grip (number_of o.inst.tables g) version) →
+    IsNews entry_touches o found (grip (number_of_guard o.inst.tables g) version) →
     xs ≡ (committed_in p h u plan.q).journal → xs ≡ found
 turned_stale o p w u h found xs plan g version opened worker here start legal commit written above news is =
     let start' : IsStartOf o = subst IsStartOf opened start in
     let legal' : IsLegalSeen o h = subst (λ (x : Opening). IsLegalSeen x h) opened legal in
     let within : AreWithin o.inst.tables plan.mv.steps =
     planned_within o.inst.tables o.a0.items o.lots h w plan start' legal' commit in
-    let there : TouchedAt (touching entry_touches o (number_of o.inst.tables g)) h (version - 1) =
-    subst (λ (ys : List Entry). TouchedAt (touching entry_touches o (number_of o.inst.tables g)) ys (version - 1))
+    let there : TouchedAt (touching entry_touches o (number_of_guard o.inst.tables g)) h (version - 1) =
+    subst (λ (ys : List Entry). TouchedAt (touching entry_touches o (number_of_guard o.inst.tables g)) ys (version - 1))
     here news.1 in
     only_stale o h xs w plan commit
     (λ none. newer_there o h g (written_known o.inst.tables plan.mv.steps g start'.limits within written) plan.q version

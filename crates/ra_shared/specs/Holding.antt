@@ -16,17 +16,17 @@ use Rattle.ra_turn.specs.declared.pass.Pass.{Pass}
 use Rattle.ra_turn.specs.declared.sight.Grip.{Grip}
 use Rattle.ra_turn.specs.declared.story.Story.{Ghosts}
 use Rattle.ra_turn.specs.Notes.{grip}
-use Rattle.ra_turn.specs.Passes.{seen_by, made_by, grips_of, IsReady, KnowsSame, WillSee}
+use Rattle.ra_turn.specs.Passes.{seen_by, notes_made_by, grips_of, IsReady, KnowsSame, WillSee}
 use Rattle.ra_shared.specs.declared.books.Book.{Book}
 use Rattle.ra_shared.specs.declared.books.Opening.{Opening}
 use Rattle.ra_shared.specs.declared.shared.Shared.{Shared}
 use Rattle.ra_shared.specs.Books.{IsCommitOf, IsLegalSeen}
-use Rattle.ra_shared.specs.Numbers.{number_of}
+use Rattle.ra_shared.specs.Numbers.{number_of_guard}
 use Rattle.ra_shared.specs.Shares.{start_of, IsCommitted}
 
 -- the number of guard k of a list
 abbrev pub number_at : Tables → List Guard → ℕ → ℕ
-number_at i guards k = number_of i (guard_at guards k)
+number_at i guards k = number_of_guard i (guard_at guards k)
 
 -- the first k guards of a list are locked, each at a version of at most q, and all guards that are locked come before
 -- the rest
@@ -40,7 +40,7 @@ pub record HoldsFirst (i : Tables) (guards : List Guard) (q k : ℕ) (grips : Li
 -- each write guard of a move is locked, at a version of at most q
 pub record HoldsWrites (i : Tables) (steps : List Step) (q : ℕ) (grips : List Grip) : Type 0 where
   pub each : (g : Guard) → writes i steps g ≡ true
-      → (v : ℕ) × (v ≤ q) × Contains grips (grip (number_of i g) v)
+      → (v : ℕ) × (v ≤ q) × Contains grips (grip (number_of_guard i g) v)
 
 -- the version of a write guard of a move after an answer: the number of entries if the move was done, and else what it
 -- was before
@@ -50,7 +50,7 @@ then_version _ version seen = version
 
 module _ {g : Ghosts Book Entry Opening} where
   -- the pass may hand in the plan
-  pub record MayHandIn (s : Shared) (plan : Plan) (p : Pass Book Entry Opening g) : Type 0 where
+  pub record PassMayHandIn (s : Shared) (plan : Plan) (p : Pass Book Entry Opening g) : Type 0 where
     pub ready : IsReady s.turn p
     pub left : 0 < p.left
     pub legal : IsLegalSeen (start_of s) (seen_by p)
@@ -65,22 +65,22 @@ module _ {g : Ghosts Book Entry Opening} where
     pub grips : grips_of q ≡ grips_of p
     pub legal : IsLegalSeen (start_of s) (seen_by q)
     pub committed :
-        IsCommitted (start_of s) p.number plan.q (seen_by p) (made_by p) (seen_by q) (made_by q)
+        IsCommitted (start_of s) p.number plan.q (seen_by p) (notes_made_by p) (seen_by q) (notes_made_by q)
         reply
 
   -- The next turn of the pass shows an entry at place plan.q or later that touched a write guard of the plan's move
-  pub record IsNewer (i : Tables) (plan : Plan) (p : Pass Book Entry Opening g) : Type 0 where
+  pub record WillShowNewer (i : Tables) (plan : Plan) (p : Pass Book Entry Opening g) : Type 0 where
     pub guard : Guard
     pub version : ℕ
     pub written : writes i plan.mv.steps guard ≡ true
     pub above : plan.q < version
-    pub told : WillSee p (number_of i guard) version
+    pub told : WillSee p (number_of_guard i guard) version
 
   -- No guard has to be locked to hand in the plan: it is refused wherever it is recorded, so its entry touches nothing,
   -- or it will be found stale
   abbrev pub NeedsNoGuard : Opening → Plan → Pass Book Entry Opening g → Type 0
   NeedsNoGuard o plan p =
-      IsRefused o.inst.tables (allowed o.lots p.number plan.k) plan ⊎ IsNewer o.inst.tables plan p
+      IsRefused o.inst.tables (allowed o.lots p.number plan.k) plan ⊎ WillShowNewer o.inst.tables plan p
 
   -- What is known of the guards that are given to hand in the plan: they are the write guards of its move, and the pass
   -- has locked each. If none are given, none has to be locked
@@ -97,4 +97,4 @@ module _ {g : Ghosts Book Entry Opening} where
     pub number : q.number ≡ p.number
     pub same : KnowsSame p q
     pub grips : grips_of q ≡ grips_of p
-    pub newer : IsNewer (start_of s).inst.tables plan q
+    pub newer : WillShowNewer (start_of s).inst.tables plan q

@@ -14,14 +14,14 @@ use Rattle.ra_journal.specs.declared.replies.Reply.TheVariants.{Recorded, Stale}
 use Rattle.ra_journal.specs.Entries.{entry_at, made_by}
 use Rattle.ra_shared.specs.declared.books.Opening.{Opening}
 use Rattle.ra_shared.specs.Books.{KnowsOwn, IsCommitOf}
-use Rattle.ra_shared.specs.Numbers.{guard_count, number_of, touches_number}
+use Rattle.ra_shared.specs.Numbers.{guard_count, number_of_guard, touches_number}
 use Rattle.ra_shared.specs.Shares.{IsCommitted}
 
 -- an entry touches a guard exactly if it touches the guard's number
 abbrev pub TouchesAgree : Type 0
 TouchesAgree =
     (i : Tables) (made : Option (List Step)) (g : Guard) → IsKnown i g
-    → touches_number i made (number_of i g) ≡ touches i made g
+    → touches_number i made (number_of_guard i g) ≡ touches i made g
 
 -- from the guard count on no number is touched
 abbrev pub NoneAbove : Type 0

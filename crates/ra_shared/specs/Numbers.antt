@@ -12,9 +12,9 @@ unfoldable pub guard_count : Tables → ℕ
 guard_count i = machine_count i + service_count i
 
 -- machine m has the number m, and service s the machine count plus s
-unfoldable pub number_of : Tables → Guard → ℕ
-number_of i (guard.Machine m) = m.0
-number_of i (guard.Service s) = machine_count i + s.0
+unfoldable pub number_of_guard : Tables → Guard → ℕ
+number_of_guard i (guard.Machine m) = m.0
+number_of_guard i (guard.Service s) = machine_count i + s.0
 
 -- the entry's steps touch the guard with this number; from the guard count on there is no guard
 unfoldable pub touches_number : Tables → Option (List Step) → ℕ → Bool

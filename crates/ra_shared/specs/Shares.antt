@@ -6,7 +6,7 @@ use Rattle.ra_journal.specs.declared.entries.Entry.{Entry}
 use Rattle.ra_journal.specs.declared.replies.Reply.{Reply}
 use Rattle.ra_turn.specs.declared.pass.Pass.{Pass}
 use Rattle.ra_turn.specs.declared.story.Story.{Ghosts}
-use Rattle.ra_turn.specs.Passes.{opening_of, seen_by, made_by, grips_of, IsReady, Shut}
+use Rattle.ra_turn.specs.Passes.{opening_of, seen_by, notes_made_by, grips_of, IsReady, Shut}
 use Rattle.ra_shared.specs.declared.books.Book.{Book}
 use Rattle.ra_shared.specs.declared.books.Opening.{Opening}
 use Rattle.ra_shared.specs.declared.shared.Shared.{Shared}
@@ -37,7 +37,7 @@ module _ {g : Ghosts Book Entry Opening} where
   pub record IsAtRest (s : Shared) (p : Pass Book Entry Opening g) : Type 0 where
     pub ready : IsReady s.turn p
     pub free : grips_of p ≡ []
-    pub own : KnowsOwn p.number (seen_by p) (made_by p)
+    pub own : KnowsOwn p.number (seen_by p) (notes_made_by p)
     pub legal : IsLegalSeen (start_of s) (seen_by p)
 
   -- the pass n as `Shared::make` gives it
@@ -46,7 +46,7 @@ module _ {g : Ghosts Book Entry Opening} where
     pub number : p.number ≡ n
     pub left : p.left ≡ 4000000
     pub seen : seen_by p ≡ []
-    pub made : made_by p ≡ []
+    pub made : notes_made_by p ≡ []
 
   -- the pass n as `Shared::close` needs it
   pub record IsLast (s : Shared) (n : ℕ) (p : Pass Book Entry Opening g) : Type 0 where
@@ -68,7 +68,7 @@ pub record IsCommitted (o : Opening) (w q : ℕ) (seen mine seen' mine' : List E
 
 module _ {g : Ghosts Book Entry Opening} where
   -- a pass at rest, with a turn left, may hand in this plan
-  pub record MayCommit (s : Shared) (plan : Plan) (p : Pass Book Entry Opening g) : Type 0 where
+  pub record PassMayCommit (s : Shared) (plan : Plan) (p : Pass Book Entry Opening g) : Type 0 where
     pub rest : IsAtRest s p
     pub left : 0 < turns_left p
     pub commit : IsCommitOf (start_of s) (seen_by p) (worker_of p) plan
@@ -80,5 +80,5 @@ module _ {g : Ghosts Book Entry Opening} where
     pub turn : HasTakenTurn p q
     pub seen : IsPrefix (seen_by p) (seen_by q)
     pub committed :
-        IsCommitted (start_of s) (worker_of p) plan.q (seen_by p) (made_by p) (seen_by q)
-        (made_by q) reply
+        IsCommitted (start_of s) (worker_of p) plan.q (seen_by p) (notes_made_by p) (seen_by q)
+        (notes_made_by q) reply

@@ -1,7 +1,7 @@
 ghost use Rattle.std.specs.Prelude.{◌≡◌};
 ghost use Rattle.ra_guards.specs.Order.{IsKnown};
 ghost use Rattle.ra_shared.specs.Holding.{then_version};
-ghost use Rattle.ra_shared.specs.Numbers.{number_of};
+ghost use Rattle.ra_shared.specs.Numbers.{number_of_guard};
 
 use ra_base::Guard;
 use ra_journal::Reply;
@@ -9,10 +9,10 @@ use ra_model::Instance;
 use ra_moves::Verdict;
 
 /// The number of a guard in the lock: machine m has m, and service s the machine count plus s.
-#[tactic(auto, unfolding(crate::specs::Numbers::number_of, ra_guards::specs::Order::IsKnown))]
+#[tactic(auto, unfolding(crate::specs::Numbers::number_of_guard, ra_guards::specs::Order::IsKnown))]
 pub(crate) fn number_of(inst: &Instance, guard: Guard) -> u32
     requires { IsKnown inst.now.tables guard }
-    ensures { result ≡ number_of inst.now.tables guard }
+    ensures { result ≡ number_of_guard inst.now.tables guard }
 {
     match guard {
         Guard::Machine(m) => m.0,

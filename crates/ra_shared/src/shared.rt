@@ -39,14 +39,14 @@ impl<'a> Shared<'a> {
     ghost use Rattle.std.specs.Prelude.{◌≡◌, ◌-◌, ◌<◌, ◌≤◌, [], length, min, option_copied, All, IfOk, IfSome, IfNone};
     ghost use mathlib.Core.List.{IsPrefix};
     ghost use Rattle.ra_guards.specs.Order.{AreWrites};
-    ghost use Rattle.ra_turn.specs.Passes.{seen_by, made_by, grips_of, EachAt, IsPartOf};
+    ghost use Rattle.ra_turn.specs.Passes.{seen_by, notes_made_by, grips_of, EachAt, IsPartOf};
     ghost use Rattle.ra_journal.specs.Batches.{batch_from};
     ghost use Rattle.ra_journal.specs.Entries.{worker_count};
     ghost use Rattle.ra_journal.specs.Journals.{lots_in, entries_in};
     ghost use Rattle.ra_shared.specs.Books.{opening_of_journal};
     ghost use Rattle.ra_shared.specs.Copies.{CopiesUnlessQuiet};
-    ghost use Rattle.ra_shared.specs.Holding.{HoldsFirst, MayHandIn, IsHandedIn, KnowsGuards, IsHeldUp};
-    ghost use Rattle.ra_shared.specs.Shares.{start_of, turns_left, ShutsOut, HasTakenTurn, IsAtRest, IsNew, IsLast, MayCommit, HasCommitted};
+    ghost use Rattle.ra_shared.specs.Holding.{HoldsFirst, PassMayHandIn, IsHandedIn, KnowsGuards, IsHeldUp};
+    ghost use Rattle.ra_shared.specs.Shares.{start_of, turns_left, ShutsOut, HasTakenTurn, IsAtRest, IsNew, IsLast, PassMayCommit, HasCommitted};
 
     /// Shares a journal without entries, and gives each worker's pass, in order. At `Err` the journal was dropped.
     pub fn make(
@@ -90,7 +90,7 @@ impl<'a> Shared<'a> {
         ensures rest { IsAtRest self.now pass.new }
         ensures turn { HasTakenTurn pass.old pass.new }
         ensures seen { IsPrefix (seen_by pass.old) (seen_by pass.new) }
-        ensures made { made_by pass.new ≡ made_by pass.old }
+        ensures made { notes_made_by pass.new ≡ notes_made_by pass.old }
         ensures batch { batch.new ≡ batch_from (seen_by pass.new) at }
         ensures number { result ≡ min 1024 (length (seen_by pass.new) - at) }
     {
@@ -104,7 +104,7 @@ impl<'a> Shared<'a> {
     /// guard of its move was touched since it was planned. The worker locks the write guards of the move for that time.
     /// It locks none if the plan is known to be refused wherever it is recorded, since its entry touches nothing.
     pub fn commit<R: Wait>(&self, rt: &R, pass: &mut WorkerPass<'a>, plan: &Plan) -> Reply
-        requires { MayCommit self.now plan.now pass.old }
+        requires { PassMayCommit self.now plan.now pass.old }
         ensures { HasCommitted self.now plan.now pass.old pass.new result }
     {
         self.hand_in(rt, pass, plan, &mut Nothing)
@@ -120,7 +120,7 @@ impl<'a> Shared<'a> {
         plan: &Plan,
         batch: &mut Batch,
     ) -> Reply
-        requires { MayCommit self.now plan.now pass.old }
+        requires { PassMayCommit self.now plan.now pass.old }
         ensures done { HasCommitted self.now plan.now pass.old pass.new result }
         ensures batch { CopiesUnlessQuiet plan.now.q (seen_by pass.new) batch.new }
     {
@@ -135,7 +135,7 @@ impl<'a> Shared<'a> {
         plan: &Plan,
         copy: &mut C,
     ) -> Reply
-        requires { MayCommit self.now plan.now pass.old }
+        requires { PassMayCommit self.now plan.now pass.old }
         ensures done { HasCommitted self.now plan.now pass.old pass.new result }
         ensures copied { C.copied copy.new (seen_by pass.new) plan.now.q }
     {
@@ -160,7 +160,7 @@ impl<'a> Shared<'a> {
         k: u32,
         copy: &mut C,
     ) -> Option<Reply>
-        requires may { MayHandIn self.now plan.now pass.old }
+        requires may { PassMayHandIn self.now plan.now pass.old }
         requires guards { AreWrites (start_of self.now).inst.tables plan.now.mv.steps guards.now }
         requires held { HoldsFirst (start_of self.now).inst.tables guards.now plan.now.q k
             (grips_of pass.old) }
@@ -193,7 +193,7 @@ impl<'a> Shared<'a> {
         guards: Option<&WriteGuards>,
         copy: &mut C,
     ) -> Reply
-        requires may { MayHandIn self.now plan.now pass.old }
+        requires may { PassMayHandIn self.now plan.now pass.old }
         requires guards { KnowsGuards (start_of self.now) plan.now pass.old
             (option_copied guards) }
         ensures done { IsHandedIn self.now plan.now pass.old pass.new result }

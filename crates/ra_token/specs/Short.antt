@@ -4,7 +4,7 @@ use Rattle.std.specs.Int.{bit_at}
 use Rattle.ra_token.specs.Runs.{digit_at, is_blank}
 
 -- sixty-four numbers side by side
-pub record HasLanes (lanes : List ℕ) (f : ℕ → ℕ) : Type 0 where
+pub record HasSixtyFourLanes (lanes : List ℕ) (f : ℕ → ℕ) : Type 0 where
   pub many : length lanes ≡ 64
   pub each : (k : ℕ) → k < 64 → slice_index lanes k ≡ f k
 

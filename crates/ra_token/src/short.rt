@@ -2,7 +2,7 @@ ghost use Rattle.std.specs.Prelude.{◌≡◌, ℕ, ◌+◌, ◌-◌, ◌*◌, �
 ghost use Rattle.std.specs.Int.{bit_at};
 ghost use Rattle.ra_token.specs.Runs.{is_blank};
 ghost use Rattle.ra_token.specs.Scan.{TakesRuns};
-ghost use Rattle.ra_token.specs.Short.{AreApart, AreShort, HasLanes, IsTidy, Tells, short_worth};
+ghost use Rattle.ra_token.specs.Short.{AreApart, AreShort, HasSixtyFourLanes, IsTidy, Tells, short_worth};
 ghost use Rattle.ra_token.specs.declared.scan.TheConstants.{BLOCK};
 
 use crate::scan::{BLOCK, is_blank, lowest, without};
@@ -16,7 +16,7 @@ pub const MOST_SHORT: usize = 32;
 #[inline(always)]
 fn load(bytes: &[u8], from: usize) -> u8x64
     requires { from + BLOCK ≤ length bytes.now }
-    ensures { HasLanes result (λ k. slice_index bytes.now (from + k)) }
+    ensures { HasSixtyFourLanes result (λ k. slice_index bytes.now (from + k)) }
 {
     u8x64::from_slice(&bytes[from..])
 }
@@ -24,7 +24,7 @@ fn load(bytes: &[u8], from: usize) -> u8x64
 /// As many digits 0.
 #[inline(always)]
 fn zeros() -> u8x64
-    ensures { HasLanes result (λ k. 48) }
+    ensures { HasSixtyFourLanes result (λ k. 48) }
 {
     u8x64::splat(b'0')
 }
@@ -32,7 +32,7 @@ fn zeros() -> u8x64
 /// The differences of two lists, with 0 if a difference is negative.
 #[inline(always)]
 fn less(left: u8x64, right: u8x64) -> u8x64
-    ensures { HasLanes result (λ k. slice_index left k - slice_index right k) }
+    ensures { HasSixtyFourLanes result (λ k. slice_index left k - slice_index right k) }
 {
     left.saturating_sub(right)
 }
@@ -40,7 +40,7 @@ fn less(left: u8x64, right: u8x64) -> u8x64
 /// These numbers as u16, which have room for sums.
 #[inline(always)]
 fn widened(lanes: u8x64) -> u16x64
-    ensures { HasLanes result (λ k. slice_index lanes k) }
+    ensures { HasSixtyFourLanes result (λ k. slice_index lanes k) }
 {
     lanes.cast::<u16>()
 }
@@ -48,7 +48,7 @@ fn widened(lanes: u8x64) -> u16x64
 /// Each number times a factor.
 #[inline(always)]
 fn times(lanes: u16x64, factor: u16) -> u16x64
-    ensures { HasLanes result (λ k. slice_index lanes k * factor % 2 ^ 16) }
+    ensures { HasSixtyFourLanes result (λ k. slice_index lanes k * factor % 2 ^ 16) }
 {
     lanes * u16x64::splat(factor)
 }
@@ -56,7 +56,7 @@ fn times(lanes: u16x64, factor: u16) -> u16x64
 /// The sums of two lists.
 #[inline(always)]
 fn plus(left: u16x64, right: u16x64) -> u16x64
-    ensures { HasLanes result (λ k. (slice_index left k + slice_index right k) % 2 ^ 16) }
+    ensures { HasSixtyFourLanes result (λ k. (slice_index left k + slice_index right k) % 2 ^ 16) }
 {
     left + right
 }
@@ -64,7 +64,8 @@ fn plus(left: u16x64, right: u16x64) -> u16x64
 /// The numbers with these ones, tens and hundreds.
 #[inline(always)]
 fn joined(ones: u8x64, tens: u8x64, hundreds: u8x64) -> [u16; 64]
-    ensures { HasLanes result (λ k. slice_index ones k + slice_index tens k * 10 + slice_index hundreds k * 100) }
+    ensures { HasSixtyFourLanes result
+        (λ k. slice_index ones k + slice_index tens k * 10 + slice_index hundreds k * 100) }
 {
     let low = plus(widened(ones), times(widened(tens), 10));
     plus(low, times(widened(hundreds), 100)).to_array()
@@ -76,7 +77,7 @@ fn joined(ones: u8x64, tens: u8x64, hundreds: u8x64) -> [u16; 64]
 fn short_values(bytes: &[u8], from: usize) -> [u16; 64]
     requires low { 2 ≤ from }
     requires there { from + BLOCK ≤ length bytes.now }
-    ensures { HasLanes result (λ k. short_worth bytes.now (from + k)) }
+    ensures { HasSixtyFourLanes result (λ k. short_worth bytes.now (from + k)) }
 {
     let before = load(bytes, from - 1);
     let ones = less(load(bytes, from), zeros());

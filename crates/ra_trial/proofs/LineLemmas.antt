@@ -9,7 +9,7 @@ use Rattle.std.specs.Fmt.{decimal}
 use Rattle.ra_base.specs.Listed.{Listed}
 use Rattle.ra_model_text.specs.Lines.{more_text, line_text, lines_text}
 use Rattle.ra_model_text.proofs.LineTexts.{lines_append, lines_one}
-use Rattle.ra_trial.specs.Lines.{listed, number_text, Adds}
+use Rattle.ra_trial.specs.Lines.{listed, spaced_number_text, AddsAtMost}
 
 -- the text from number k of a line on
 unfoldable pub text_from : ℕ → List ℕ → List ℕ
@@ -17,8 +17,8 @@ text_from zero ns = line_text ns
 text_from (suc k) ns = more_text ns
 
 -- one number and what is after it
-text_step : (k n : ℕ) (ns : List ℕ) → text_from k (n ∷ ns) ≡ number_text k n ++ text_from (suc k) ns
-unfolding text_from number_text line_text more_text
+text_step : (k n : ℕ) (ns : List ℕ) → text_from k (n ∷ ns) ≡ spaced_number_text k n ++ text_from (suc k) ns
+unfolding text_from spaced_number_text line_text more_text
 text_step zero n ns = refl
 text_step (suc k) n ns = refl
 
@@ -34,10 +34,10 @@ all_written (suc k) text whole e = e
 
 -- one more number
 pub more_written : (k : ℕ) (text after whole ns : List ℕ) (n d : ℕ) → k < length ns →
-    text ++ text_from k (drop k ns) ≡ whole → n ≡ get_or ns k d → after ≡ text ++ number_text k n →
+    text ++ text_from k (drop k ns) ≡ whole → n ≡ get_or ns k d → after ≡ text ++ spaced_number_text k n →
     after ++ text_from (k + 1) (drop (k + 1) ns) ≡ whole
 more_written k text after whole ns n d within before read e =
-    rw (add-one, e, read) (append_assoc text (number_text k (get_or ns k d)) (text_from (suc k) (drop (suc k) ns))
+    rw (add-one, e, read) (append_assoc text (spaced_number_text k (get_or ns k d)) (text_from (suc k) (drop (suc k) ns))
     ∙ (ap (λ (r : List ℕ). text ++ r) (sym (text_step k (get_or ns k d) (drop (suc k) ns)))
     ∙ (ap (λ (r : List ℕ). text ++ text_from k r) (sym (drop-cons ns k d within)) ∙ before)))
 
@@ -51,7 +51,7 @@ written k text after whole ns past before e =
 pub line_done : (k : ℕ) (before text after : Listed ℕ) (ns : List ℕ) → length ns ≤ k → k ≤ length ns →
     text.items ++ text_from k (drop k ns) ≡ before.items ++ line_text ns → length text.items ≤ length before.items + 11
     * k → text.room ≡ before.room → after.items ≡ text.items ++ 10 ∷ [] → after.room ≡ text.room →
-    Adds before after (line_text ns) (11 * length ns + 1)
+    AddsAtMost before after (line_text ns) (11 * length ns + 1)
 line_done k before text after ns past within so_far short room end end_room = record {
   items = written k text.items after.items (before.items ++ line_text ns) ns past so_far end;
   short = omega (arith, ap length end, length-append text.items (10 ∷ []));
@@ -60,8 +60,8 @@ line_done k before text after ns past within so_far short room end end_room = re
 
 -- a number after others, and the first
 pub pushed_later : (k n : ℕ) (before between after : Listed ℕ) → 0 < k → between.items ≡ before.items ++ 32 ∷ [] →
-    between.room ≡ before.room → Adds between after (decimal n) 10 → Adds before after (number_text k n) 11
-unfolding number_text
+    between.room ≡ before.room → AddsAtMost between after (decimal n) 10 → AddsAtMost before after (spaced_number_text k n) 11
+unfolding spaced_number_text
 pushed_later zero n before between after later space same digits = absurd (omega (arith, later))
 pushed_later (suc k) n before between after later space same digits = record {
   items = digits.items ∙ (ap (λ (t : List ℕ). t ++ decimal n) space ∙ append_assoc before.items (32 ∷ []) (decimal n));
@@ -71,8 +71,8 @@ pushed_later (suc k) n before between after later space same digits = record {
 }
 
 pub pushed_first : (k n : ℕ) (before between after : Listed ℕ) → k ≤ 0 → between ≡ before →
-    Adds between after (decimal n) 10 → Adds before after (number_text k n) 11
-unfolding number_text
+    AddsAtMost between after (decimal n) 10 → AddsAtMost before after (spaced_number_text k n) 11
+unfolding spaced_number_text
 pushed_first zero n before between after start same digits = record {
   items = digits.items ∙ ap (λ (t : Listed ℕ). t.items ++ decimal n) same;
   short = let h : length after.items ≤ length between.items + 10 = digits.short in
@@ -140,8 +140,8 @@ counted_more n x f =
     ∙ ap (λ (t : List ℕ). lines_text (x ∷ listed n f) ++ t) (lines_one (f n))
 
 -- one text added after another
-pub adds_then : (a b c : Listed ℕ) (s t : List ℕ) (m n o : ℕ) → m + n ≤ o → Adds a b s m → Adds b c t n →
-    Adds a c (s ++ t) o
+pub adds_then : (a b c : Listed ℕ) (s t : List ℕ) (m n o : ℕ) → m + n ≤ o → AddsAtMost a b s m → AddsAtMost b c t n →
+    AddsAtMost a c (s ++ t) o
 adds_then a b c s t m n o enough first then = record {
   items = then.items ∙ (ap (λ (x : List ℕ). x ++ t) first.items ∙ append_assoc a.items s t);
   short = let h : length b.items ≤ length a.items + m = first.short in
@@ -150,7 +150,7 @@ adds_then a b c s t m n o enough first then = record {
 }
 
 -- what is added may be given by an equal text, and with a greater limit
-pub adds_as : (a b : Listed ℕ) (s t : List ℕ) (m o : ℕ) → s ≡ t → m ≤ o → Adds a b s m → Adds a b t o
+pub adds_as : (a b : Listed ℕ) (s t : List ℕ) (m o : ℕ) → s ≡ t → m ≤ o → AddsAtMost a b s m → AddsAtMost a b t o
 adds_as a b s t m o same enough adds = record {
   items = adds.items ∙ ap (λ (x : List ℕ). a.items ++ x) same;
   short = let h : length b.items ≤ length a.items + m = adds.short in omega arith;
@@ -158,19 +158,19 @@ adds_as a b s t m o same enough adds = record {
 }
 
 -- the count of a group, which is a line
-pub adds_count : (a b : Listed ℕ) (x : List ℕ) (f : ℕ → List ℕ) (m : ℕ) → Adds a b (line_text x) m →
-    Adds a b (lines_text (x ∷ listed 0 f)) m
+pub adds_count : (a b : Listed ℕ) (x : List ℕ) (f : ℕ → List ℕ) (m : ℕ) → AddsAtMost a b (line_text x) m →
+    AddsAtMost a b (lines_text (x ∷ listed 0 f)) m
 adds_count a b x f m adds = rw (counted_none x f) adds
 
 -- one more line of a group
 pub adds_line : (a b c : Listed ℕ) (x : List ℕ) (f : ℕ → List ℕ) (k m n o : ℕ) → m + n ≤ o →
-    Adds a b (lines_text (x ∷ listed k f)) m → Adds b c (line_text (f k)) n →
-    Adds a c (lines_text (x ∷ listed (k + 1) f)) o
+    AddsAtMost a b (lines_text (x ∷ listed k f)) m → AddsAtMost b c (line_text (f k)) n →
+    AddsAtMost a c (lines_text (x ∷ listed (k + 1) f)) o
 adds_line a b c x f k m n o enough before adds = rw (counted_more k x f) (adds_then a b c _ _ m n o enough before adds)
 
 -- the whole group
 pub adds_group : (a b : Listed ℕ) (x : List ℕ) (f : ℕ → List ℕ) (k n m o : ℕ) → k ≡ n → m ≤ o →
-    Adds a b (lines_text (x ∷ listed k f)) m → Adds a b (lines_text (x ∷ listed n f)) o
+    AddsAtMost a b (lines_text (x ∷ listed k f)) m → AddsAtMost a b (lines_text (x ∷ listed n f)) o
 adds_group a b x f k n m o all enough adds = record {
   items = adds.items ∙ ap (λ (j : ℕ). a.items ++ lines_text (x ∷ listed j f)) all;
   short = let h : length b.items ≤ length a.items + m = adds.short in omega arith;

@@ -7,11 +7,13 @@ use Rattle.std.specs.List.{concat}
 use Rattle.ra_base.specs.Sums.{one_if}
 use Rattle.ra_model.specs.declared.raw.Tables.{Tables}
 use Rattle.ra_model.specs.Numbers as model
-use Rattle.ra_model_read.specs.FieldOrder.{joined, row_of, counted, resource_numbers, machine_numbers, service_numbers}
-use Rattle.ra_model_read.specs.FieldOrder.{process_numbers, balance_numbers, numbers_of}
+use Rattle.ra_model_read.specs.FieldOrder.{end_to_end, row_numbers, with_count, resource_numbers, machine_numbers}
+use Rattle.ra_model_read.specs.FieldOrder.{service_numbers}
+use Rattle.ra_model_read.specs.FieldOrder.{process_numbers, balance_numbers, all_numbers_of}
 use Rattle.ra_trial.specs.InstanceNumbers.{HasNumbers}
 use Rattle.ra_trial.specs.Lines.{listed}
-use Rattle.ra_trial.specs.Numbers.{transient_of, requirement_of, capacity_of, safety_of, way_cost_of}
+use Rattle.ra_trial.specs.Numbers.{trial_transient_of, trial_requirement_of, trial_capacity_of, trial_safety_of}
+use Rattle.ra_trial.specs.Numbers.{trial_way_cost_of}
 use Rattle.ra_trial.specs.Trials.{resource_line, machine_front, machine_line, service_line, process_line}
 use Rattle.ra_trial.specs.Trials.{resource_lines, machine_lines, service_lines, process_lines, last_lines}
 
@@ -24,55 +26,58 @@ concat_append [] ys = refl
 concat_append (x ∷ xs) ys = ap (λ t. x ++ t) (concat_append xs ys) ∙ sym (append_assoc x (concat xs) (concat ys))
 
 -- one after another
-row_same : (n : ℕ) (f h : ℕ → ℕ) → ((k : ℕ) → k < n → f k ≡ h k) → listed n f ≡ row_of n h
-unfolding listed joined
+row_same : (n : ℕ) (f h : ℕ → ℕ) → ((k : ℕ) → k < n → f k ≡ h k) → listed n f ≡ row_numbers n h
+unfolding listed end_to_end
 row_same zero f h same = refl
 row_same (suc n) f h same =
     ap₂ (λ xs x. xs ++ x ∷ []) (row_same n f h (λ k within. same k (omega arith))) (same n (omega arith))
 
-lines_same : (n : ℕ) (f h : ℕ → List ℕ) → ((k : ℕ) → k < n → f k ≡ h k) → concat (listed n f) ≡ joined n h
-unfolding listed joined
+lines_same : (n : ℕ) (f h : ℕ → List ℕ) → ((k : ℕ) → k < n → f k ≡ h k) → concat (listed n f) ≡ end_to_end n h
+unfolding listed end_to_end
 lines_same zero f h same = refl
 lines_same (suc n) f h same =
     concat_append (listed n f) (f n ∷ [])
     ∙ ap₂ (λ xs x. xs ++ (x ++ [])) (lines_same n f h (λ k within. same k (omega arith))) (same n (omega arith))
-    ∙ ap (λ x. joined n h ++ x) (append-nil (h n))
+    ∙ ap (λ x. end_to_end n h ++ x) (append-nil (h n))
 
 group_same : (n count : ℕ) (f h : ℕ → List ℕ) → count ≡ n → ((k : ℕ) → k < n → f k ≡ h k) →
-    concat ((n ∷ []) ∷ listed n f) ≡ counted count h
-group_same n count f h many same = ap (λ xs. n ∷ xs) (lines_same n f h same) ∙ ap (λ m. counted m h) (sym many)
+    concat ((n ∷ []) ∷ listed n f) ≡ with_count count h
+group_same n count f h many same = ap (λ xs. n ∷ xs) (lines_same n f h same) ∙ ap (λ m. with_count m h) (sym many)
 
 module _ (g : ℕ → ℕ) (i : Tables) (has : HasNumbers g i) where
   resource_same : (r : ℕ) → r < 4 → resource_line r ≡ resource_numbers i r
-  unfolding resource_line resource_numbers transient_of
+  unfolding resource_line resource_numbers trial_transient_of
   resource_same r r_in = ap₂ (λ t w. one_if t ∷ w ∷ []) (sym (has.transient r r_in)) (sym (has.load_weight r r_in))
 
   machine_same : (m : ℕ) → m < 100 → machine_line g m ≡ machine_numbers i m
   unfolding machine_line machine_front machine_numbers
   machine_same m m_in =
-      ap₂ (λ n l. n ∷ l ∷ ((listed 4 (capacity_of g m) ++ listed 4 (safety_of g m)) ++ listed 100 (way_cost_of m)))
+      ap₂ (λ n l. n ∷ l ∷ ((listed 4 (trial_capacity_of g m) ++ listed 4 (trial_safety_of g m))
+      ++ listed 100 (trial_way_cost_of m)))
       (sym (has.neighbourhood m m_in)) (sym (has.location m m_in))
       ∙ ap (λ xs. model.neighbourhood_of i m ∷ model.location_of i m ∷ xs)
-      (append_assoc (listed 4 (capacity_of g m)) (listed 4 (safety_of g m)) (listed 100 (way_cost_of m))
-      ∙ ap₂ (λ xs ys. xs ++ ys) (four (capacity_of g m) (model.capacity_of i m) (λ r r_in. has.capacity m r m_in r_in))
-      (ap₂ (λ xs ys. xs ++ ys) (four (safety_of g m) (model.safety_of i m) (λ r r_in. has.safety m r m_in r_in))
+      (append_assoc (listed 4 (trial_capacity_of g m)) (listed 4 (trial_safety_of g m))
+      (listed 100 (trial_way_cost_of m))
+      ∙ ap₂ (λ xs ys. xs ++ ys) (four (trial_capacity_of g m) (model.capacity_of i m)
+      (λ r r_in. has.capacity m r m_in r_in))
+      (ap₂ (λ xs ys. xs ++ ys) (four (trial_safety_of g m) (model.safety_of i m) (λ r r_in. has.safety m r m_in r_in))
       (hundred (λ b b_in. has.move_cost m b m_in b_in))))
     where
-      four : (f h : ℕ → ℕ) → ((r : ℕ) → r < 4 → h r ≡ f r) → listed 4 f ≡ row_of (model.resource_count i) h
-      four f h same = row_same 4 f h (λ r r_in. sym (same r r_in)) ∙ ap (λ n. row_of n h) (sym has.resources)
+      four : (f h : ℕ → ℕ) → ((r : ℕ) → r < 4 → h r ≡ f r) → listed 4 f ≡ row_numbers (model.resource_count i) h
+      four f h same = row_same 4 f h (λ r r_in. sym (same r r_in)) ∙ ap (λ n. row_numbers n h) (sym has.resources)
 
-      hundred : ((b : ℕ) → b < 100 → model.way_cost_of i m b ≡ way_cost_of m b) →
-          listed 100 (way_cost_of m) ≡ row_of (model.machine_count i) (model.way_cost_of i m)
-      hundred same = row_same 100 (way_cost_of m) (model.way_cost_of i m) (λ b b_in. sym (same b b_in))
-          ∙ ap (λ n. row_of n (model.way_cost_of i m)) (sym has.machines)
+      hundred : ((b : ℕ) → b < 100 → model.way_cost_of i m b ≡ trial_way_cost_of m b) →
+          listed 100 (trial_way_cost_of m) ≡ row_numbers (model.machine_count i) (model.way_cost_of i m)
+      hundred same = row_same 100 (trial_way_cost_of m) (model.way_cost_of i m) (λ b b_in. sym (same b b_in))
+          ∙ ap (λ n. row_numbers n (model.way_cost_of i m)) (sym has.machines)
 
-  one_row : (n : ℕ) (h : ℕ → ℕ) → n ≡ 1 → n ∷ row_of n h ≡ 1 ∷ h 0 ∷ []
-  unfolding joined
-  one_row n h one = ap (λ m. m ∷ row_of m h) one
+  one_row : (n : ℕ) (h : ℕ → ℕ) → n ≡ 1 → n ∷ row_numbers n h ≡ 1 ∷ h 0 ∷ []
+  unfolding end_to_end
+  one_row n h one = ap (λ m. m ∷ row_numbers m h) one
 
-  no_row : (n : ℕ) (h : ℕ → ℕ) → n ≡ 0 → n ∷ row_of n h ≡ 0 ∷ []
-  unfolding joined
-  no_row n h none = ap (λ m. m ∷ row_of m h) none
+  no_row : (n : ℕ) (h : ℕ → ℕ) → n ≡ 0 → n ∷ row_numbers n h ≡ 0 ∷ []
+  unfolding end_to_end
+  no_row n h none = ap (λ m. m ∷ row_numbers m h) none
 
   service_same : (s : ℕ) → s < 250 → service_line g s ≡ service_numbers i s
   unfolding service_line service_numbers
@@ -94,11 +99,11 @@ module _ (g : ℕ → ℕ) (i : Tables) (has : HasNumbers g i) where
   process_same : (p : ℕ) → p < 1000 → process_line g p ≡ process_numbers i p
   unfolding process_line process_numbers
   process_same p p_in =
-      ap₂ (λ s c. s ∷ (listed 4 (requirement_of g p) ++ c ∷ [])) (sym (has.service p p_in))
+      ap₂ (λ s c. s ∷ (listed 4 (trial_requirement_of g p) ++ c ∷ [])) (sym (has.service p p_in))
       (sym (has.process_cost p p_in))
       ∙ ap (λ xs. model.service_of i p ∷ (xs ++ model.process_cost_of i p ∷ []))
-      (row_same 4 (requirement_of g p) (model.requirement_of i p) (λ r r_in. sym (has.requirement p r p_in r_in))
-      ∙ ap (λ n. row_of n (model.requirement_of i p)) (sym has.resources))
+      (row_same 4 (trial_requirement_of g p) (model.requirement_of i p) (λ r r_in. sym (has.requirement p r p_in r_in))
+      ∙ ap (λ n. row_numbers n (model.requirement_of i p)) (sym has.resources))
 
   balance_same : 0 ∷ 1 ∷ 2 ∷ 10 ∷ [] ≡ balance_numbers i 0
   unfolding balance_numbers
@@ -106,9 +111,9 @@ module _ (g : ℕ → ℕ) (i : Tables) (has : HasNumbers g i) where
       ap₂ (λ a b. a ∷ b ∷ 2 ∷ 10 ∷ []) (sym has.first) (sym has.second)
       ∙ ap₂ (λ t w. model.first_of i 0 ∷ model.second_of i 0 ∷ t ∷ w ∷ []) (sym has.target) (sym has.balance_weight)
 
-  one_group : (n : ℕ) (h : ℕ → List ℕ) → n ≡ 1 → counted n h ≡ 1 ∷ h 0
-  unfolding joined
-  one_group n h one = ap (λ m. counted m h) one
+  one_group : (n : ℕ) (h : ℕ → List ℕ) → n ≡ 1 → with_count n h ≡ 1 ∷ h 0
+  unfolding end_to_end
+  one_group n h one = ap (λ m. with_count m h) one
 
   weights_same : 1 ∷ 10 ∷ 100 ∷ [] ≡ model.process_weight_of i ∷ model.service_weight_of i ∷ model.machine_weight_of i ∷
       []
@@ -116,7 +121,7 @@ module _ (g : ℕ → ℕ) (i : Tables) (has : HasNumbers g i) where
       ap₂ (λ p s. p ∷ s ∷ 100 ∷ []) (sym has.process_weight) (sym has.service_weight)
       ∙ ap (λ m. model.process_weight_of i ∷ model.service_weight_of i ∷ m ∷ []) (sym has.machine_weight)
 
-  last_same : concat last_lines ≡ counted (model.balance_count i) (balance_numbers i) ++
+  last_same : concat last_lines ≡ with_count (model.balance_count i) (balance_numbers i) ++
       (model.process_weight_of i ∷ model.service_weight_of i ∷ model.machine_weight_of i ∷ [])
   unfolding last_lines
   last_same =
@@ -124,8 +129,8 @@ module _ (g : ℕ → ℕ) (i : Tables) (has : HasNumbers g i) where
       ∙ ap (λ b. b ++ (model.process_weight_of i ∷ model.service_weight_of i ∷ model.machine_weight_of i ∷ []))
       (sym (one_group (model.balance_count i) (balance_numbers i) has.balances))
 
-  pub numbers_same : concat (all_lines g) ≡ numbers_of i
-  unfolding all_lines numbers_of resource_lines machine_lines service_lines process_lines
+  pub numbers_same : concat (all_lines g) ≡ all_numbers_of i
+  unfolding all_lines all_numbers_of resource_lines machine_lines service_lines process_lines
   numbers_same =
       concat_append resource_lines (machine_lines g ++ (service_lines g ++ (process_lines g ++ last_lines)))
       ∙ ap₂ (λ a b. a ++ b)

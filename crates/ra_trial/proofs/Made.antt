@@ -9,9 +9,10 @@ use Rattle.ra_model.specs.declared.raw.RawInstance.{RawInstance}
 use Rattle.ra_model.specs.declared.raw.ResourceRow.{ResourceRow}
 use Rattle.ra_model.specs.declared.raw.ServiceRow.{ServiceRow}
 use Rattle.ra_model.specs.Numbers.{all_open}
-use Rattle.ra_model_read.specs.Lists.{of_resource, of_machine, of_service, of_process, lists_of}
+use Rattle.ra_model_read.specs.Lists.{of_resource, of_machine, service_numbers_of, of_process, lists_of}
 use Rattle.ra_trial.specs.Lines.{listed}
-use Rattle.ra_trial.specs.Numbers.{requirement_of, process_cost_of, capacity_of, safety_of, way_cost_of, spread_of}
+use Rattle.ra_trial.specs.Numbers.{trial_requirement_of, trial_process_cost_of, trial_capacity_of, trial_safety_of}
+use Rattle.ra_trial.specs.Numbers.{trial_way_cost_of, trial_spread_of}
 use Rattle.ra_trial.specs.Instances.{table_of, trial_resource, trial_machine, trial_machines, trial_service, trial_need}
 use Rattle.ra_trial.specs.Instances.{trial_services, trial_process, trial_processes, trial_balance, trial_lists}
 use Rattle.ra_trial.specs.Instances.{IsTrial}
@@ -23,13 +24,13 @@ quotient_small k d most small = omega arith
 label_small : (m : ℕ) → m % 10 < 2 ^ 32
 label_small m = omega arith
 
-spread_small : (g : ℕ → ℕ) (s : ℕ) → spread_of g s < 2 ^ 32
+spread_small : (g : ℕ → ℕ) (s : ℕ) → trial_spread_of g s < 2 ^ 32
 spread_small g s = omega (arith, spread_low g s)
 
 end_small : (s : ℕ) → min (s / 5) 49 + 1 < 2 ^ 32
 end_small s = omega arith
 
-cost_small : (g : ℕ → ℕ) (p : ℕ) → process_cost_of g p < 2 ^ 32
+cost_small : (g : ℕ → ℕ) (p : ℕ) → trial_process_cost_of g p < 2 ^ 32
 cost_small g p = omega (arith, process_cost_low g p)
 
 -- the rows; those of numbers past the last are of no account
@@ -47,14 +48,15 @@ made_machine m = record {
 
 made_service : (ℕ → ℕ) → ℕ → ServiceRow
 made_service g s = record {
-  spread_min = spread_of g s;
+  spread_min = trial_spread_of g s;
   dependency_end = min (s / 5) 49 + 1;
   small_spread = spread_small g s;
   small_end = end_small s;
 }
 
 made_process : (ℕ → ℕ) → ℕ → ProcessRow
-made_process g p = record { service = record { 0 = p / 4 }; move_cost = process_cost_of g p; small = cost_small g p }
+made_process g p =
+    record { service = record { 0 = p / 4 }; move_cost = trial_process_cost_of g p; small = cost_small g p }
 
 -- a list with room for no more
 full : {X : Type 0} → ℕ → List X → Listed X
@@ -64,13 +66,13 @@ pub made : (ℕ → ℕ) → RawInstance
 made g = record {
   resources = full 4 (listed 4 made_resource);
   machines = full 100 (listed 100 made_machine);
-  capacities = full 400 (table_of 100 4 (capacity_of g));
-  safeties = full 400 (table_of 100 4 (safety_of g));
-  move_costs = full 10000 (table_of 100 100 way_cost_of);
+  capacities = full 400 (table_of 100 4 (trial_capacity_of g));
+  safeties = full 400 (table_of 100 4 (trial_safety_of g));
+  move_costs = full 10000 (table_of 100 100 trial_way_cost_of);
   services = full 250 (listed 250 (made_service g));
   dependencies = full 50 (listed 50 trial_need);
   processes = full 1000 (listed 1000 (made_process g));
-  requirements = full 4000 (table_of 1000 4 (requirement_of g));
+  requirements = full 4000 (table_of 1000 4 (trial_requirement_of g));
   balances = full 1 (record {
     first = record { 0 = 0 };
     second = record { 0 = 1 };
@@ -105,10 +107,10 @@ machines_made =
     (λ m within. ap (λ n. record { neighbourhood = n; location = m % 10 })
     (let e : min (m / 20) 4 ≡ m / 20 = omega arith in e))
 
-services_made : (g : ℕ → ℕ) → map of_service (listed 250 (made_service g)) ≡ listed 250 (trial_service g)
+services_made : (g : ℕ → ℕ) → map service_numbers_of (listed 250 (made_service g)) ≡ listed 250 (trial_service g)
 unfolding made_service trial_service
-services_made g = map_listed of_service 250 (made_service g) (trial_service g)
-    (λ s within. ap (λ n. record { spread_min = spread_of g s; dependency_end = n })
+services_made g = map_listed service_numbers_of 250 (made_service g) (trial_service g)
+    (λ s within. ap (λ n. record { spread_min = trial_spread_of g s; dependency_end = n })
     (let e : min (s / 5) 49 + 1 ≡ s / 5 + 1 = omega arith in e))
 
 processes_made : (g : ℕ → ℕ) → map of_process (listed 1000 (made_process g)) ≡ listed 1000 (trial_process g)
@@ -124,7 +126,7 @@ made_is_trial g = record {
   where
     joined : map of_resource (listed 4 made_resource) ≡ listed 4 trial_resource →
         map of_machine (listed 100 made_machine) ≡ listed 100 trial_machine →
-        map of_service (listed 250 (made_service g)) ≡ listed 250 (trial_service g) →
+        map service_numbers_of (listed 250 (made_service g)) ≡ listed 250 (trial_service g) →
         map of_process (listed 1000 (made_process g)) ≡ listed 1000 (trial_process g) →
         lists_of (made g) ≡ trial_lists g
     joined resources machines services processes = cc

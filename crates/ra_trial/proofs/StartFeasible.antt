@@ -13,7 +13,7 @@ use Rattle.ra_model.specs.Services.{is_of, in_location, locations_of}
 use Rattle.ra_model.specs.Usage.{use_share, use_of, transient_share, transient_of}
 use Rattle.ra_model.specs.Numbers as model
 use Rattle.ra_model.proofs.TallyLemmas.{members_count}
-use Rattle.ra_trial.specs.Numbers.{start_of, start_share, start_use_of, capacity_of, spread_of}
+use Rattle.ra_trial.specs.Numbers.{trial_start_of, start_share, start_use_of, trial_capacity_of, trial_spread_of}
 use Rattle.ra_trial.specs.Trials.{start_machine}
 use Rattle.ra_trial.specs.InstanceNumbers.{HasNumbers}
 use Rattle.ra_trial.specs.Instances.{start_list}
@@ -23,7 +23,7 @@ use Rattle.ra_trial.proofs.Places.{count_distinct}
 
 -- the machine of a process
 start_at : (p : ℕ) → p < 1000 → machine_at start_list p ≡ p % 100
-unfolding machine_at start_list start_machine start_of
+unfolding machine_at start_list start_machine trial_start_of
 start_at p within = ap (λ (m : Machine). m.0) (listed_at 1000 start_machine p _ within)
 
 pub start_many : length start_list ≡ 1000
@@ -39,7 +39,7 @@ module _ (g : ℕ → ℕ) (i : Tables) (has : HasNumbers g i) where
 
   -- what process p uses of a resource of a machine
   share_is : (m r p : ℕ) → p < 1000 → r < 4 → use_share i m r p (machine_at start_list p) ≡ start_share g m r p
-  unfolding use_share start_share start_of
+  unfolding use_share start_share trial_start_of
   share_is m r p p_in r_in = ap₂ (λ at needs. cond (eqb at m) needs 0) (start_at p p_in) (has.requirement p r p_in r_in)
 
   use_is : (m r : ℕ) → r < 4 → use_of i start_list m r ≡ start_use_of g m r
@@ -50,7 +50,7 @@ module _ (g : ℕ → ℕ) (i : Tables) (has : HasNumbers g i) where
       (λ p p_in. share_is m r p p_in r_in)
 
   use_fits : (m r : ℕ) → m < 100 → r < 4 → use_of i start_list m r ≤ model.capacity_of i m r
-  unfolding capacity_of
+  unfolding trial_capacity_of
   use_fits m r m_in r_in = omega (arith, use_is m r r_in, has.capacity m r m_in r_in)
 
   -- nothing has moved
@@ -100,7 +100,7 @@ module _ (g : ℕ → ℕ) (i : Tables) (has : HasNumbers g i) where
       (λ k j k_in j_in apart. locations_apart s k j k_in j_in apart)
 
   spread_fits : (s : ℕ) → s < 250 → model.spread_of i s ≤ locations_of i start_list s
-  unfolding spread_of
+  unfolding trial_spread_of
   spread_fits s s_in = omega (arith, has.spread s s_in, three_locations s s_in)
 
   -- the process 100 numbers on is near

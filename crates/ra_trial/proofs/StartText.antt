@@ -16,7 +16,7 @@ use Rattle.ra_assign.specs.Lists.{assignment_bytes, machine_of, IsAssignmentFile
 use Rattle.ra_assign.specs.Lists as assign
 use Rattle.ra_model_text.specs.Lines.{more_text, line_text, lines_text}
 use Rattle.ra_trial.specs.Lines.{listed}
-use Rattle.ra_trial.specs.Numbers.{start_of}
+use Rattle.ra_trial.specs.Numbers.{trial_start_of}
 use Rattle.ra_trial.specs.Trials.{start_machine, start_text}
 use Rattle.ra_trial.specs.Instances.{start_list, IsTrial}
 use Rattle.ra_model_text.proofs.LineTexts.{IsSmall}
@@ -30,8 +30,8 @@ number : Machine → ℕ
 number m = m.0
 
 -- an assignment's text is a line of its machines' numbers
-more_is_line : (ms : List Machine) → assign.more_text ms ≡ more_text (map number ms)
-unfolding assign.more_text more_text number
+more_is_line : (ms : List Machine) → assign.more_machines_text ms ≡ more_text (map number ms)
+unfolding assign.more_machines_text more_text number
 more_is_line [] = refl
 more_is_line (m ∷ ms) = ap (λ t. 32 ∷ decimal m.0 ++ t) (more_is_line ms)
 
@@ -45,7 +45,7 @@ unfolding start_text start_list
 start_is_lines = text_is_line (listed 1000 start_machine) ∙ sym (lines_one (map number (listed 1000 start_machine)))
 
 machines_low : All (λ (m : Machine). m.0 < 100) start_list
-unfolding start_list start_machine start_of
+unfolding start_list start_machine trial_start_of
 machines_low = listed_all (λ (m : Machine). m.0 < 100) 1000 start_machine (λ p within. omega arith)
 
 start_short : IsShort 1000 (map number start_list)

@@ -4,8 +4,9 @@ use Rattle.std.proofs.Common.{eq-eqb, ne_eqb}
 use Rattle.std.proofs.lemmas.Bool.{cases_eq, cond-true, cond-false}
 use Rattle.ra_base.proofs.Sums.{total_bound}
 use Rattle.ra_trial.specs.Lines.{listed}
-use Rattle.ra_trial.specs.Numbers.{transient_of, requirement_of, process_cost_of, start_of, start_share, start_use_of}
-use Rattle.ra_trial.specs.Numbers.{capacity_of, safety_of, way_cost_of, spread_of}
+use Rattle.ra_trial.specs.Numbers.{trial_transient_of, trial_requirement_of, trial_process_cost_of, trial_start_of}
+use Rattle.ra_trial.specs.Numbers.{start_share, start_use_of}
+use Rattle.ra_trial.specs.Numbers.{trial_capacity_of, trial_safety_of, trial_way_cost_of, trial_spread_of}
 use Rattle.ra_trial.specs.Trials.{resource_line, machine_front, machine_line, service_line, process_line}
 use Rattle.ra_trial.specs.Trials.{resource_lines, machine_lines, service_lines, process_lines, last_lines}
 use Rattle.ra_trial.proofs.LineNumbers.{all_lines}
@@ -20,40 +21,41 @@ chosen_low a b x y most x_low y_low = ⊎_elim
 
 -- the numbers that are drawn, and those made of them
 
-pub requirement_low : (g : ℕ → ℕ) (p r : ℕ) → requirement_of g p r ≤ 100
-unfolding requirement_of
+pub requirement_low : (g : ℕ → ℕ) (p r : ℕ) → trial_requirement_of g p r ≤ 100
+unfolding trial_requirement_of
 requirement_low g p r = omega arith
 
-pub process_cost_low : (g : ℕ → ℕ) (p : ℕ) → process_cost_of g p ≤ 10
-unfolding process_cost_of
+pub process_cost_low : (g : ℕ → ℕ) (p : ℕ) → trial_process_cost_of g p ≤ 10
+unfolding trial_process_cost_of
 process_cost_low g p = omega arith
 
-pub spread_low : (g : ℕ → ℕ) (s : ℕ) → spread_of g s ≤ 3
-unfolding spread_of
+pub spread_low : (g : ℕ → ℕ) (s : ℕ) → trial_spread_of g s ≤ 3
+unfolding trial_spread_of
 spread_low g s = omega arith
 
 use_low : (g : ℕ → ℕ) (m r : ℕ) → start_use_of g m r ≤ 100000
 unfolding start_use_of start_share
 use_low g m r =
     total_bound 1000 100 (start_share g m r)
-    (λ p within. chosen_low (start_of p) m (requirement_of g p r) 0 100 (requirement_low g p r) (omega arith))
+    (λ p within. chosen_low (trial_start_of p) m (trial_requirement_of g p r) 0 100 (requirement_low g p r)
+    (omega arith))
 
-pub capacity_low : (g : ℕ → ℕ) (m r : ℕ) → capacity_of g m r ≤ 100299
-unfolding capacity_of
+pub capacity_low : (g : ℕ → ℕ) (m r : ℕ) → trial_capacity_of g m r ≤ 100299
+unfolding trial_capacity_of
 capacity_low g m r = omega (arith, use_low g m r)
 
-pub safety_low : (g : ℕ → ℕ) (m r : ℕ) → safety_of g m r ≤ 100299
-unfolding safety_of
+pub safety_low : (g : ℕ → ℕ) (m r : ℕ) → trial_safety_of g m r ≤ 100299
+unfolding trial_safety_of
 safety_low g m r = omega (arith, capacity_low g m r)
 
-pub way_cost_low : (a b : ℕ) → way_cost_of a b ≤ 5
-unfolding way_cost_of
+pub way_cost_low : (a b : ℕ) → trial_way_cost_of a b ≤ 5
+unfolding trial_way_cost_of
 way_cost_low a b = chosen_low a b 0 (1 + (a + b) % 5) 5 (omega arith) (omega arith)
 
 -- the lines
 
 resource_short : (r : ℕ) → IsShort 2 (resource_line r)
-unfolding resource_line transient_of
+unfolding resource_line trial_transient_of
 resource_short r =
     number_short 1 2 _ _ (omega arith)
     (let low : cond (eqb r 0) 1 0 ≤ 1 = chosen_low r 0 1 0 1 (omega arith) (omega arith) in omega arith)
@@ -62,22 +64,22 @@ resource_short r =
 machine_short : (g : ℕ → ℕ) (m : ℕ) → m < 100 → IsShort 110 (machine_line g m)
 unfolding machine_line machine_front
 machine_short g m within =
-    numbers_append 10 100 110 _ (listed 100 (way_cost_of m)) (omega arith)
+    numbers_append 10 100 110 _ (listed 100 (trial_way_cost_of m)) (omega arith)
     (number_short 9 10 (m / 20) _ (omega arith) (omega arith) (number_short 8 9 (m % 10) _ (omega arith) (omega arith)
-    (numbers_append 4 4 8 (listed 4 (capacity_of g m)) (listed 4 (safety_of g m)) (omega arith)
-    (numbers_short 4 (capacity_of g m) (λ r r_in. omega (arith, capacity_low g m r)))
-    (numbers_short 4 (safety_of g m) (λ r r_in. omega (arith, safety_low g m r))))))
-    (numbers_short 100 (way_cost_of m) (λ b b_in. omega (arith, way_cost_low m b)))
+    (numbers_append 4 4 8 (listed 4 (trial_capacity_of g m)) (listed 4 (trial_safety_of g m)) (omega arith)
+    (numbers_short 4 (trial_capacity_of g m) (λ r r_in. omega (arith, capacity_low g m r)))
+    (numbers_short 4 (trial_safety_of g m) (λ r r_in. omega (arith, safety_low g m r))))))
+    (numbers_short 100 (trial_way_cost_of m) (λ b b_in. omega (arith, way_cost_low m b)))
 
 service_short : (g : ℕ → ℕ) (s : ℕ) → s < 250 → IsShort 3 (service_line g s)
 unfolding service_line
 service_short g s within = ⊎_elim
     (λ (fifth : s % 5 ≡ 0). subst (IsShort 3) (sym (cond-true (eqb (s % 5) 0) _ _ (eq-eqb (s % 5) 0 fifth)))
-    (number_short 2 3 (spread_of g s) _ (omega arith) (omega (arith, spread_low g s))
+    (number_short 2 3 (trial_spread_of g s) _ (omega arith) (omega (arith, spread_low g s))
     (number_short 1 2 1 _ (omega arith) (omega arith)
     (number_short 0 1 ((s + 25) % 250) [] (omega arith) (omega arith) none_short))))
     (λ (other : s % 5 ≢ 0). subst (IsShort 3) (sym (cond-false (eqb (s % 5) 0) _ _ (ne_eqb (s % 5) 0 other)))
-    (number_short 1 3 (spread_of g s) _ (omega arith) (omega (arith, spread_low g s))
+    (number_short 1 3 (trial_spread_of g s) _ (omega arith) (omega (arith, spread_low g s))
     (number_short 0 1 0 [] (omega arith) (omega arith) none_short)))
     (cases_eq (s % 5) 0)
 
@@ -85,9 +87,9 @@ process_short : (g : ℕ → ℕ) (p : ℕ) → p < 1000 → IsShort 6 (process_
 unfolding process_line
 process_short g p within =
     number_short 5 6 (p / 4) _ (omega arith) (omega arith)
-    (numbers_append 4 1 5 (listed 4 (requirement_of g p)) _ (omega arith)
-    (numbers_short 4 (requirement_of g p) (λ r r_in. omega (arith, requirement_low g p r)))
-    (number_short 0 1 (process_cost_of g p) [] (omega arith) (omega (arith, process_cost_low g p)) none_short))
+    (numbers_append 4 1 5 (listed 4 (trial_requirement_of g p)) _ (omega arith)
+    (numbers_short 4 (trial_requirement_of g p) (λ r r_in. omega (arith, requirement_low g p r)))
+    (number_short 0 1 (trial_process_cost_of g p) [] (omega arith) (omega (arith, process_cost_low g p)) none_short))
 
 -- a line of one number, and one of three
 one_number : (n : ℕ) → n < 2 ^ 32 → IsShort 1 (n ∷ [])

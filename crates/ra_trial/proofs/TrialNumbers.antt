@@ -6,9 +6,9 @@ use Rattle.std.proofs.lemmas.List.{length-map}
 use Rattle.ra_base.specs.declared.ids.Service.{Service}
 use Rattle.ra_model.specs.declared.raw.Tables.{Tables}
 use Rattle.ra_model.specs.Numbers as model
-use Rattle.ra_model_read.specs.Lists.{of_resource, of_machine, of_service, of_process, of_balance}
+use Rattle.ra_model_read.specs.Lists.{of_resource, of_machine, service_numbers_of, of_process, of_balance}
 use Rattle.ra_trial.specs.Lines.{listed}
-use Rattle.ra_trial.specs.Numbers.{requirement_of, capacity_of, safety_of, way_cost_of}
+use Rattle.ra_trial.specs.Numbers.{trial_requirement_of, trial_capacity_of, trial_safety_of, trial_way_cost_of}
 use Rattle.ra_trial.specs.InstanceNumbers.{HasNumbers}
 use Rattle.ra_trial.specs.Instances.{trial_resource, trial_machine, trial_machines, trial_service, trial_need}
 use Rattle.ra_trial.specs.Instances.{trial_services, trial_process, trial_processes, trial_balance, trial_lists}
@@ -35,19 +35,19 @@ module _ (g : ℕ → ℕ) (i : Tables) (is : IsTrial g i) where
   unfolding trial_lists trial_machines
   machine_rows = ap (λ l. l.machines.rows) is.lists
 
-  capacity_table : i.raw.capacities.items ≡ table_of 100 4 (capacity_of g)
+  capacity_table : i.raw.capacities.items ≡ table_of 100 4 (trial_capacity_of g)
   unfolding trial_lists trial_machines
   capacity_table = ap (λ l. l.machines.capacities) is.lists
 
-  safety_table : i.raw.safeties.items ≡ table_of 100 4 (safety_of g)
+  safety_table : i.raw.safeties.items ≡ table_of 100 4 (trial_safety_of g)
   unfolding trial_lists trial_machines
   safety_table = ap (λ l. l.machines.safeties) is.lists
 
-  way_cost_table : i.raw.move_costs.items ≡ table_of 100 100 way_cost_of
+  way_cost_table : i.raw.move_costs.items ≡ table_of 100 100 trial_way_cost_of
   unfolding trial_lists trial_machines
   way_cost_table = ap (λ l. l.machines.move_costs) is.lists
 
-  service_rows : map of_service i.raw.services.items ≡ listed 250 (trial_service g)
+  service_rows : map service_numbers_of i.raw.services.items ≡ listed 250 (trial_service g)
   unfolding trial_lists trial_services
   service_rows = ap (λ l. l.services.rows) is.lists
 
@@ -59,7 +59,7 @@ module _ (g : ℕ → ℕ) (i : Tables) (is : IsTrial g i) where
   unfolding trial_lists trial_processes
   process_rows = ap (λ l. l.processes.rows) is.lists
 
-  requirement_table : i.raw.requirements.items ≡ table_of 1000 4 (requirement_of g)
+  requirement_table : i.raw.requirements.items ≡ table_of 1000 4 (trial_requirement_of g)
   unfolding trial_lists trial_processes
   requirement_table = ap (λ l. l.processes.requirements) is.lists
 
@@ -87,13 +87,13 @@ module _ (g : ℕ → ℕ) (i : Tables) (is : IsTrial g i) where
   unfolding model.service_row model.dependency_end model.need_at trial_service trial_need
   has_lists = record {
     all_needs = ap length need_list ∙ length_listed 50 trial_need;
-    all_capacities = ap length capacity_table ∙ table_many 100 4 (capacity_of g);
-    all_safeties = ap length safety_table ∙ table_many 100 4 (safety_of g);
-    all_way_costs = ap length way_cost_table ∙ table_many 100 100 way_cost_of;
-    all_requirements = ap length requirement_table ∙ table_many 1000 4 (requirement_of g);
+    all_capacities = ap length capacity_table ∙ table_many 100 4 (trial_capacity_of g);
+    all_safeties = ap length safety_table ∙ table_many 100 4 (trial_safety_of g);
+    all_way_costs = ap length way_cost_table ∙ table_many 100 100 trial_way_cost_of;
+    all_requirements = ap length requirement_table ∙ table_many 1000 4 (trial_requirement_of g);
     needs_end = λ s within.
         ap (λ row. row.dependency_end)
-        (row_is of_service i.raw.services.items 250 (trial_service g) s _ service_rows within);
+        (row_is service_numbers_of i.raw.services.items 250 (trial_service g) s _ service_rows within);
     need_at = λ k within. ap (λ (all : List Service). (get_or all k (record { 0 = 0 })).0) need_list
         ∙ ap (λ service. service.0) (listed_at 50 trial_need k (record { 0 = 0 }) within);
   }
@@ -134,7 +134,7 @@ module _ (g : ℕ → ℕ) (i : Tables) (is : IsTrial g i) where
   has_numbers = record {
     resources = resource_many;
     machines = machine_many;
-    services = rows_many of_service i.raw.services.items 250 (trial_service g) service_rows;
+    services = rows_many service_numbers_of i.raw.services.items 250 (trial_service g) service_rows;
     processes = rows_many of_process i.raw.processes.items 1000 (trial_process g) process_rows;
     balances = sym (length-map i.raw.balances.items of_balance) ∙ ap length balance_rows;
     transient = λ r within.
@@ -147,18 +147,19 @@ module _ (g : ℕ → ℕ) (i : Tables) (is : IsTrial g i) where
         (row_is of_machine i.raw.machines.items 100 trial_machine m _ machine_rows within);
     location = λ m within.
         ap (λ row. row.location) (row_is of_machine i.raw.machines.items 100 trial_machine m _ machine_rows within);
-    capacity = λ m r m_in r_in. cell_at _ 100 4 _ (capacity_of g) m r resource_many capacity_table m_in r_in;
-    safety = λ m r m_in r_in. cell_at _ 100 4 _ (safety_of g) m r resource_many safety_table m_in r_in;
-    move_cost = λ a b a_in b_in. cell_at _ 100 100 _ way_cost_of a b machine_many way_cost_table a_in b_in;
+    capacity = λ m r m_in r_in. cell_at _ 100 4 _ (trial_capacity_of g) m r resource_many capacity_table m_in r_in;
+    safety = λ m r m_in r_in. cell_at _ 100 4 _ (trial_safety_of g) m r resource_many safety_table m_in r_in;
+    move_cost = λ a b a_in b_in. cell_at _ 100 100 _ trial_way_cost_of a b machine_many way_cost_table a_in b_in;
     spread = λ s within.
         ap (λ row. row.spread_min)
-        (row_is of_service i.raw.services.items 250 (trial_service g) s _ service_rows within);
+        (row_is service_numbers_of i.raw.services.items 250 (trial_service g) s _ service_rows within);
     dependencies = fifths_need;
     need = need_is;
     service = λ p within.
         ap (λ row. row.service.0)
         (row_is of_process i.raw.processes.items 1000 (trial_process g) p _ process_rows within);
-    requirement = λ p r p_in r_in. cell_at _ 1000 4 _ (requirement_of g) p r resource_many requirement_table p_in r_in;
+    requirement = λ p r p_in r_in. cell_at _ 1000 4 _ (trial_requirement_of g) p r resource_many requirement_table p_in
+        r_in;
     process_cost =
         λ p within. ap (λ row. row.move_cost)
         (row_is of_process i.raw.processes.items 1000 (trial_process g) p _ process_rows within);

@@ -2,7 +2,8 @@
 use Rattle.std.specs.Prelude.{◌≡◌, ℕ, ◌+◌, ◌/◌, ◌%◌, ◌<◌, ◌==◌, if◌then◌else◌, false}
 use Rattle.ra_model.specs.declared.raw.Tables.{Tables}
 use Rattle.ra_model.specs.Numbers as model
-use Rattle.ra_trial.specs.Numbers.{requirement_of, process_cost_of, capacity_of, safety_of, way_cost_of, spread_of}
+use Rattle.ra_trial.specs.Numbers.{trial_requirement_of, trial_process_cost_of, trial_capacity_of, trial_safety_of}
+use Rattle.ra_trial.specs.Numbers.{trial_way_cost_of, trial_spread_of}
 
 pub record HasNumbers (g : ℕ → ℕ) (i : Tables) : Type 0 where
   pub resources : model.resource_count i ≡ 4
@@ -16,18 +17,18 @@ pub record HasNumbers (g : ℕ → ℕ) (i : Tables) : Type 0 where
   -- 20 machines have one neighbourhood, and 10 one location
   pub neighbourhood : (m : ℕ) → m < 100 → model.neighbourhood_of i m ≡ m / 20
   pub location : (m : ℕ) → m < 100 → model.location_of i m ≡ m % 10
-  pub capacity : (m r : ℕ) → m < 100 → r < 4 → model.capacity_of i m r ≡ capacity_of g m r
-  pub safety : (m r : ℕ) → m < 100 → r < 4 → model.safety_of i m r ≡ safety_of g m r
-  pub move_cost : (a b : ℕ) → a < 100 → b < 100 → model.way_cost_of i a b ≡ way_cost_of a b
-  pub spread : (s : ℕ) → s < 250 → model.spread_of i s ≡ spread_of g s
+  pub capacity : (m r : ℕ) → m < 100 → r < 4 → model.capacity_of i m r ≡ trial_capacity_of g m r
+  pub safety : (m r : ℕ) → m < 100 → r < 4 → model.safety_of i m r ≡ trial_safety_of g m r
+  pub move_cost : (a b : ℕ) → a < 100 → b < 100 → model.way_cost_of i a b ≡ trial_way_cost_of a b
+  pub spread : (s : ℕ) → s < 250 → model.spread_of i s ≡ trial_spread_of g s
   -- each fifth service depends on one other, the service 25 numbers on
   pub dependencies : (s : ℕ) → s < 250 → model.dependency_count i s ≡ (if s % 5 == 0 then 1 else 0)
   pub need : (s k : ℕ) → s < 250 → k < model.dependency_count i s
       → model.need_of i s k ≡ (s + 25) % 250
   -- four processes have one service
   pub service : (p : ℕ) → p < 1000 → model.service_of i p ≡ p / 4
-  pub requirement : (p r : ℕ) → p < 1000 → r < 4 → model.requirement_of i p r ≡ requirement_of g p r
-  pub process_cost : (p : ℕ) → p < 1000 → model.process_cost_of i p ≡ process_cost_of g p
+  pub requirement : (p r : ℕ) → p < 1000 → r < 4 → model.requirement_of i p r ≡ trial_requirement_of g p r
+  pub process_cost : (p : ℕ) → p < 1000 → model.process_cost_of i p ≡ trial_process_cost_of g p
   pub first : model.first_of i 0 ≡ 0
   pub second : model.second_of i 0 ≡ 1
   pub target : model.target_of i 0 ≡ 2

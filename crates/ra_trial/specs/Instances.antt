@@ -6,7 +6,8 @@ use Rattle.ra_model.specs.declared.raw.Tables.{Tables}
 use Rattle.ra_model_read.specs.Lists.{ResourceNumbers, MachineNumbers, ServiceNumbers, ProcessNumbers, BalanceNumbers}
 use Rattle.ra_model_read.specs.Lists.{MachineLists, ServiceLists, ProcessLists, Lists, lists_of}
 use Rattle.ra_trial.specs.Lines.{listed}
-use Rattle.ra_trial.specs.Numbers.{requirement_of, process_cost_of, capacity_of, safety_of, way_cost_of, spread_of}
+use Rattle.ra_trial.specs.Numbers.{trial_requirement_of, trial_process_cost_of, trial_capacity_of, trial_safety_of}
+use Rattle.ra_trial.specs.Numbers.{trial_way_cost_of, trial_spread_of}
 use Rattle.ra_trial.specs.Trials.{start_machine}
 
 -- a table in one list, row after row: f row column
@@ -24,14 +25,14 @@ trial_machine m = record { neighbourhood = m / 20; location = m % 10 }
 unfoldable pub trial_machines : (ℕ → ℕ) → MachineLists
 trial_machines g = record {
   rows = listed 100 trial_machine;
-  capacities = table_of 100 4 (capacity_of g);
-  safeties = table_of 100 4 (safety_of g);
-  move_costs = table_of 100 100 way_cost_of;
+  capacities = table_of 100 4 (trial_capacity_of g);
+  safeties = table_of 100 4 (trial_safety_of g);
+  move_costs = table_of 100 100 trial_way_cost_of;
 }
 
 -- a service: its spread; each fifth one has a dependency, so that s / 5 + 1 have ended with service s
 unfoldable pub trial_service : (ℕ → ℕ) → ℕ → ServiceNumbers
-trial_service g s = record { spread_min = spread_of g s; dependency_end = s / 5 + 1 }
+trial_service g s = record { spread_min = trial_spread_of g s; dependency_end = s / 5 + 1 }
 
 -- dependency k of all, which is that of service 5 * k: the service 25 numbers on
 unfoldable pub trial_need : ℕ → Service
@@ -43,13 +44,13 @@ trial_services g =
 
 -- a process: its service, of four processes, and its move cost
 unfoldable pub trial_process : (ℕ → ℕ) → ℕ → ProcessNumbers
-trial_process g p = record { service = record { 0 = p / 4 }; move_cost = process_cost_of g p }
+trial_process g p = record { service = record { 0 = p / 4 }; move_cost = trial_process_cost_of g p }
 
 unfoldable pub trial_processes : (ℕ → ℕ) → ProcessLists
 trial_processes g =
     record {
       rows = listed 1000 (trial_process g);
-      requirements = table_of 1000 4 (requirement_of g);
+      requirements = table_of 1000 4 (trial_requirement_of g);
     }
 
 -- the one balance objective: resources 0 and 1, target 2, weight 10

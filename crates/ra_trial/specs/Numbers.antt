@@ -9,41 +9,41 @@ unfoldable pub trial_word : ℕ → ℕ → ℕ
 trial_word number i = stream_word (seed_stream number) i
 
 -- only resource 0 is transient
-unfoldable pub transient_of : ℕ → ℕ
-transient_of r = if r == 0 then 1 else 0
+unfoldable pub trial_transient_of : ℕ → ℕ
+trial_transient_of r = if r == 0 then 1 else 0
 
 -- what process p requires of resource r, from words 0 to 3,999: 1 to 100
-unfoldable pub requirement_of : (ℕ → ℕ) → ℕ → ℕ → ℕ
-requirement_of g p r = 1 + g (4 * p + r) % 100
+unfoldable pub trial_requirement_of : (ℕ → ℕ) → ℕ → ℕ → ℕ
+trial_requirement_of g p r = 1 + g (4 * p + r) % 100
 
 -- the move cost of process p, from words 4,000 to 4,999: 1 to 10
-unfoldable pub process_cost_of : (ℕ → ℕ) → ℕ → ℕ
-process_cost_of g p = 1 + g (4000 + p) % 10
+unfoldable pub trial_process_cost_of : (ℕ → ℕ) → ℕ → ℕ
+trial_process_cost_of g p = 1 + g (4000 + p) % 10
 
 -- the machine on which process p starts
-unfoldable pub start_of : ℕ → ℕ
-start_of p = p % 100
+unfoldable pub trial_start_of : ℕ → ℕ
+trial_start_of p = p % 100
 
 -- what process p uses of resource r on machine m at the start
 unfoldable pub start_share : (ℕ → ℕ) → ℕ → ℕ → ℕ → ℕ
-start_share g m r p = if start_of p == m then requirement_of g p r else 0
+start_share g m r p = if trial_start_of p == m then trial_requirement_of g p r else 0
 
 -- the use of resource r on machine m at the start: the requirements of the processes that start there
 unfoldable pub start_use_of : (ℕ → ℕ) → ℕ → ℕ → ℕ
 start_use_of g m r = total 1000 (start_share g m r)
 
 -- the capacity of resource r on machine m: its use at the start and 100 to 299 more, from words 5,000 to 5,399
-unfoldable pub capacity_of : (ℕ → ℕ) → ℕ → ℕ → ℕ
-capacity_of g m r = start_use_of g m r + 100 + g (5000 + 4 * m + r) % 200
+unfoldable pub trial_capacity_of : (ℕ → ℕ) → ℕ → ℕ → ℕ
+trial_capacity_of g m r = start_use_of g m r + 100 + g (5000 + 4 * m + r) % 200
 
 -- the safety capacity: three quarters of the capacity, rounded down
-unfoldable pub safety_of : (ℕ → ℕ) → ℕ → ℕ → ℕ
-safety_of g m r = 3 * capacity_of g m r / 4
+unfoldable pub trial_safety_of : (ℕ → ℕ) → ℕ → ℕ → ℕ
+trial_safety_of g m r = 3 * trial_capacity_of g m r / 4
 
 -- the cost of a move from machine a to machine b
-unfoldable pub way_cost_of : ℕ → ℕ → ℕ
-way_cost_of a b = if a == b then 0 else 1 + (a + b) % 5
+unfoldable pub trial_way_cost_of : ℕ → ℕ → ℕ
+trial_way_cost_of a b = if a == b then 0 else 1 + (a + b) % 5
 
 -- how many locations service s needs, from words 5,400 to 5,649: 1 to 3
-unfoldable pub spread_of : (ℕ → ℕ) → ℕ → ℕ
-spread_of g s = 1 + g (5400 + s) % 3
+unfoldable pub trial_spread_of : (ℕ → ℕ) → ℕ → ℕ
+trial_spread_of g s = 1 + g (5400 + s) % 3

@@ -4,29 +4,30 @@ use Rattle.ra_base.specs.declared.ids.Machine.{Machine}
 use Rattle.ra_assign.specs.Lists.{assignment_bytes}
 use Rattle.ra_model_text.specs.Lines.{lines_text}
 use Rattle.ra_trial.specs.Lines.{listed}
-use Rattle.ra_trial.specs.Numbers.{trial_word, transient_of, requirement_of, process_cost_of, start_of, capacity_of}
-use Rattle.ra_trial.specs.Numbers.{safety_of, way_cost_of, spread_of}
+use Rattle.ra_trial.specs.Numbers.{trial_word, trial_transient_of, trial_requirement_of, trial_process_cost_of}
+use Rattle.ra_trial.specs.Numbers.{trial_start_of, trial_capacity_of}
+use Rattle.ra_trial.specs.Numbers.{trial_safety_of, trial_way_cost_of, trial_spread_of}
 
 -- a resource: its transient flag and its load weight
 unfoldable pub resource_line : ℕ → List ℕ
-resource_line r = transient_of r ∷ 10 ∷ []
+resource_line r = trial_transient_of r ∷ 10 ∷ []
 
 -- a machine: its neighbourhood, of 20 machines, its location, of 10, its capacities and its safety capacities
 unfoldable pub machine_front : (ℕ → ℕ) → ℕ → List ℕ
-machine_front g m = m / 20 ∷ m % 10 ∷ listed 4 (capacity_of g m) ++ listed 4 (safety_of g m)
+machine_front g m = m / 20 ∷ m % 10 ∷ listed 4 (trial_capacity_of g m) ++ listed 4 (trial_safety_of g m)
 
 -- the whole line of a machine: its front, and the costs of a move from it to each machine
 unfoldable pub machine_line : (ℕ → ℕ) → ℕ → List ℕ
-machine_line g m = machine_front g m ++ listed 100 (way_cost_of m)
+machine_line g m = machine_front g m ++ listed 100 (trial_way_cost_of m)
 
 -- a service: its spread, and each fifth one depends on the service 25 numbers on
 unfoldable pub service_line : (ℕ → ℕ) → ℕ → List ℕ
 service_line g s =
-    if s % 5 == 0 then spread_of g s ∷ 1 ∷ (s + 25) % 250 ∷ [] else spread_of g s ∷ 0 ∷ []
+    if s % 5 == 0 then trial_spread_of g s ∷ 1 ∷ (s + 25) % 250 ∷ [] else trial_spread_of g s ∷ 0 ∷ []
 
 -- a process: its service, of four processes, its requirements and its move cost
 unfoldable pub process_line : (ℕ → ℕ) → ℕ → List ℕ
-process_line g p = p / 4 ∷ listed 4 (requirement_of g p) ++ process_cost_of g p ∷ []
+process_line g p = p / 4 ∷ listed 4 (trial_requirement_of g p) ++ trial_process_cost_of g p ∷ []
 
 -- each group has its count in front
 unfoldable pub resource_lines : List (List ℕ)
@@ -55,12 +56,12 @@ text_over g =
     ++ lines_text last_lines
 
 -- the text of the model of a number
-unfoldable pub model_text : ℕ → List ℕ
-model_text number = text_over (trial_word number)
+unfoldable pub trial_model_text : ℕ → List ℕ
+trial_model_text number = text_over (trial_word number)
 
 -- the machine of process p at the start
 unfoldable pub start_machine : ℕ → Machine
-start_machine p = record { 0 = start_of p }
+start_machine p = record { 0 = trial_start_of p }
 
 -- the text of the start, which is the same for each number
 unfoldable pub start_text : List ℕ

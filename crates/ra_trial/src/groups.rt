@@ -1,7 +1,7 @@
 ghost use Rattle.std.specs.Prelude.{◌≡◌, ◌+◌, ◌<◌, ◌≤◌, length};
 ghost use Rattle.ra_model_text.specs.Lines.{line_text, lines_text};
-ghost use Rattle.ra_trial.specs.Lines.{Adds};
-ghost use Rattle.ra_trial.specs.Numbers.{trial_word, transient_of};
+ghost use Rattle.ra_trial.specs.Lines.{AddsAtMost};
+ghost use Rattle.ra_trial.specs.Numbers.{trial_word, trial_transient_of};
 ghost use Rattle.ra_trial.specs.Trials.{resource_line, resource_lines, service_line, service_lines, process_line, process_lines, last_lines};
 
 use crate::lines::push_line;
@@ -21,7 +21,7 @@ const LOAD_WEIGHT: u32 = 10;
 /// Adds the count of resources and the line of each.
 pub(crate) fn push_resources(text: &mut Fixed<u8>)
     requires { length text.old.items + 104 ≤ text.old.room }
-    ensures { Adds text.old text.new (lines_text resource_lines) 104 }
+    ensures { AddsAtMost text.old text.new (lines_text resource_lines) 104 }
 {
     push_line(text, &[RESOURCES]);
     for r in 0..RESOURCES {
@@ -32,15 +32,15 @@ pub(crate) fn push_resources(text: &mut Fixed<u8>)
 /// Adds the line of resource `r`.
 fn push_resource(text: &mut Fixed<u8>, r: u32)
     requires { length text.old.items + 23 ≤ text.old.room }
-    ensures { Adds text.old text.new (line_text (resource_line r)) 23 }
+    ensures { AddsAtMost text.old text.new (line_text (resource_line r)) 23 }
 {
     push_line(text, &[transient_flag(r), LOAD_WEIGHT]);
 }
 
 /// Only resource 0 is transient.
-#[tactic(auto, unfolding(crate::specs::Numbers::transient_of))]
+#[tactic(auto, unfolding(crate::specs::Numbers::trial_transient_of))]
 fn transient_flag(r: u32) -> u32
-    ensures { result ≡ transient_of r }
+    ensures { result ≡ trial_transient_of r }
 {
     if r == 0 { 1 } else { 0 }
 }
@@ -48,7 +48,7 @@ fn transient_flag(r: u32) -> u32
 /// Adds the count of services and the line of each.
 pub(crate) fn push_services(text: &mut Fixed<u8>, words: &Words)
     requires { length text.old.items + 8512 ≤ text.old.room }
-    ensures { Adds text.old text.new (lines_text (service_lines (trial_word words.now.number)))
+    ensures { AddsAtMost text.old text.new (lines_text (service_lines (trial_word words.now.number)))
         8512 }
 {
     push_line(text, &[SERVICES]);
@@ -61,7 +61,7 @@ pub(crate) fn push_services(text: &mut Fixed<u8>, words: &Words)
 fn push_service(text: &mut Fixed<u8>, words: &Words, s: u32)
     requires service { s < 250 }
     requires room { length text.old.items + 34 ≤ text.old.room }
-    ensures { Adds text.old text.new (line_text (service_line (trial_word words.now.number) s)) 34 }
+    ensures { AddsAtMost text.old text.new (line_text (service_line (trial_word words.now.number) s)) 34 }
 {
     let wants = spread(words, s);
     if s % 5 == 0 {
@@ -74,7 +74,7 @@ fn push_service(text: &mut Fixed<u8>, words: &Words, s: u32)
 /// Adds the count of processes and the line of each.
 pub(crate) fn push_processes(text: &mut Fixed<u8>, words: &Words)
     requires { length text.old.items + 67012 ≤ text.old.room }
-    ensures { Adds text.old text.new (lines_text (process_lines (trial_word words.now.number)))
+    ensures { AddsAtMost text.old text.new (lines_text (process_lines (trial_word words.now.number)))
         67012 }
 {
     push_line(text, &[PROCESSES]);
@@ -87,7 +87,7 @@ pub(crate) fn push_processes(text: &mut Fixed<u8>, words: &Words)
 fn push_process(text: &mut Fixed<u8>, words: &Words, p: u32)
     requires process { p < 1000 }
     requires room { length text.old.items + 67 ≤ text.old.room }
-    ensures { Adds text.old text.new (line_text (process_line (trial_word words.now.number) p)) 67 }
+    ensures { AddsAtMost text.old text.new (line_text (process_line (trial_word words.now.number) p)) 67 }
 {
     push_line(
         text,
@@ -105,7 +105,7 @@ fn push_process(text: &mut Fixed<u8>, words: &Words, p: u32)
 /// Adds the balance objective and the weights of moves.
 pub(crate) fn push_last(text: &mut Fixed<u8>)
     requires { length text.old.items + 92 ≤ text.old.room }
-    ensures { Adds text.old text.new (lines_text last_lines) 92 }
+    ensures { AddsAtMost text.old text.new (lines_text last_lines) 92 }
 {
     push_line(text, &[1]);
     push_line(text, &[0, 1, 2]);

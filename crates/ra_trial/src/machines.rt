@@ -1,7 +1,7 @@
 ghost use Rattle.std.specs.Prelude.{◌≡◌, ◌+◌, ◌<◌, ◌≤◌, ◌++◌, length, IfOk};
 ghost use Rattle.ra_model_text.specs.Lines.{line_text, lines_text};
-ghost use Rattle.ra_trial.specs.Lines.{Adds, listed};
-ghost use Rattle.ra_trial.specs.Numbers.{trial_word, way_cost_of};
+ghost use Rattle.ra_trial.specs.Lines.{AddsAtMost, listed};
+ghost use Rattle.ra_trial.specs.Numbers.{trial_word, trial_way_cost_of};
 ghost use Rattle.ra_trial.specs.Trials.{machine_front, machine_line, machine_lines};
 
 use crate::lines::push_line;
@@ -24,7 +24,7 @@ pub(crate) fn make_line(alloc: Global) -> Result<Fixed<u32>, NoMemory>
 pub(crate) fn push_machines(text: &mut Fixed<u8>, line: &mut Fixed<u32>, words: &Words)
     requires room { length text.old.items + 121112 ≤ text.old.room }
     requires line { line.old.room ≡ 110 }
-    ensures { Adds text.old text.new (lines_text (machine_lines (trial_word words.now.number)))
+    ensures { AddsAtMost text.old text.new (lines_text (machine_lines (trial_word words.now.number)))
         121112 }
 {
     push_line(text, &[MACHINES]);
@@ -38,7 +38,7 @@ fn push_machine(text: &mut Fixed<u8>, line: &mut Fixed<u32>, words: &Words, m: u
     requires machine { m < 100 }
     requires room { length text.old.items + 1211 ≤ text.old.room }
     requires line { line.old.room ≡ 110 }
-    ensures adds { Adds text.old text.new (line_text (machine_line (trial_word words.now.number)
+    ensures adds { AddsAtMost text.old text.new (line_text (machine_line (trial_word words.now.number)
         m)) 1211 }
     ensures line { line.new.room ≡ 110 }
 {
@@ -60,7 +60,7 @@ fn gather_machine(line: &mut Fixed<u32>, words: &Words, m: u32)
 }
 
 /// The numbers of machine `m` before its move costs.
-#[tactic(auto, unfolding(crate::specs::Trials::machine_front, crate::specs::Lines::listed, crate::specs::Numbers::safety_of))]
+#[tactic(auto, unfolding(crate::specs::Trials::machine_front, crate::specs::Lines::listed, crate::specs::Numbers::trial_safety_of))]
 fn front(words: &Words, m: u32) -> [u32; 10]
     requires { m < 100 }
     ensures { result ≡ machine_front (trial_word words.now.number) m }
@@ -89,7 +89,7 @@ fn front(words: &Words, m: u32) -> [u32; 10]
 fn add_way_costs(line: &mut Fixed<u32>, m: u32)
     requires machine { m < 100 }
     requires room { length line.old.items + 100 ≤ line.old.room }
-    ensures items { line.new.items ≡ line.old.items ++ listed 100 (way_cost_of m) }
+    ensures items { line.new.items ≡ line.old.items ++ listed 100 (trial_way_cost_of m) }
     ensures many { length line.new.items ≡ length line.old.items + 100 }
     ensures room { line.new.room ≡ line.old.room }
 {

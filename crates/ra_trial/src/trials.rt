@@ -1,6 +1,6 @@
 ghost use Rattle.std.specs.Prelude.{◌≡◌, IfOk};
 ghost use Rattle.ra_trial.specs.Lines.{listed};
-ghost use Rattle.ra_trial.specs.Trials.{model_text, start_machine, start_text};
+ghost use Rattle.ra_trial.specs.Trials.{trial_model_text, start_machine, start_text};
 
 use crate::groups::{push_last, push_processes, push_resources, push_services};
 use crate::machines::{make_line, push_machines};
@@ -25,7 +25,7 @@ pub struct TrialText {
 /// The texts of the trial of a number, whose words are those of the generator xoshiro256++ that the number seeds. It
 /// fails only if the system refuses memory.
 pub fn trial_text(alloc: Global, number: u64) -> Result<TrialText, NoMemory>
-    ensures model { IfOk result (λ text. text.model.items ≡ model_text number) }
+    ensures model { IfOk result (λ text. text.model.items ≡ trial_model_text number) }
     ensures start { IfOk result (λ text. text.start.items ≡ start_text) }
 {
     let model = model_file(alloc, number)?;
@@ -35,7 +35,7 @@ pub fn trial_text(alloc: Global, number: u64) -> Result<TrialText, NoMemory>
 
 /// The text of the model.
 fn model_file(alloc: Global, number: u64) -> Result<Fixed<u8>, NoMemory>
-    ensures { IfOk result (λ text. text.items ≡ model_text number) }
+    ensures { IfOk result (λ text. text.items ≡ trial_model_text number) }
 {
     let words = Words::of(alloc, number)?;
     let mut line = make_line(alloc)?;

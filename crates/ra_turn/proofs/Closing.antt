@@ -10,7 +10,7 @@ use Rattle.ra_turn.specs.declared.pass.Pass.{Pass}
 use Rattle.ra_turn.specs.declared.turn.Turn.{Turn}
 use Rattle.ra_turn.specs.declared.sight.Sight.{Sight}
 use Rattle.ra_turn.specs.Law.{Ruled}
-use Rattle.ra_turn.specs.Notes.{by, Stands}
+use Rattle.ra_turn.specs.Notes.{by, StandsInNotes}
 use Rattle.ra_turn.specs.Passes.{EachAt, IsDone, IsJoined, IsPartOf, opening_of, passes_of, turns_of_each, guards_of}
 use Rattle.std.proofs.lemmas.List.Elements.{All-contains}
 use Rattle.ra_turn.proofs.Ends.{ends}
@@ -38,8 +38,8 @@ module _ {V N O : Type 0} {g : Ghosts V N O} where
       × All (λ n. g.author n < passes_of t) (g.notes z)) one (
         end.2,
         λ k p lt. (let q = slice_index_or items k p in
-            let f = All-contains (Stands g.author (g.notes end.0)) (s.me.0.own ∷ s.me.0.joined) q.seat.me.0.own end.3
-            (j.parts k p lt) in
+            let f = All-contains (StandsInNotes g.author (g.notes end.0)) (s.me.0.own ∷ s.me.0.joined)
+            q.seat.me.0.own end.3 (j.parts k p lt) in
             (f.seen, ap (λ (n : ℕ). by g.author n (g.notes end.0)) (sym q.numbered) ∙ f.mine)),
         end.4,
       )

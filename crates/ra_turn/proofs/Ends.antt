@@ -17,11 +17,11 @@ use Rattle.ra_turn.specs.declared.sight.Part.{Part}
 use Rattle.ra_turn.specs.declared.sight.Sight.{Sight}
 use Rattle.ra_turn.specs.declared.sight.Stage.{Stage}
 use Rattle.ra_turn.specs.declared.sight.Stage.TheVariants.{Maker, Idle}
-use Rattle.ra_turn.specs.Notes.{Stands}
-use Rattle.ra_turn.specs.Seats.{Covers}
-use Rattle.ra_turn.specs.Law.{AtTicket, HasNumber, Scene, Ruled, Fits, Knows, Slot, left_of, maker}
+use Rattle.ra_turn.specs.Notes.{StandsInNotes}
+use Rattle.ra_turn.specs.Seats.{HasNumbersBelow}
+use Rattle.ra_turn.specs.Law.{AtTicket, HasNumber, Scene, Ruled, Fits, Knows, Slot, left_of_sight, maker}
 use Rattle.ra_turn.specs.Stages.{IsLive, IsPass, HasTicket, IsServed, HasSlot}
-use Rattle.ra_turn.specs.Steps.{cut_left, cut_right, turns_of, joined, spent}
+use Rattle.ra_turn.specs.Steps.{cut_left, cut_right, turns_of, passes_joined, spent}
 use Rattle.ra_turn.proofs.Lists.{stands_at, at_end, at_below, sum_changes, all_one, all_map}
 use Rattle.ra_turn.proofs.Stages.{slot_ticket, ticket_pass}
 use Rattle.ra_turn.proofs.Keeps.{slot_stays}
@@ -176,7 +176,7 @@ module _ {V N O : Type 0} (opening : V → O) (notes : V → List N) (author : N
         kept = record {
           words = k.words;
           order = k.order;
-          turns_left = (let a = sum_changes left_of s.views i v left at in let b = sum_by_push left_of views' right in
+          turns_left = (let a = sum_changes left_of_sight s.views i v left at in let b = sum_by_push left_of_sight views' right in
               let t = k.turns_left in omega arith);
           waits = λ t from below.
               (let g = stands_at (AtTicket t) s.views i v left (c.queue t) at (λ h. absurd (subst HasTicket stage h.0))
@@ -220,10 +220,10 @@ module _ {V N O : Type 0} (opening : V → O) (notes : V → List N) (author : N
 
   -- one pass is joined to another, and both have no guard locked
   pub glues : (i : ℕ) (v : Sight N O) (other : ℕ) (w : Sight N O) → v.stage ≡ Idle → w.stage ≡ Idle → v.grips ≡ [] →
-      w.grips ≡ [] → Joins Rule i v other w (joined v w) spent
+      w.grips ≡ [] → Joins Rule i v other w (passes_joined v w) spent
   glues i v other w stage stage' empty empty' s r at apart at' =
       let k = r.kept in let c = r.scene in let kv = k.each i v at in
-      let both : Sight N O = joined v w in
+      let both : Sight N O = passes_joined v w in
       let views' : List (Sight N O) = set s.views i both in
       let there : get_elem? s.views other ≡ some w = sym (set_else s.views i other both apart) ∙ at' in
       let kw = k.each other w there in
@@ -288,8 +288,8 @@ module _ {V N O : Type 0} (opening : V → O) (notes : V → List N) (author : N
           words = k.words;
           order = k.order;
           turns_left =
-              (let a = sum_changes left_of s.views i v both at in
-              let b = sum_changes left_of views' other w spent at' in let t = k.turns_left in omega arith);
+              (let a = sum_changes left_of_sight s.views i v both at in
+              let b = sum_changes left_of_sight views' other w spent at' in let t = k.turns_left in omega arith);
           waits = λ t from below. stands_at (AtTicket t) views' other w spent (c.queue t) at'
               (λ h. absurd (subst HasTicket stage' h.0))
               (stands_at (AtTicket t) s.views i v both (c.queue t) at (λ h. absurd (subst HasTicket stage h.0))
@@ -343,9 +343,9 @@ module _ {V N O : Type 0} (opening : V → O) (notes : V → List N) (author : N
       }
 
   -- if one idle seat has every number, the slot is at home, and its value has the history that the seat knows
-  pub ends : (i : ℕ) (v : Sight N O) (ws : List ℕ) (xs : List (Option V)) → v.stage ≡ Idle → Covers passes v →
+  pub ends : (i : ℕ) (v : Sight N O) (ws : List ℕ) (xs : List (Option V)) → v.stage ≡ Idle → HasNumbersBelow passes v →
       Final (Seen Rule i v) ws xs
-      → (x : V) × (get_elem? xs 0 ≡ some (Some x)) × (opening x ≡ o) × All (Stands author (notes x)) (v.own ∷ v.joined)
+      → (x : V) × (get_elem? xs 0 ≡ some (Some x)) × (opening x ≡ o) × All (StandsInNotes author (notes x)) (v.own ∷ v.joined)
       × All (λ n. author n < passes) (notes x)
   ends i v ws xs stage covers final =
       let s = final.0 in let r = final.1.0 in let k = r.kept in let c = r.scene in let at = final.1.1 in
@@ -356,8 +356,8 @@ module _ {V N O : Type 0} (opening : V → O) (notes : V → List N) (author : N
         x,
         final.4 0 (Some x) (ap (λ (hs : List (maybe.Option (Option V))). get_elem? hs 0) home.here),
         home.opened,
-        all_map (Fits author c.history c.given c.owner i) (Stands author (notes x)) (v.own ∷ v.joined)
-            (λ p f. subst (λ (ys : List N). Stands author ys p) (sym home.same)
+        all_map (Fits author c.history c.given c.owner i) (StandsInNotes author (notes x)) (v.own ∷ v.joined)
+            (λ p f. subst (λ (ys : List N). StandsInNotes author ys p) (sym home.same)
             (record { seen = f.seen; mine = f.mine })) parts,
         subst (λ (ys : List N). All (λ n. author n < passes) ys) (sym home.same)
             (all_below author passes c.given c.history k.numbers k.unheard),

@@ -17,7 +17,8 @@ use Rattle.ra_turn.specs.Notes.{grip, without, touching, OnlyBy, IsVersion, IsNe
 use Rattle.ra_turn.specs.Law.{Scene, Kept, Ruled, Knows}
 use Rattle.ra_turn.specs.Stages.{IsPass, HasSlot}
 use Rattle.ra_turn.specs.Locks.{Latch, Latched, Locks}
-use Rattle.ra_turn.specs.Steps.{with_grips, with_news, at_version, heard, glanced, gripped, released, Took, Gave}
+use Rattle.ra_turn.specs.Steps.{with_grips, with_news, at_version, heard, glanced, gripped, released, TookGuard}
+use Rattle.ra_turn.specs.Steps.{GaveGuard}
 use Rattle.ra_turn.proofs.Keeps.{moved, slot_stays, waits_stay}
 use Rattle.ra_turn.proofs.Stages.{pass_live}
 use Rattle.ra_turn.proofs.Lists.{all_map, at_below}
@@ -162,11 +163,11 @@ module _ {V N O : Type 0} (opening : V → O) (notes : V → List N) (author : N
       version_seen (touching touches o guard) v.own.seen c.history p fits_own.seen le
       (latch_free author touches o guards c.history guard word p (r.locks.latch guard) (r.locks.shows guard below)
       even).1 in
-      let facts : (guard' q : ℕ) → 3 + guard ≡ 3 + guard' → old ≡ 2 * q → Took author touches m m' guard' q =
+      let facts : (guard' q : ℕ) → 3 + guard ≡ 3 + guard' → old ≡ 2 * q → TookGuard author touches m m' guard' q =
       λ guard' q one two.
       (let g' : guard ≡ guard' = omega arith in let q' : p ≡ q = omega arith in
-      subst (λ (x : ℕ). Took author touches m m' x q) g'
-      (subst (λ (y : ℕ). Took author touches m m' guard y) q' (
+      subst (λ (x : ℕ). TookGuard author touches m m' x q) g'
+      (subst (λ (y : ℕ). TookGuard author touches m m' guard y) q' (
         refl,
         λ o' opened'. subst (λ (z : O). ShutBy touches z author v.own.number v.own.seen grips)
             (let z = sym opened ∙ opened' in cc z) shut,
@@ -183,7 +184,7 @@ module _ {V N O : Type 0} (opening : V → O) (notes : V → List N) (author : N
           locks = locks';
         },
         subst (λ (b : Bool). MatchBool b ((guard' q : ℕ) → 3 + guard ≡ 3 + guard' → old ≡ 2 * q →
-            Took author touches m m' guard' q) (m' ≡ m)) (sym e) facts,
+            TookGuard author touches m m' guard' q) (m' ≡ m)) (sym e) facts,
       )
   grips_at slots i m guard old p s stage below twice r at false e =
       let k = r.kept in let c = r.scene in let v = m.0 in let gs = r.guard_words in
@@ -202,7 +203,7 @@ module _ {V N O : Type 0} (opening : V → O) (notes : V → List N) (author : N
               (r.locks.news i v at));
         },
         subst (λ (b : Bool). MatchBool b ((guard' q : ℕ) → 3 + guard ≡ 3 + guard' → old ≡ 2 * q →
-            Took author touches m m guard' q) (m ≡ m)) (sym e) refl,
+            TookGuard author touches m m guard' q) (m ≡ m)) (sym e) refl,
       )
 
   pub grips : (slots i : ℕ) (m : Me (Option V) (Sight N O)) (guard old p : ℕ) → m.0.stage ≡ Idle → guard < guards →
@@ -252,7 +253,7 @@ module _ {V N O : Type 0} (opening : V → O) (notes : V → List N) (author : N
       (shut_by author touches o guards c.history gs' (set s.views i w) i w locks'
       (set_here s.views i w (at_below s.views i v at))) in
       let m' : Me (Option V) (Sight N O) = (w, m.1) in
-      let gave : Gave author touches m m' guard = (
+      let gave : GaveGuard author touches m m' guard = (
         refl,
         λ o' opened'. subst (λ (z : O). ShutBy touches z author v.own.number v.own.seen grips)
             (let z = sym opened ∙ opened' in cc z) shut,
@@ -271,5 +272,5 @@ module _ {V N O : Type 0} (opening : V → O) (notes : V → List N) (author : N
           kept = base_grip c gs gs' s i v grips v.news stage k at;
           locks = locks';
         },
-        λ g e. (let one : guard ≡ g = omega arith in subst (λ (z : ℕ). Gave author touches m m' z) one gave),
+        λ g e. (let one : guard ≡ g = omega arith in subst (λ (z : ℕ). GaveGuard author touches m m' z) one gave),
       ))

@@ -10,8 +10,8 @@ use Rattle.ra_turn.specs.declared.pass.Pass.{Pass}
 use Rattle.ra_turn.specs.declared.turn.Turn.{Turn}
 use Rattle.ra_turn.specs.declared.sight.Sight.{Sight}
 use Rattle.ra_turn.specs.Passes.{EachAt, grips_of, IsPassOf, IsIdle, IsDone, IsJoined, passes_of}
-use Rattle.ra_turn.specs.Seats.{Covers}
-use Rattle.ra_turn.specs.Steps.{joined}
+use Rattle.ra_turn.specs.Seats.{HasNumbersBelow}
+use Rattle.ra_turn.specs.Steps.{passes_joined}
 use Rattle.ra_turn.proofs.Lists.{all_one, all_map}
 
 -- there is an element at each place of a list
@@ -64,15 +64,15 @@ module _ {V N O : Type 0} {g : Ghosts V N O} where
 
   pub next_joined : (t : Turn V N O) (items left ps : List (Pass V N O g)) (p : Pass V N O g)
       (s s' : Seat (Option V) (Sight N O)) → EachAt (IsDone t) items → ps ≡ left ++ p ∷ [] → JoinedFrom t ps items s
-      → s'.table_id ≡ s.table_id → s'.me.0 ≡ joined s.me.0 p.seat.me.0 → JoinedFrom t left items s'
+      → s'.table_id ≡ s.table_id → s'.me.0 ≡ passes_joined s.me.0 p.seat.me.0 → JoinedFrom t left items s'
   next_joined t items left ps p s s' each popped from table view =
       let found = last_done t items left ps from.0 p each popped from.1 in let j = from.2 in
       let v = s.me.0 in let w = p.seat.me.0 in
       let has : (v' : Sight N O) → Pass V N O g → Type 0 = λ v' q. Contains (v'.own ∷ v'.joined) q.seat.me.0.own in
-      let old : All (has (joined v w)) from.0 =
-      all_map (has v) (has (joined v w)) from.0
+      let old : All (has (passes_joined v w)) from.0 =
+      all_map (has v) (has (passes_joined v w)) from.0
       (λ q h. Contains-append_left (v.own ∷ v.joined) (w.own ∷ w.joined) q.seat.me.0.own h) j.parts in
-      let new : has (joined v w) p = Contains-append_right (v.own ∷ v.joined) (w.own ∷ w.joined) w.own
+      let new : has (passes_joined v w) p = Contains-append_right (v.own ∷ v.joined) (w.own ∷ w.joined) w.own
       (0, omega arith, refl) in (
         p ∷ from.0,
         found.0,
@@ -81,7 +81,7 @@ module _ {V N O : Type 0} {g : Ghosts V N O} where
           idle = ap (λ (x : Sight N O). x.stage) view ∙ j.idle;
           empty = ap (λ (x : Sight N O). x.grips) view ∙ j.empty;
           parts = subst (λ (x : Sight N O). All (has x) (p ∷ from.0)) (sym view)
-              (All-cons (has (joined v w)) p from.0 new old);
+              (All-cons (has (passes_joined v w)) p from.0 new old);
         },
       )
 
@@ -91,7 +91,7 @@ module _ {V N O : Type 0} {g : Ghosts V N O} where
 
   -- a seat to which all passes were joined has every number
   pub joined_covers : (t : Turn V N O) (items : List (Pass V N O g)) (s : Seat (Option V) (Sight N O)) →
-      length items ≡ passes_of t → EachAt (IsDone t) items → IsJoined t items s → Covers (passes_of t) s.me.0
+      length items ≡ passes_of t → EachAt (IsDone t) items → IsJoined t items s → HasNumbersBelow (passes_of t) s.me.0
   joined_covers t items s count each j k lt =
       let found = has_at items k (omega arith) in let p = found.0 in
       let d : IsDone t k p = subst (IsDone t k) found.1 (each k p (omega arith)) in (

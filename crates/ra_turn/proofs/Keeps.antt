@@ -8,7 +8,7 @@ use Rattle.atomic_table.specs.Table.{State}
 use Rattle.atomic_table.proofs.Lists.{at_set, set_else}
 use Rattle.ra_turn.specs.declared.sight.Sight.{Sight}
 use Rattle.ra_turn.specs.Notes.{by}
-use Rattle.ra_turn.specs.Law.{AtTicket, HasNumber, Scene, Kept, Knows, Slot, left_of}
+use Rattle.ra_turn.specs.Law.{AtTicket, HasNumber, Scene, Kept, Knows, Slot, left_of_sight}
 use Rattle.ra_turn.specs.Stages.{HasSlot}
 use Rattle.ra_turn.proofs.Lists.{stands_at, sum_changes}
 
@@ -42,7 +42,7 @@ module _ {V N O : Type 0} (opening : V → O) (notes : V → List N) (author : N
       record {
         words = words;
         order = order;
-        turns_left = (let e = sum_changes left_of s.views i v w at in let all = k.turns_left in omega arith);
+        turns_left = (let e = sum_changes left_of_sight s.views i v w at in let all = k.turns_left in omega arith);
         waits = waits;
         numbers = numbers;
         given_out = λ n lt. (let g = k.given_out n (subst (λ (z : ℕ). n < z) given lt) in

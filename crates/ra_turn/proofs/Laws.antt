@@ -7,7 +7,7 @@ use Rattle.ra_turn.specs.declared.story.Story.{Ghosts}
 use Rattle.ra_turn.specs.declared.sight.Grip.{Grip}
 use Rattle.ra_turn.specs.declared.turn.Turn.{Turn}
 use Rattle.ra_turn.specs.Notes.{by, grip, touching, OnlyBy}
-use Rattle.ra_turn.specs.Passes.{seen_by, made_by, grips_of, opening_of}
+use Rattle.ra_turn.specs.Passes.{seen_by, notes_made_by, grips_of, opening_of}
 use Rattle.ra_turn.specs.Laws.{VersionIsOne, VersionAtTake}
 use Rattle.ra_turn.proofs.Versions.{version_one, version_whole, version_past}
 
@@ -19,7 +19,7 @@ module _ {V N O : Type 0} (g : Ghosts V N O) where
   version_at_take t p q r guard asked at held take =
       let touched : N → Bool = touching g.touches (opening_of g.opening t) guard in
       let xs : List N = seen_by q in let ys : List N = seen_by r in
-      let mine : List N = made_by q in
+      let mine : List N = notes_made_by q in
       let has : Contains (grips_of p ++ grip guard at ∷ []) (grip guard at) =
       Contains-append_right (grips_of p) (grip guard at ∷ []) (grip guard at) (0, omega arith, refl) in
       let has' : Contains (grips_of r) (grip guard at) = subst (λ (ks : List Grip). Contains ks (grip guard at))

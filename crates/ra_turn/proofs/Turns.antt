@@ -19,9 +19,9 @@ use Rattle.ra_turn.specs.declared.sight.Stage.TheVariants.{Idle, Drawn, Called, 
 use Rattle.ra_turn.specs.declared.sight.Grip.{Grip}
 use Rattle.ra_turn.specs.Notes.{by, IsNews, ShutBy}
 use Rattle.ra_turn.specs.Locks.{Locks}
-use Rattle.ra_turn.specs.Law.{AtTicket, Scene, Kept, Ruled, Fits, Knows, AtHome, OutWith, left_of}
+use Rattle.ra_turn.specs.Law.{AtTicket, Scene, Kept, Ruled, Fits, Knows, AtHome, OutWith, left_of_sight}
 use Rattle.ra_turn.specs.Stages.{IsPass, HasTicket, IsServed, HasSlot}
-use Rattle.ra_turn.specs.Steps.{with_stage, with_seen, with_ticket, peeked, drawn, queued, looked, saw}
+use Rattle.ra_turn.specs.Steps.{with_stage, with_seen, with_ticket, peeked, ticket_drawn, queued, looked, saw}
 use Rattle.std.proofs.lemmas.Bool.Decides.{nat_tests}
 use Rattle.ra_turn.proofs.Lists.{prefix_self, sum_has, at_below, all_first}
 use Rattle.ra_turn.proofs.Stages.{slot_served, served_ticket, pass_live}
@@ -86,7 +86,7 @@ module _ {V N O : Type 0} (opening : V → O) (notes : V → List N) (author : N
   -- a ticket and the turns left are together few
   pub few_turns : (c : Scene N) (gs : List ℕ) (s : State (Option V) (Sight N O)) (i : ℕ) (v : Sight N O) → Base c gs s →
       get_elem? s.views i ≡ some v → c.ticket + v.left ≤ passes * turns
-  few_turns c gs s i v k at = let h = sum_has left_of s.views i v at in let t = k.turns_left in omega arith
+  few_turns c gs s i v k at = let h = sum_has left_of_sight s.views i v at in let t = k.turns_left in omega arith
 
   -- nothing changes for an idle seat
   idle_kept : (c : Scene N) (gs : List ℕ) (s : State (Option V) (Sight N O)) (i : ℕ) (v : Sight N O) (ticket : ℕ) →
@@ -203,7 +203,7 @@ module _ {V N O : Type 0} (opening : V → O) (notes : V → List N) (author : N
         homes = homes_after s.homes m.1 a;
         views = set s.views i w;
       })
-      × drawn (step slots 0 old (old + 1) none) m r.scene.ticket (w, carried_after m.1 a)
+      × ticket_drawn (step slots 0 old (old + 1) none) m r.scene.ticket (w, carried_after m.1 a)
   draws_at slots i m old s idle more r at true e =
       let c = r.scene in
       let found : c.ticket ≡ old = grind (arith, nat_tests) in
@@ -235,7 +235,7 @@ module _ {V N O : Type 0} (opening : V → O) (notes : V → List N) (author : N
       )
 
   pub draws : (slots i : ℕ) (m : Me (Option V) (Sight N O)) (old : ℕ) → m.0.stage ≡ Idle → 0 < m.0.left
-      → Allows Rule slots i m 0 (λ n. either (n == old) (old + 1) n) (drawn (step slots 0 old (old + 1) none) m)
+      → Allows Rule slots i m 0 (λ n. either (n == old) (old + 1) n) (ticket_drawn (step slots 0 old (old + 1) none) m)
   draws slots i m old idle more s r len at fits =
       let P : List ℕ → Type 0 = λ ws. (w' : Sight N O) × (a : Act (Option V)) × Valid s.homes m.1 a
       × Rule (record {
@@ -243,7 +243,7 @@ module _ {V N O : Type 0} (opening : V → O) (notes : V → List N) (author : N
         homes = homes_after s.homes m.1 a;
         views = set s.views i w';
       })
-      × drawn (step slots 0 old (old + 1) none) m (get_or ws 0 0) (w', carried_after m.1 a) in
+      × ticket_drawn (step slots 0 old (old + 1) none) m (get_or ws 0 0) (w', carried_after m.1 a) in
       subst P (sym r.kept.words) (draws_at slots i m old s idle more r at (r.scene.ticket == old) refl)
 
   -- a ticket is drawn after those that wait

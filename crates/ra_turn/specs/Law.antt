@@ -23,8 +23,8 @@ pub record Scene (N : Type 0) : Type 0 where
   pub queue : ℕ → ℕ
   pub owner : ℕ → ℕ
 
-abbrev pub left_of : {N O : Type 0} → Sight N O → ℕ
-left_of v = v.left
+abbrev pub left_of_sight : {N O : Type 0} → Sight N O → ℕ
+left_of_sight v = v.left
 
 -- What the seat i knows of a number: its `seen` is a prefix of the history, and its own notes are the history's notes
 -- by this number
@@ -93,7 +93,7 @@ module _ {V N O : Type 0} (opening : V → O) (notes : V → List N) (author : N
     where
       pub words : s.words ≡ c.ticket ∷ c.serving ∷ length c.history ∷ guard_words
       pub order : c.serving ≤ c.ticket
-      pub turns_left : c.ticket + sum_by left_of s.views ≤ passes * turns
+      pub turns_left : c.ticket + sum_by left_of_sight s.views ≤ passes * turns
       -- each ticket from the one that is served to the last one drawn is in the view of its seat, so no ticket is lost
       -- before the next one is served
       pub waits : (t : ℕ) → c.serving ≤ t → t < c.ticket

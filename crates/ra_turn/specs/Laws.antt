@@ -5,7 +5,7 @@ use Rattle.ra_turn.specs.declared.story.Story.{Ghosts}
 use Rattle.ra_turn.specs.declared.pass.Pass.{Pass}
 use Rattle.ra_turn.specs.declared.turn.Turn.{Turn}
 use Rattle.ra_turn.specs.Notes.{by, IsVersion}
-use Rattle.ra_turn.specs.Passes.{seen_by, made_by, HoldsSame, IsGripped, HasVersion, Shut, SeesNews}
+use Rattle.ra_turn.specs.Passes.{seen_by, notes_made_by, HoldsSame, IsGripped, HasVersion, Shut, SeesNews}
 
 -- a guard has one version in a history
 abbrev pub VersionIsOne : {N : Type 0} → (N → Bool) → Type 0
@@ -17,8 +17,8 @@ module _ {V N O : Type 0} {g : Ghosts V N O} where
   pub record IsTake (t : Turn V N O) (p q : Pass V N O g) : Type 0 where
     pub number : q.number ≡ p.number
     pub seen : IsPrefix (seen_by p) (seen_by q)
-    pub made : made_by q ≡ made_by p
-    pub owned : by g.author q.number (seen_by q) ≡ made_by q
+    pub made : notes_made_by q ≡ notes_made_by p
+    pub owned : by g.author q.number (seen_by q) ≡ notes_made_by q
     pub grips : HoldsSame p q
     pub shut : Shut t q
     pub news : SeesNews t q

@@ -10,7 +10,7 @@ abbrev pub by : {N : Type 0} → (N → ℕ) → ℕ → List N → List N
 by author number xs = filter (λ x. author x == number) xs
 
 -- what a pass has seen is a prefix of the notes xs, and its own notes are exactly those of xs by its number
-pub record Stands {N : Type 0} (author : N → ℕ) (xs : List N) (p : Part N) : Type 0 where
+pub record StandsInNotes {N : Type 0} (author : N → ℕ) (xs : List N) (p : Part N) : Type 0 where
   pub seen : IsPrefix p.seen xs
   pub mine : by author p.number xs ≡ p.mine
 

@@ -48,8 +48,8 @@ module _ {V N O : Type 0} {g : Ghosts V N O} where
   seen_by p = (view p.seat.me).own.seen
 
   -- the notes that the pass has made
-  abbrev pub made_by : Pass V N O g → List N
-  made_by p = (view p.seat.me).own.mine
+  abbrev pub notes_made_by : Pass V N O g → List N
+  notes_made_by p = (view p.seat.me).own.mine
 
   -- the guards that the pass has locked, each with the version at which it was locked, in ascending order
   abbrev pub grips_of : Pass V N O g → List Grip
@@ -78,19 +78,19 @@ module _ {V N O : Type 0} {g : Ghosts V N O} where
   IsReady t p = IsPassOf t p × IsIdle p
 
   -- the pass n as `Turn::make` gives it
-  pub record IsFresh (t : Turn V N O) (turns n : ℕ) (p : Pass V N O g) : Type 0 where
+  pub record IsNewPass (t : Turn V N O) (turns n : ℕ) (p : Pass V N O g) : Type 0 where
     pub of : IsPassOf t p
     pub idle : IsIdle p
     pub number : p.number ≡ n
     pub left : p.left ≡ turns
     pub seen : seen_by p ≡ []
-    pub made : made_by p ≡ []
+    pub made : notes_made_by p ≡ []
     pub grips : grips_of p ≡ []
 
   -- The notes xs are those that the pass has seen, or these and one more by its number, and the pass has locked each
   -- guard that this note touches
-  abbrev pub MayFollow : O → Pass V N O g → List N → Type 0
-  MayFollow o p xs =
+  abbrev pub IsSeenOrNext : O → Pass V N O g → List N → Type 0
+  IsSeenOrNext o p xs =
       (xs ≡ seen_by p)
       ⊎ ((n : N) × (xs ≡ seen_by p ++ n ∷ []) × (g.author n ≡ p.number)
       × HoldsAll g.touches o (grips_of p) n)
@@ -121,7 +121,7 @@ module _ {V N O : Type 0} {g : Ghosts V N O} where
 
   -- it has seen and made the same notes, and has as many turns left
   abbrev pub KnowsSame : Pass V N O g → Pass V N O g → Type 0
-  KnowsSame p q = (seen_by q ≡ seen_by p) × (made_by q ≡ made_by p) × (q.left ≡ p.left)
+  KnowsSame p q = (seen_by q ≡ seen_by p) × (notes_made_by q ≡ notes_made_by p) × (q.left ≡ p.left)
 
   -- two views are of one pass of one lock
   abbrev pub IsSamePass : Pass V N O g → Pass V N O g → Type 0
@@ -138,7 +138,7 @@ module _ {V N O : Type 0} {g : Ghosts V N O} where
 
   -- what the pass has seen is a prefix of the notes xs, whose notes by the pass are exactly those that it made
   abbrev pub IsPartOf : List N → Pass V N O g → Type 0
-  IsPartOf xs p = IsPrefix (seen_by p) xs × (by g.author p.number xs ≡ made_by p)
+  IsPartOf xs p = IsPrefix (seen_by p) xs × (by g.author p.number xs ≡ notes_made_by p)
 
   -- the seat of a pass, to which the passes ps were joined
   pub record IsJoined (t : Turn V N O) (ps : List (Pass V N O g)) (s : Seat (Option V) (Sight N O))
@@ -171,6 +171,6 @@ module _ {V N O : Type 0} {g : Ghosts V N O} where
     pub told : IsLastTold (news_of p) (news_of q) guard at
 
   -- what `Turn::hold` answers
-  abbrev pub IsAnswer : Turn V N O → Pass V N O g → Pass V N O g → ℕ → ℕ → Hold → Type 0
-  IsAnswer t p q guard asked (Held at) = IsGripped t p q guard asked at
-  IsAnswer t p q guard asked (Newer at) = IsNewer p q guard asked at
+  abbrev pub IsHoldAnswer : Turn V N O → Pass V N O g → Pass V N O g → ℕ → ℕ → Hold → Type 0
+  IsHoldAnswer t p q guard asked (Held at) = IsGripped t p q guard asked at
+  IsHoldAnswer t p q guard asked (Newer at) = IsNewer p q guard asked at

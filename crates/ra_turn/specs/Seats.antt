@@ -17,5 +17,5 @@ abbrev pub IsSameSeat : {S V : Type 0} → Seat S V → Seat S V → Type 0
 IsSameSeat s t = (t.table_id ≡ s.table_id) × (t.id ≡ s.id)
 
 -- a view that has every number below n
-abbrev pub Covers : {N O : Type 0} → ℕ → Sight N O → Type 0
-Covers {N} n v = (k : ℕ) → k < n → (p : Part N) × Contains (v.own ∷ v.joined) p × (p.number ≡ k)
+abbrev pub HasNumbersBelow : {N O : Type 0} → ℕ → Sight N O → Type 0
+HasNumbersBelow {N} n v = (k : ℕ) → k < n → (p : Part N) × Contains (v.own ∷ v.joined) p × (p.number ≡ k)

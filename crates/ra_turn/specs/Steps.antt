@@ -87,8 +87,8 @@ module _ {N O : Type 0} where
       }
 
   -- two passes as one, and what is left of the second
-  abbrev pub joined : Sight N O → Sight N O → Sight N O
-  joined v w = record v { left = v.left + w.left; joined = v.joined ++ w.own ∷ w.joined }
+  abbrev pub passes_joined : Sight N O → Sight N O → Sight N O
+  passes_joined v w = record v { left = v.left + w.left; joined = v.joined ++ w.own ∷ w.joined }
 
   abbrev pub spent : Sight N O
   spent =
@@ -110,9 +110,9 @@ module _ {V N O : Type 0} where
   peeked s m n m' = (m' ≡ m) × (n < 2 ^ 62)
 
   -- a ticket is drawn exactly if the word was as expected, and it is the word that was found
-  abbrev pub drawn : Step (Option V) → Me (Option V) (Sight N O) → ℕ → Me (Option V) (Sight N O)
+  abbrev pub ticket_drawn : Step (Option V) → Me (Option V) (Sight N O) → ℕ → Me (Option V) (Sight N O)
       → Type 0
-  drawn s m n m' = MatchBool (n == s.first) (m' ≡ (with_ticket (view m) n, slots m)) (m' ≡ m)
+  ticket_drawn s m n m' = MatchBool (n == s.first) (m' ≡ (with_ticket (view m) n, slots m)) (m' ≡ m)
 
   -- a ticket is drawn, and it is the word that was found
   abbrev pub queued : Step (Option V) → Me (Option V) (Sight N O) → ℕ → Me (Option V) (Sight N O)
@@ -138,9 +138,9 @@ module _ {V N O : Type 0} where
       → m' ≡ (with_news (view m) (heard guard n (view m).news), slots m)
 
   -- the seat has locked the guard as well, at the version
-  abbrev pub Took : (N → ℕ) → (O → N → ℕ → Bool) → Me (Option V) (Sight N O)
+  abbrev pub TookGuard : (N → ℕ) → (O → N → ℕ → Bool) → Me (Option V) (Sight N O)
       → Me (Option V) (Sight N O) → ℕ → ℕ → Type 0
-  Took author touches m m' guard v =
+  TookGuard author touches m m' guard v =
       (m' ≡ (with_grips (view m) ((view m).grips ++ grip guard v ∷ []), slots m))
       × IsShut author touches (view m') × IsCurrent touches (view m') guard v
 
@@ -148,25 +148,25 @@ module _ {V N O : Type 0} where
   abbrev pub gripped : (N → ℕ) → (O → N → ℕ → Bool) → Step (Option V) → Me (Option V) (Sight N O)
       → ℕ → Me (Option V) (Sight N O) → Type 0
   gripped author touches s m n m' = MatchBool (n == s.first)
-      ((guard v : ℕ) → s.word ≡ 3 + guard → s.first ≡ 2 * v → Took author touches m m' guard v)
+      ((guard v : ℕ) → s.word ≡ 3 + guard → s.first ≡ 2 * v → TookGuard author touches m m' guard v)
       (m' ≡ m)
 
   -- the seat has unlocked the guard
-  abbrev pub Gave : (N → ℕ) → (O → N → ℕ → Bool) → Me (Option V) (Sight N O)
+  abbrev pub GaveGuard : (N → ℕ) → (O → N → ℕ → Bool) → Me (Option V) (Sight N O)
       → Me (Option V) (Sight N O) → ℕ → Type 0
-  Gave author touches m m' guard =
+  GaveGuard author touches m m' guard =
       (m' ≡ (with_grips (view m) (without guard (view m).grips), slots m))
       × IsShut author touches (view m')
 
   abbrev pub released : (N → ℕ) → (O → N → ℕ → Bool) → Step (Option V) → Me (Option V) (Sight N O)
       → ℕ → Me (Option V) (Sight N O) → Type 0
   released author touches s m n m' =
-      (guard : ℕ) → s.word ≡ 3 + guard → Gave author touches m m' guard
+      (guard : ℕ) → s.word ≡ 3 + guard → GaveGuard author touches m m' guard
 
 module _ {V N O : Type 0} (opening : V → O) (notes : V → List N) (author : N → ℕ) where
   -- the value in the slot: its opening, and its notes, of which those seen are a prefix and of which those by the pass
   -- are exactly those that it made
-  pub record Shows (m : Sight N O) (n : ℕ) (x : V) : Type 0 where
+  pub record ShowsValue (m : Sight N O) (n : ℕ) (x : V) : Type 0 where
     pub opened : m.opened ≡ Some (opening x)
     pub seen : IsPrefix m.own.seen (notes x)
     pub mine : by author m.own.number (notes x) ≡ m.own.mine
@@ -188,14 +188,14 @@ module _ {V N O : Type 0} (opening : V → O) (notes : V → List N) (author : N
   abbrev pub saw : Step (Option V) → Me (Option V) (Sight N O) → ℕ → Me (Option V) (Sight N O)
       → Type 0
   saw s m n m' =
-      (x : V) × Shows opening notes author (view m) n x
+      (x : V) × ShowsValue opening notes author (view m) n x
       × (m' ≡ (with_seen author (view m) InTurn (notes x), (0, Some x) ∷ slots m))
       × IsShut author touches (view m') × IsTold touches (view m')
 
 module _ {V N O : Type 0} (notes : V → List N) (author : N → ℕ) where
   -- the seat has seen the value's notes, and has counted its own
-  abbrev pub HasCounted : Me (Option V) (Sight N O) → Me (Option V) (Sight N O) → V → Type 0
-  HasCounted m m' x =
+  abbrev pub HasCountedOwn : Me (Option V) (Sight N O) → Me (Option V) (Sight N O) → V → Type 0
+  HasCountedOwn m m' x =
       (m' ≡ (with_seen author (view m) Counted (notes x), slots m)) × (length (notes x) < 2 ^ 62)
 
   -- the announced value's notes are the history, and the pass had seen all notes that it had made
@@ -203,4 +203,4 @@ module _ {V N O : Type 0} (notes : V → List N) (author : N → ℕ) where
       → Type 0
   noted s m n m' =
       (by author (view m).own.number (view m).own.seen ≡ (view m).own.mine)
-      × ((x : V) → s.said ≡ some (Some x) → HasCounted m m' x)
+      × ((x : V) → s.said ≡ some (Some x) → HasCountedOwn m m' x)

@@ -4,7 +4,7 @@ ghost use Rattle.ra_turn.specs.Views.{view};
 ghost use Rattle.ra_turn.specs.declared.sight.Stage.TheVariants.{Idle};
 ghost use Rattle.ra_turn.specs.Passes.{opening_of, passes_of, EachAt, grips_of, IsPassOf, IsIdle, IsDone, IsPartOf, IsJoined};
 ghost use Rattle.ra_turn.specs.Seats.{IsSameSeat};
-ghost use Rattle.ra_turn.specs.Steps.{joined};
+ghost use Rattle.ra_turn.specs.Steps.{passes_joined};
 
 use crate::law::Place;
 use crate::pass::Pass;
@@ -52,7 +52,7 @@ fn join<V: Story>(turn: &Turn<V>, seat: &mut Place<V>, pass: Pass<V>)
         ((view seat.old.me).stage ≡ Idle) × ((view seat.old.me).grips ≡ []) }
     requires pass { IsPassOf turn.now pass × IsIdle pass × (grips_of pass ≡ []) }
     ensures { IsSameSeat seat.old seat.new ×
-        ((view seat.new.me) ≡ joined (view seat.old.me) (view pass.seat.me)) }
+        ((view seat.new.me) ≡ passes_joined (view seat.old.me) (view pass.seat.me)) }
 {
     let desk = &turn.table.shared;
     desk.join_seat::<Glue>(seat, pass.into_seat());

@@ -4,7 +4,7 @@ ghost use Rattle.ra_turn.specs.Views.{view, slots};
 ghost use Rattle.ra_turn.specs.declared.sight.Stage.TheVariants.{Idle};
 ghost use Rattle.ra_turn.specs.Notes.{grip, touching, IsVersion};
 ghost use Rattle.ra_turn.specs.Seats.{IsSized, IsSameSeat};
-ghost use Rattle.ra_turn.specs.Steps.{with_news, heard, Took, Gave};
+ghost use Rattle.ra_turn.specs.Steps.{with_news, heard, TookGuard, GaveGuard};
 ghost use Rattle.ra_turn.specs.Holds.{OnlyHolds, IsAnswerAt};
 
 use crate::law::{Desk, Place};
@@ -52,7 +52,7 @@ fn grasp<V: Story>(desk: &Desk<V>, seat: &mut Place<V>, guard: u32, word: u64) -
     requires guard { ((view seat.old.me).stage ≡ Idle) × (guard < desk.now.key.guards) }
     requires even { word % 2 ≡ 0 }
     ensures same { IsSameSeat seat.old seat.new }
-    ensures view { MatchBool result (Took V.author V.touches seat.old.me seat.new.me guard
+    ensures view { MatchBool result (TookGuard V.author V.touches seat.old.me seat.new.me guard
         (word / 2)) (seat.new.me ≡ seat.old.me) }
 {
     let free = word;
@@ -120,7 +120,7 @@ pub(crate) fn release_guard<V: Story>(desk: &Desk<V>, seat: &mut Place<V>, guard
     requires version { (version < 2 ^ 63) × ((o : V.Opening) → (view seat.old.me).opened ≡ Some o →
         IsVersion (touching V.touches o guard) (view seat.old.me).own.seen version) }
     ensures same { IsSameSeat seat.old seat.new }
-    ensures view { Gave V.author V.touches seat.old.me seat.new.me guard }
+    ensures view { GaveGuard V.author V.touches seat.old.me seat.new.me guard }
 {
     desk.swap::<Release>(seat, FIRST_GUARD + guard as usize, 2 * version);
 }

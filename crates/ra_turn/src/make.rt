@@ -2,7 +2,7 @@
 ghost use Rattle.std.specs.Prelude.{◌≡◌, ◌+◌, ◌*◌, ◌^◌, ◌<◌, ◌≤◌, [], ◌∷◌, length, vec_capacity, Some, IfOk};
 ghost use Rattle.ra_turn.specs.declared.sight.Stage.TheVariants.{Maker};
 ghost use Rattle.ra_turn.specs.Law.{maker as first_view};
-ghost use Rattle.ra_turn.specs.Passes.{opening_of, passes_of, guards_of, turns_of_each, EachAt, IsFresh, IsMaker};
+ghost use Rattle.ra_turn.specs.Passes.{opening_of, passes_of, guards_of, turns_of_each, EachAt, IsNewPass, IsMaker};
 ghost use Rattle.ra_turn.specs.Seats.{IsSized, IsSameSeat};
 
 use crate::law::{Board, Key, Place};
@@ -32,7 +32,7 @@ impl<V: Story> Turn<V> {
         ensures turn { IfOk result (λ r. (opening_of V.opening r.0 ≡ V.opening value) ×
             (passes_of r.0 ≡ passes) × (guards_of r.0 ≡ guards)) }
         ensures passes { IfOk result (λ r. (length r.1.items ≡ passes) ×
-            EachAt (IsFresh r.0 turns) r.1.items) }
+            EachAt (IsNewPass r.0 turns) r.1.items) }
     {
         let Ok(mut all) = Vec::with_capacity(alloc, passes as usize) else {
             return Err(NoMemory);
@@ -87,7 +87,7 @@ fn cut_all<V: Story>(
     requires maker { IsMaker V.opening turn.now turns 0 maker.old }
     requires counts { (passes ≡ passes_of turn.now) × (turns ≡ turns_of_each turn.now) }
     requires all { (all.old.items ≡ []) × (passes ≤ vec_capacity all.old) }
-    ensures { (length all.new.items ≡ passes) × EachAt (IsFresh turn.now turns) all.new.items }
+    ensures { (length all.new.items ≡ passes) × EachAt (IsNewPass turn.now turns) all.new.items }
 {
     for number in 0..passes {
         all.push_reserved(cut(turn, maker, number, turns));
@@ -99,7 +99,7 @@ fn cut<V: Story>(turn: &Turn<V>, maker: &mut Place<V>, number: u32, turns: u64) 
     requires maker { IsMaker V.opening turn.now turns number maker.old }
     requires counts { (number < passes_of turn.now) × (turns ≡ turns_of_each turn.now) }
     ensures maker { IsMaker V.opening turn.now turns (number + 1) maker.new }
-    ensures pass { IsFresh turn.now turns number result }
+    ensures pass { IsNewPass turn.now turns number result }
 {
     let seat = turn.table.shared.split_seat::<Cut>(maker);
     Pass {

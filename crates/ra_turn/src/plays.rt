@@ -1,5 +1,5 @@
 //! What each step on the table tells its seat.
-ghost use Rattle.ra_turn.specs.Steps.{peeked, drawn, queued, looked, saw, noted, served, glanced, gripped, released, cut_left, cut_right, joined, spent};
+ghost use Rattle.ra_turn.specs.Steps.{peeked, ticket_drawn, queued, looked, saw, noted, served, glanced, gripped, released, cut_left, cut_right, passes_joined, spent};
 
 use crate::sight::Sight;
 use crate::story::Story;
@@ -16,7 +16,7 @@ impl<V: Story> Play<Option<V>, Sight<V::Note, V::Opening>> for Peek {
 pub(crate) struct Draw;
 
 impl<V: Story> Play<Option<V>, Sight<V::Note, V::Opening>> for Draw {
-    ghost then = { drawn };
+    ghost then = { ticket_drawn };
 }
 
 /// A ticket is drawn, whether or not others wait before it.
@@ -88,7 +88,7 @@ impl<N, O> Split<Sight<N, O>> for Cut {
 pub(crate) struct Glue;
 
 impl<N, O> Join<Sight<N, O>> for Glue {
-    ghost both = { joined };
+    ghost both = { passes_joined };
 
     ghost spent = { spent };
 }

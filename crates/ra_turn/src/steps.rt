@@ -5,7 +5,7 @@ ghost use Rattle.ra_turn.specs.declared.sight.Stage.TheVariants.{Idle, Drawn, Ca
 ghost use Rattle.ra_turn.specs.Stages.{HasSlot};
 ghost use Rattle.ra_turn.specs.Notes.{by};
 ghost use Rattle.ra_turn.specs.Seats.{IsSized, IsSameSeat};
-ghost use Rattle.ra_turn.specs.Steps.{with_stage, with_seen, with_ticket, Shows, HasOneMore, HasCounted, IsInTurnAt, IsShut, IsTold};
+ghost use Rattle.ra_turn.specs.Steps.{with_stage, with_seen, with_ticket, ShowsValue, HasOneMore, HasCountedOwn, IsInTurnAt, IsShut, IsTold};
 
 use crate::law::{Desk, Place};
 use crate::patience::Patience;
@@ -93,7 +93,7 @@ pub(crate) fn see<V: Story>(desk: &Desk<V>, seat: &mut Place<V>) -> (u64, V)
         IsSized desk.now.table_id desk.now.key }
     requires called { ((view seat.old.me).stage ≡ Called) × (slots seat.old.me ≡ []) }
     ensures same { IsSameSeat seat.old seat.new }
-    ensures shows { Shows V.opening V.notes V.author (view seat.old.me) result.0 result.1 }
+    ensures shows { ShowsValue V.opening V.notes V.author (view seat.old.me) result.0 result.1 }
     ensures view { seat.new.me ≡ (
       with_seen V.author (view seat.old.me) InTurn (V.notes result.1),
       (0, None) ∷ [],
@@ -116,7 +116,7 @@ fn note<V: Story>(desk: &Desk<V>, seat: &mut Place<V>, seen: u64, value: &Option
         HasOneMore V.opening V.notes V.author V.touches (view seat.old.me) x }
     ensures same { IsSameSeat seat.old seat.new }
     ensures view { (x : V) → value.now ≡ Some x →
-        HasCounted V.notes V.author seat.old.me seat.new.me x }
+        HasCountedOwn V.notes V.author seat.old.me seat.new.me x }
     ensures made { by V.author (view seat.old.me).own.number (view seat.old.me).own.seen ≡
         (view seat.old.me).own.mine }
 {

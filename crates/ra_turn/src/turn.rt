@@ -23,7 +23,7 @@ impl<V: Story> Turn<V> {
     ghost use mathlib.Core.List.{IsPrefix};
     ghost use Rattle.ra_turn.specs.Notes.{by, grip, without};
     ghost use Rattle.ra_turn.specs.Holds.{KeepsNews};
-    ghost use Rattle.ra_turn.specs.Passes.{opening_of, guards_of, seen_by, made_by, grips_of, news_of, IsPassOf, IsIdle, IsReady, IsInTurn, IsSamePass, HoldsSame, KnowsSame, MayFollow, Shut, SeesNews, HasVersion, IsAnswer};
+    ghost use Rattle.ra_turn.specs.Passes.{opening_of, guards_of, seen_by, notes_made_by, grips_of, news_of, IsPassOf, IsIdle, IsReady, IsInTurn, IsSamePass, HoldsSame, KnowsSame, IsSeenOrNext, Shut, SeesNews, HasVersion, IsHoldAnswer};
 
     /// Waits for the pass's turn, enters the critical section and takes the value. The pass has then seen the whole
     /// history.
@@ -34,8 +34,8 @@ impl<V: Story> Turn<V> {
         ensures opening { V.opening result.value ≡ opening_of V.opening self.now }
         ensures seen { (seen_by pass.new ≡ V.notes result.value) ×
             IsPrefix (seen_by pass.old) (seen_by pass.new) }
-        ensures made { (made_by pass.new ≡ made_by pass.old) ×
-            (by V.author pass.new.number (seen_by pass.new) ≡ made_by pass.new) }
+        ensures made { (notes_made_by pass.new ≡ notes_made_by pass.old) ×
+            (by V.author pass.new.number (seen_by pass.new) ≡ notes_made_by pass.new) }
         ensures guards { HoldsSame pass.old pass.new × Shut self.now pass.new ×
             SeesNews self.now pass.new }
     {
@@ -53,11 +53,11 @@ impl<V: Story> Turn<V> {
     pub fn give(&self, pass: &mut Pass<V>, held: Held<V>)
         requires pass { IsPassOf self.now pass.old × IsInTurn pass.old }
         requires opening { V.opening held.value ≡ opening_of V.opening self.now }
-        requires notes { MayFollow (opening_of V.opening self.now) pass.old (V.notes held.value) }
+        requires notes { IsSeenOrNext (opening_of V.opening self.now) pass.old (V.notes held.value) }
         ensures pass { IsIdle pass.new × IsSamePass pass.old pass.new ×
             (pass.new.left ≡ pass.old.left) }
         ensures seen { seen_by pass.new ≡ V.notes held.value }
-        ensures made { made_by pass.new ≡ made_by pass.old ++ drop (length (seen_by pass.old))
+        ensures made { notes_made_by pass.new ≡ notes_made_by pass.old ++ drop (length (seen_by pass.old))
             (V.notes held.value) }
         ensures guards { HoldsSame pass.old pass.new × Shut self.now pass.new }
     {
@@ -81,7 +81,7 @@ impl<V: Story> Turn<V> {
             All (λ k. k.guard < guard) (grips_of pass.old) × (length (grips_of pass.old) < 9) }
         ensures pass { IsIdle pass.new × IsSamePass pass.old pass.new ×
             KnowsSame pass.old pass.new × KeepsNews (news_of pass.old) (news_of pass.new) }
-        ensures answer { IsAnswer self.now pass.old pass.new guard version result }
+        ensures answer { IsHoldAnswer self.now pass.old pass.new guard version result }
     {
         hold_guard(rt, &self.table.shared, &mut pass.seat, guard, version)
     }

@@ -15,7 +15,7 @@ use Rattle.ra_verify.specs.declared.faults.VerifyFault.{VerifyFault}
 use Rattle.ra_verify.specs.declared.faults.VerifyFault.TheVariants as fault
 use Rattle.ra_verify.specs.Checking.{IsSameRun}
 use Rattle.ra_verify.specs.Judging.{IsAccepted, IsMisjudged}
-use Rattle.ra_verify.specs.Reading.{IsHead, AreFirst, IsWrongNext}
+use Rattle.ra_verify.specs.Reading.{IsHead, AreFirstLines, IsWrongNext}
 use Rattle.ra_verify.specs.WrongLines.{first_over_long, AreAllRight, IsWrongLine, IsReport}
 use Rattle.ra_verify.proofs.VerdictLemmas.{accepted, reported, wrong_entry, misjudged}
 
@@ -29,7 +29,7 @@ same_line : (a b : ℕ) → fault.Wrong a ≡ fault.Wrong b → a ≡ b
 same_line a b same = (cc)
 
 pub first_lines : (told : Option (List ℕ)) (place lines : ℕ) (head : List ℕ) →
-    Told told (λ bytes. IsHead bytes place lines head) → Told told (λ bytes. AreFirst bytes place lines)
+    Told told (λ bytes. IsHead bytes place lines head) → Told told (λ bytes. AreFirstLines bytes place lines)
 first_lines None place lines head is = tt
 first_lines (Some bytes) place lines head is = is.first
 

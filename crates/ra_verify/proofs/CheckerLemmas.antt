@@ -17,10 +17,11 @@ use Rattle.ra_report.specs.JournalTexts.{entry_line}
 use Rattle.ra_worker.specs.declared.replica.Replica.{Replica}
 use Rattle.ra_worker.proofs.TurnLemmas.{same_legal}
 use Rattle.ra_worker_core.specs.declared.events.CoreReply.{CoreReply}
-use Rattle.ra_worker_core.specs.Core.{place_of, turn}
+use Rattle.ra_worker_core.specs.Core.{core_place_of, turn}
 use Rattle.ra_worker_core.specs.Replicas.{AreAt, core_of}
 use Rattle.ra_verify.specs.declared.checker.Checker.{Checker}
-use Rattle.ra_verify.specs.Checking.{NoneIsPast, entries_in, core_in, IsOpen, MayFollow, HasTaken, HasMore}
+use Rattle.ra_verify.specs.Checking.{NoneIsPast, checker_entries, checker_core, IsOpen, MayFollow, HasTakenEntry}
+use Rattle.ra_verify.specs.Checking.{HasTakenSomeEntry}
 use Rattle.ra_verify.specs.Checking.{HasTakenLine, IsSameRun, MayStand, is_recorded}
 use Rattle.ra_verify.proofs.FollowLemmas.{last_legal, one_next_entry, is_taken, none_past, none_past_start}
 
@@ -28,11 +29,11 @@ use Rattle.ra_verify.proofs.FollowLemmas.{last_legal, one_next_entry, is_taken, 
 pub may_stand : (c : Checker) (e : Entry) (w q : ℕ) → IsOpen c → MayFollow c e → e.worker ≡ w → e.q ≡ q → MayStand c w q
 may_stand c e w q ready legal own at =
     let j = c.journal in
-    let next = last_legal j.inst.now.tables j.a0.now.items j.lots.now (entries_in c) e legal in
+    let next = last_legal j.inst.now.tables j.a0.now.items j.lots.now (checker_entries c) e legal in
     let exists : w < worker_count j.lots.now = subst (λ k. k < worker_count j.lots.now) own next.numbered.worker in
     record {
       worker = exists;
-      place = subst (λ k. k ≤ length (entries_in c)) at next.placed.place;
+      place = subst (λ k. k ≤ length (checker_entries c)) at next.placed.place;
       ahead = ready.each w q exists (record {
         seen = λ n within is. subst (λ k. n < k) at (next.placed.seen n within (is ∙ sym own));
       });
@@ -40,7 +41,7 @@ may_stand c e w q ready legal own at =
 
 -- a turn that was recorded
 next_own : (c : Checker) (w q : ℕ) →
-    (next_entry c.journal.inst.now.tables c.journal.a0.now.items c.journal.lots.now (entries_in c) w q).worker ≡ w
+    (next_entry c.journal.inst.now.tables c.journal.a0.now.items c.journal.lots.now (checker_entries c) w q).worker ≡ w
 unfolding next_entry
 next_own c w q = refl
 
@@ -49,38 +50,43 @@ unfolding core_of
 places_long h rs = length-map rs (λ (r : Replica). r.place)
 
 pub taken : (c d : Checker) (w q : ℕ) (reply : CoreReply) → IsOpen c → MayStand c w q → IsSameRun c d →
-    entries_in d ≡
-    (turn c.journal.inst.now.tables c.journal.a0.now.items c.journal.lots.now (entries_in c) w q).journal →
-    reply ≡ (turn c.journal.inst.now.tables c.journal.a0.now.items c.journal.lots.now (entries_in c) w q).reply →
-    is_recorded reply ≡ true → (core_in d).places ≡ set (core_in c).places w q →
-    HasTaken c d (next_entry c.journal.inst.now.tables c.journal.a0.now.items c.journal.lots.now (entries_in c) w q)
+    checker_entries d ≡
+    (turn c.journal.inst.now.tables c.journal.a0.now.items c.journal.lots.now (checker_entries c) w q).journal →
+    reply ≡ (turn c.journal.inst.now.tables c.journal.a0.now.items c.journal.lots.now (checker_entries c) w q).reply →
+    is_recorded reply ≡ true → (checker_core d).places ≡ set (checker_core c).places w q →
+    HasTakenEntry c d
+    (next_entry c.journal.inst.now.tables c.journal.a0.now.items c.journal.lots.now (checker_entries c) w q)
 taken c d w q reply ready stands same journal reply_is was places =
     let j = c.journal in
-    let e = next_entry j.inst.now.tables j.a0.now.items j.lots.now (entries_in c) w q in
-    let added : entries_in d ≡ entries_in c ++ e ∷ [] =
-    is_taken j.inst.now.tables j.a0.now.items j.lots.now (entries_in c) (entries_in d) w q reply journal reply_is
+    let e = next_entry j.inst.now.tables j.a0.now.items j.lots.now (checker_entries c) w q in
+    let added : checker_entries d ≡ checker_entries c ++ e ∷ [] =
+    is_taken j.inst.now.tables j.a0.now.items j.lots.now (checker_entries c) (checker_entries d) w q reply journal
+    reply_is
     was in
-    let legal : Legal j.inst.now.tables j.a0.now.items j.lots.now (entries_in d) =
+    let legal : Legal j.inst.now.tables j.a0.now.items j.lots.now (checker_entries d) =
     same_legal j.inst.now.tables d.journal.inst.now.tables j.a0.now.items d.journal.a0.now.items j.lots.now
-    d.journal.lots.now (entries_in d) d.journal.kept.legal (ap (λ (x : Instance). x.tables) same.instance)
+    d.journal.lots.now (checker_entries d) d.journal.kept.legal (ap (λ (x : Instance). x.tables) same.instance)
     (ap (λ (x : Listed Machine). x.items) same.initial) same.lots in
-    let there : w < length (core_in c).places =
-    omega (arith, places_long (entries_in c) c.replicas.items, c.at.one_each, stands.worker) in
+    let there : w < length (checker_core c).places =
+    omega (arith, places_long (checker_entries c) c.replicas.items, c.at.one_each, stands.worker) in
     record {
       entries = added;
       legal = subst (Legal j.inst.now.tables j.a0.now.items j.lots.now) added legal;
-      ready = subst (λ (l : Lots). NoneIsPast l (entries_in d) (core_in d)) (sym same.lots)
-          (none_past j.lots.now (entries_in c) (entries_in d) (core_in c) (core_in d) w q e ready added (next_own c w q)
+      ready = subst (λ (l : Lots). NoneIsPast l (checker_entries d) (checker_core d)) (sym same.lots)
+          (none_past j.lots.now (checker_entries c) (checker_entries d) (checker_core c) (checker_core d) w q e ready
+          added (next_own c w q)
           there stands.place places);
     }
 
 -- the entry that was taken in is the last
-pub last_taken : (c d : Checker) (e entry : Entry) (at : ℕ) → HasTaken c d e → at ≡ length (entries_in c) →
-    entry ≡ entry_at (entries_in d) at → entry ≡ e
-last_taken c d e entry at has at_is entry_is = entry_is ∙ ap₂ entry_at has.entries at_is ∙ entry_added (entries_in c) e
+pub last_taken : (c d : Checker) (e entry : Entry) (at : ℕ) → HasTakenEntry c d e → at ≡ length (checker_entries c) →
+    entry ≡ entry_at (checker_entries d) at → entry ≡ e
+last_taken c d e entry at has at_is entry_is = entry_is ∙ ap₂ entry_at has.entries at_is
+    ∙ entry_added (checker_entries c) e
 
-pub line_taken : (c d : Checker) (e entry : Entry) (at : ℕ) (line : List ℕ) → HasTaken c d e →
-    at ≡ length (entries_in c) → entry ≡ entry_at (entries_in d) at → line ≡ entry_line at entry → HasTakenLine c d line
+pub line_taken : (c d : Checker) (e entry : Entry) (at : ℕ) (line : List ℕ) → HasTakenEntry c d e →
+    at ≡ length (checker_entries c) → entry ≡ entry_at (checker_entries d) at → line ≡ entry_line at entry →
+    HasTakenLine c d line
 line_taken c d e entry at line has at_is entry_is text = record {
   entry = e;
   taken = has;
@@ -88,18 +94,18 @@ line_taken c d e entry at line has at_is entry_is text = record {
 }
 
 -- and it is the one that may follow
-pub only_taken : (c d : Checker) (f e entry : Entry) (at : ℕ) → HasTaken c d f → MayFollow c e → e.worker ≡ f.worker →
-    e.q ≡ f.q → at ≡ length (entries_in c) → entry ≡ entry_at (entries_in d) at →
-    entry_line at entry ≡ entry_line (length (entries_in c)) e
+pub only_taken : (c d : Checker) (f e entry : Entry) (at : ℕ) → HasTakenEntry c d f → MayFollow c e →
+    e.worker ≡ f.worker → e.q ≡ f.q → at ≡ length (checker_entries c) → entry ≡ entry_at (checker_entries d) at →
+    entry_line at entry ≡ entry_line (length (checker_entries c)) e
 only_taken c d f e entry at has legal own q at_is entry_is =
     let j = c.journal in
     ap₂ entry_line at_is (last_taken c d f entry at has at_is entry_is
-    ∙ sym (one_next_entry j.inst.now.tables j.a0.now.items j.lots.now (entries_in c) e f legal has.legal own q))
+    ∙ sym (one_next_entry j.inst.now.tables j.a0.now.items j.lots.now (checker_entries c) e f legal has.legal own q))
 
 -- before the first entry
 start_place : (i : Tables) (a0 : List Machine) (l : Lots) (h : List Entry) (rs : List Replica) (w : ℕ) →
-    AreAt i a0 l [] rs → w < length rs → place_of (core_of h rs) w ≡ 0
-unfolding place_of core_of
+    AreAt i a0 l [] rs → w < length rs → core_place_of (core_of h rs) w ≡ 0
+unfolding core_place_of core_of
 start_place i a0 l h [] w at there = absurd (omega (arith, there))
 start_place i a0 l h (r ∷ rs) w at there =
     let here : Replica = get_or (r ∷ rs) w r in
@@ -115,19 +121,20 @@ open_start i a0 l m h rs at lots =
     (λ w exists. start_place i a0 l h rs w at (omega (arith, at.one_each, ap worker_count lots, exists)))
 
 -- an entry more leaves fewer proposals
-pub more_smaller : (c d : Checker) → HasMore c d → IsSameRun c d →
-    proposal_count d.journal.lots.now - length (entries_in d) < proposal_count c.journal.lots.now
-    - length (entries_in c)
+pub more_smaller : (c d : Checker) → HasTakenSomeEntry c d → IsSameRun c d →
+    proposal_count d.journal.lots.now - length (checker_entries d) < proposal_count c.journal.lots.now
+    - length (checker_entries c)
 more_smaller c d more same =
     let j = d.journal in
-    let long : length (entries_in d) ≡ length (entries_in c) + 1 = ap (λ (x : List Entry). length x) more.taken.entries
-    ∙ omega (arith, length_push (entries_in c) more.entry) in
-    let numbered : AreNumbered j.lots.now (entries_in d) (length (entries_in d)) = record {
+    let long : length (checker_entries d) ≡ length (checker_entries c) + 1 =
+    ap (λ (x : List Entry). length x) more.taken.entries
+    ∙ omega (arith, length_push (checker_entries c) more.entry) in
+    let numbered : AreNumbered j.lots.now (checker_entries d) (length (checker_entries d)) = record {
       each = λ k there. (j.kept.legal.each k there).numbered;
     } in
     omega (
       arith,
       long,
-      entries_few j.lots.now (entries_in d) (length (entries_in d)) numbered,
+      entries_few j.lots.now (checker_entries d) (length (checker_entries d)) numbered,
       ap proposal_count same.lots,
     )

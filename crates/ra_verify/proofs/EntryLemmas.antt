@@ -11,7 +11,7 @@ use Rattle.ra_model.specs.declared.raw.Tables.{Tables}
 use Rattle.ra_report_lines.specs.declared.answers.Next.{Next}
 use Rattle.ra_report_lines.specs.declared.answers.Next.TheVariants.{Line, Last, Long, End}
 use Rattle.ra_report_lines.specs.Lines.{lines_of, line_at, joined_lines, ends_line, body_of}
-use Rattle.ra_report_lines.specs.Reading.{BeginsOverLong, IsNext}
+use Rattle.ra_report_lines.specs.Reading.{BeginsOverLong, IsNextLine}
 use Rattle.ra_report_lines.proofs.SplitLaws.{joined_back}
 use Rattle.ra_journal.specs.declared.entries.Entry.{Entry}
 use Rattle.ra_journal.specs.Entries.{entry_at}
@@ -161,7 +161,7 @@ pub record IsChecked (i : Tables) (a0 : List Machine) (l : Lots) (h : List Entry
 
 pub entry_taken : (i : Tables) (a0 : List Machine) (l : Lots) (bytes : List ℕ) (place after room : ℕ) (h g : List Entry)
     (e : Entry) (line : List ℕ) (next : Next) → (next ≡ Line) ⊎ (next ≡ Long) → AreRead i a0 l bytes place h →
-    IsNext room (drop place bytes) (drop after bytes) next → WasGiven bytes place after line →
+    IsNextLine room (drop place bytes) (drop after bytes) next → WasGiven bytes place after line →
     (next ≡ Long → after ≡ place + room + 1) → line ≡ entry_line (length h) e → g ≡ h ++ e ∷ [] → Legal i a0 l g →
     AreRead i a0 l bytes after g
 entry_taken i a0 l bytes place after room h g e line Line which read is given far text g_is legal =
@@ -179,7 +179,7 @@ entry_taken i a0 l bytes place after room h g e line End which read is given far
 
 pub entry_wrong : (i : Tables) (a0 : List Machine) (l : Lots) (bytes : List ℕ) (place after room n front : ℕ)
     (h : List Entry) (line : List ℕ) (next : Next) → (next ≡ Line) ⊎ (next ≡ Long) → front ≤ room →
-    AreRead i a0 l bytes place h → IsNext room (drop place bytes) (drop after bytes) next →
+    AreRead i a0 l bytes place h → IsNextLine room (drop place bytes) (drop after bytes) next →
     WasGiven bytes place after line → (next ≡ Long → after ≡ place + room + 1) →
     IsChecked i a0 l h line front (room + 1) → n ≡ 11 + length h → IsWrongNext i a0 l bytes h n
 entry_wrong i a0 l bytes place after room n front h line Line which few read is given far checked number =
@@ -214,7 +214,7 @@ pub record IsTakenIn (i : Tables) (a0 : List Machine) (l : Lots) (h g : List Ent
   pub legal : Legal i a0 l g
 
 abbrev Comes : Option (List ℕ) → ℕ → ℕ → ℕ → Next → Type 0
-Comes told place after room next = IfSome told (λ bytes. IsNext room (drop place bytes) (drop after bytes) next)
+Comes told place after room next = IfSome told (λ bytes. IsNextLine room (drop place bytes) (drop after bytes) next)
 
 pub told_given : (told : Option (List ℕ)) (place after : ℕ) (before buffer line : List ℕ) → place ≤ after →
     before ≡ [] → line ≡ buffer → IfSome told (λ bytes. buffer ≡ before ++ take (after - place) (drop place bytes)) →
@@ -253,7 +253,7 @@ pub told_last : {P : ℕ → Type 0} (told : Option (List ℕ)) (i : Tables) (a0
     IfSome told (λ bytes. (n : ℕ) → P n → IsWrongNext i a0 l bytes h n)
 told_last None i a0 l place after room h next is number read comes = tt
 told_last (Some bytes) i a0 l place after room h next is number read comes = λ n p.
-    let last = subst (IsNext room (drop place bytes) (drop after bytes)) is comes in
+    let last = subst (IsNextLine room (drop place bytes) (drop after bytes)) is comes in
     wrong_last i a0 l bytes place n h read last.lines last.unended (number n p)
 
 -- the number of the line that is told

@@ -29,7 +29,7 @@ use Rattle.ra_report.specs.Fronts.{IsSmallEntry, IsSmallFront}
 use Rattle.ra_worker.specs.Skipping.{has_used, is_behind, is_skipped}
 use Rattle.ra_worker_core.specs.declared.events.CoreReply.{CoreReply}
 use Rattle.ra_worker_core.specs.declared.events.CoreReply.TheVariants.{Answer}
-use Rattle.ra_worker_core.specs.Core.{Core, place_of, Turn, answered, turn}
+use Rattle.ra_worker_core.specs.Core.{Core, core_place_of, Turn, answered, turn}
 use Rattle.ra_worker_core.proofs.TurnLemmas.{turn_skipped, turn_answered}
 use Rattle.ra_verify.specs.Checking.{IsBehind, NoneIsPast, is_recorded}
 
@@ -193,7 +193,7 @@ is_taken i a0 l h g w q reply g_is reply_is is = g_is ∙ turn_recorded i a0 l h
 -- afterwards no replica is past the next plan of its worker
 pub none_past : (l : Lots) (h g : List Entry) (c d : Core) (w q : ℕ) (e : Entry) → NoneIsPast l h c → g ≡ h ++ e ∷ [] →
     e.worker ≡ w → w < length c.places → q ≤ length h → d.places ≡ set c.places w q → NoneIsPast l g d
-unfolding place_of
+unfolding core_place_of
 none_past l h g c d w q e none g_is own there few places = rw g_is (record {
   each = λ v p exists behind. ⊎_elim
       (λ (here : v ≡ w).
@@ -213,7 +213,7 @@ none_past l h g c d w q e none g_is own there few places = rw g_is (record {
 })
 
 -- and none does at the start
-pub none_past_start : (l : Lots) (h : List Entry) (c : Core) → ((w : ℕ) → w < worker_count l → place_of c w ≡ 0) →
+pub none_past_start : (l : Lots) (h : List Entry) (c : Core) → ((w : ℕ) → w < worker_count l → core_place_of c w ≡ 0) →
     NoneIsPast l h c
 none_past_start l h c start = record { each = λ w q exists behind. omega (arith, start w exists) }
 

@@ -4,7 +4,7 @@ use Rattle.std.proofs.Common.{Result, Err, sym, ap, ◌∙◌, subst, ⊎_elim, 
 use Rattle.std.proofs.lemmas.Bool.{cases_lt, cases_eq}
 use Rattle.ra_report_lines.specs.declared.answers.Next.{Next}
 use Rattle.ra_report_lines.specs.declared.answers.Next.TheVariants.{Line, Last, Long, End}
-use Rattle.ra_report_lines.specs.Reading.{BeginsWithLine, IsLastLine, BeginsOverLong, IsNext}
+use Rattle.ra_report_lines.specs.Reading.{BeginsWithLine, IsLastLine, BeginsOverLong, IsNextLine}
 use Rattle.ra_verify.specs.declared.faults.VerifyFault.{VerifyFault}
 use Rattle.ra_verify.specs.declared.faults.VerifyFault.TheVariants as fault
 use Rattle.ra_verify.specs.Reading.{AreLines, IsHead}
@@ -94,7 +94,7 @@ abbrev Given : Option (List ℕ) → ℕ → ℕ → List ℕ → List ℕ → T
 Given told place after head more = IfSome told (λ bytes. more ≡ head ++ take (after - place) (drop place bytes))
 
 abbrev Comes : Option (List ℕ) → ℕ → ℕ → ℕ → Next → Type 0
-Comes told place after most next = IfSome told (λ bytes. IsNext most (drop place bytes) (drop after bytes) next)
+Comes told place after most next = IfSome told (λ bytes. IsNextLine most (drop place bytes) (drop after bytes) next)
 
 pub told_start : (told : Option (List ℕ)) (place : ℕ) (head : List ℕ) → place ≡ 0 → head ≡ [] → SoFar told place 0 head
 told_start None place head start empty = tt
@@ -107,7 +107,7 @@ told_line None now place after n most head more next same on most_is is before g
 told_line (Some bytes) now place after n most head more next same on most_is is before given comes =
     so_far_line bytes place after n head more on before (subst (λ t. Given t place after head more) same given)
     (subst (λ k. BeginsWithLine k (drop place bytes) (drop after bytes)) most_is
-    (subst (λ x. IsNext most (drop place bytes) (drop after bytes) x) is
+    (subst (λ x. IsNextLine most (drop place bytes) (drop after bytes) x) is
     (subst (λ t. Comes t place after most next) same comes)))
 
 pub told_last : (told now : Option (List ℕ)) (place after n most : ℕ) (head more : List ℕ) (next : Next) → now ≡ told →
@@ -118,7 +118,7 @@ told_last None now place after n most head more next same on few most_is is befo
 told_last (Some bytes) now place after n most head more next same on few most_is is before given comes =
     head_last bytes place after n head more on few before (subst (λ t. Given t place after head more) same given)
     (subst (λ k. IsLastLine k (drop place bytes) (drop after bytes)) most_is
-    (subst (λ x. IsNext most (drop place bytes) (drop after bytes) x) is
+    (subst (λ x. IsNextLine most (drop place bytes) (drop after bytes) x) is
     (subst (λ t. Comes t place after most next) same comes)))
 
 pub told_end : (told now : Option (List ℕ)) (place after n most : ℕ) (head more : List ℕ) (next : Next) → now ≡ told →
@@ -127,7 +127,7 @@ pub told_end : (told now : Option (List ℕ)) (place after n most : ℕ) (head m
 told_end None now place after n most head more next same on few is before given comes = tt
 told_end (Some bytes) now place after n most head more next same on few is before given comes =
     head_end bytes place after n head more on few before (subst (λ t. Given t place after head more) same given)
-    (subst (λ x. IsNext most (drop place bytes) (drop after bytes) x) is
+    (subst (λ x. IsNextLine most (drop place bytes) (drop after bytes) x) is
     (subst (λ t. Comes t place after most next) same comes))
 
 pub told_long : (told now : Option (List ℕ)) (place after n most : ℕ) (head : List ℕ) (next : Next) → now ≡ told →
@@ -137,7 +137,7 @@ told_long None now place after n most head next same few most_is is before comes
 told_long (Some bytes) now place after n most head next same few most_is is before comes =
     head_long bytes place n head few before
     (subst (λ k. BeginsOverLong k (drop place bytes)) most_is
-    (subst (λ x. IsNext most (drop place bytes) (drop after bytes) x) is
+    (subst (λ x. IsNextLine most (drop place bytes) (drop after bytes) x) is
     (subst (λ t. Comes t place after most next) same comes)))
 
 -- the line that is told is that one

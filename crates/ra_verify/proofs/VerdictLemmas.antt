@@ -14,7 +14,7 @@ use Rattle.ra_journal.specs.Legal.{Whole}
 use Rattle.ra_report.specs.JournalTexts.{report_head, report_text, head_of}
 use Rattle.ra_report.proofs.LineEnds.{head_line_count}
 use Rattle.ra_verify.specs.Judging.{IsAccepted, IsUnfinished, HasUnlike, IsMisjudged}
-use Rattle.ra_verify.specs.Reading.{AreFirst, IsHead, IsWrongNext}
+use Rattle.ra_verify.specs.Reading.{AreFirstLines, IsHead, IsWrongNext}
 use Rattle.ra_verify.specs.WrongLines.{AreAllRight, IsCutOff, IsWrongHead, NoneIsWrong, IsWrongLine, IsReport}
 use Rattle.ra_verify.proofs.PlaceLemmas.{got_left}
 use Rattle.ra_verify.proofs.ReadingLemmas.{lines_end, none_over}
@@ -137,7 +137,7 @@ misjudged i a0 l bytes head place lines n j inst initial lots is right long (inl
 misjudged i a0 l bytes head place lines n j inst initial lots is right long (inr unlike) =
     inr (inr (inr (wrong_head i a0 l bytes head place lines n j inst initial lots is right unlike)))
 
-pub no_more : (bytes : List ℕ) (place lines : ℕ) (h : List Entry) → h ≡ [] → AreFirst bytes place lines → lines < 10 →
-    length (lines_of bytes) ≡ lines + length h
+pub no_more : (bytes : List ℕ) (place lines : ℕ) (h : List Entry) → h ≡ [] → AreFirstLines bytes place lines →
+    lines < 10 → length (lines_of bytes) ≡ lines + length h
 no_more bytes place lines h none first few =
     omega (arith, lines_end bytes place lines first.given (first.all few), ap (λ (x : List Entry). length x) none)

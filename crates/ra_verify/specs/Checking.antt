@@ -8,7 +8,7 @@ use Rattle.ra_journal.specs.Legal.{Legal}
 use Rattle.ra_report.specs.JournalTexts.{entry_line}
 use Rattle.ra_worker_core.specs.declared.events.CoreReply.{CoreReply}
 use Rattle.ra_worker_core.specs.declared.events.CoreReply.TheVariants.{Took, Answer, Skipped}
-use Rattle.ra_worker_core.specs.Core.{Core, place_of}
+use Rattle.ra_worker_core.specs.Core.{Core, core_place_of}
 use Rattle.ra_worker_core.specs.Replicas.{core_of}
 use Rattle.ra_verify.specs.declared.checker.Checker.{Checker}
 
@@ -18,35 +18,35 @@ pub record IsBehind (h : List Entry) (w q : ℕ) : Type 0 where
 
 -- no replica has gone past a place at which its worker may have planned its next proposal
 pub record NoneIsPast (l : Lots) (h : List Entry) (c : Core) : Type 0 where
-  pub each : (w q : ℕ) → w < worker_count l → IsBehind h w q → place_of c w ≤ q
+  pub each : (w q : ℕ) → w < worker_count l → IsBehind h w q → core_place_of c w ≤ q
 
 -- the entries of a checker, and its core
-abbrev pub entries_in : Checker → List Entry
-entries_in c = c.journal.book.entries.items
+abbrev pub checker_entries : Checker → List Entry
+checker_entries c = c.journal.book.entries.items
 
-abbrev pub core_in : Checker → Core
-core_in c = core_of c.journal.book.entries.items c.replicas.items
+abbrev pub checker_core : Checker → Core
+checker_core c = core_of c.journal.book.entries.items c.replicas.items
 
 -- a checker can take entries in
 abbrev pub IsOpen : Checker → Type 0
-IsOpen c = NoneIsPast c.journal.lots.now (entries_in c) (core_in c)
+IsOpen c = NoneIsPast c.journal.lots.now (checker_entries c) (checker_core c)
 
 -- entry e may follow the entries of a checker
 abbrev pub MayFollow : Checker → Entry → Type 0
 MayFollow c e =
     Legal c.journal.inst.now.tables c.journal.a0.now.items c.journal.lots.now
-    (entries_in c ++ e ∷ [])
+    (checker_entries c ++ e ∷ [])
 
 -- a checker has taken in an entry that may follow, and can take in the next
-pub record HasTaken (before after : Checker) (e : Entry) : Type 0 where
-  pub entries : entries_in after ≡ entries_in before ++ e ∷ []
+pub record HasTakenEntry (before after : Checker) (e : Entry) : Type 0 where
+  pub entries : checker_entries after ≡ checker_entries before ++ e ∷ []
   pub legal : MayFollow before e
   pub ready : IsOpen after
 
 -- a checker has taken in some entry
-pub record HasMore (before after : Checker) : Type 0 where
+pub record HasTakenSomeEntry (before after : Checker) : Type 0 where
   pub entry : Entry
-  pub taken : HasTaken before after entry
+  pub taken : HasTakenEntry before after entry
 
 -- a checker has the same instance, initial assignment and lots as another
 pub record IsSameRun (before after : Checker) : Type 0 where
@@ -57,14 +57,14 @@ pub record IsSameRun (before after : Checker) : Type 0 where
 -- a checker has taken in an entry whose line this is
 pub record HasTakenLine (before after : Checker) (line : List ℕ) : Type 0 where
   pub entry : Entry
-  pub taken : HasTaken before after entry
-  pub text : line ≡ entry_line (length (entries_in before)) entry
+  pub taken : HasTakenEntry before after entry
+  pub text : line ≡ entry_line (length (checker_entries before)) entry
 
 -- a worker exists, and its replica hasn't gone past a place of the journal
 pub record MayStand (c : Checker) (w q : ℕ) : Type 0 where
   pub worker : w < worker_count c.journal.lots.now
-  pub place : q ≤ length (entries_in c)
-  pub ahead : place_of (core_in c) w ≤ q
+  pub place : q ≤ length (checker_entries c)
+  pub ahead : core_place_of (checker_core c) w ≤ q
 
 -- a proposal was recorded
 unfoldable pub is_recorded : CoreReply → Bool

@@ -15,14 +15,14 @@ pub record AreLines (bytes : List ℕ) (place n : ℕ) : Type 0 where
   pub number : length (lines_of (take place bytes)) ≡ n
 
 -- the bytes up to a place are the first ten lines, or all if there are fewer
-pub record AreFirst (bytes : List ℕ) (place n : ℕ) : Type 0 where
+pub record AreFirstLines (bytes : List ℕ) (place n : ℕ) : Type 0 where
   pub given : AreLines bytes place n
   pub few : n ≤ 10
   pub all : n < 10 → drop place bytes ≡ []
 
 -- these are the bytes of the first lines, and none of the first ten lines is over long
 pub record IsHead (bytes : List ℕ) (place n : ℕ) (head : List ℕ) : Type 0 where
-  pub first : AreFirst bytes place n
+  pub first : AreFirstLines bytes place n
   pub text : head ≡ take place bytes
   pub short : (k : ℕ) → k < 10 → over_long bytes k ≡ None
 

@@ -15,7 +15,7 @@ use Rattle.ra_model.specs.Situations.{Situation, situation}
 use Rattle.ra_verify.specs.declared.checker.Checker.{Checker}
 use Rattle.ra_verify.specs.declared.faults.VerifyFault.{VerifyFault}
 use Rattle.ra_verify.specs.declared.faults.VerifyFault.TheVariants as why
-use Rattle.ra_verify.specs.Checking.{entries_in, IsOpen, IsSameRun, HasMore}
+use Rattle.ra_verify.specs.Checking.{checker_entries, IsOpen, IsSameRun, HasTakenSomeEntry}
 use Rattle.ra_verify.specs.Reading.{AreRead, IsHead, IsWrongNext}
 use Rattle.ra_verify.specs.WrongLines.{AreAllRight, IsWrongLine, IsReport, first_over_long}
 
@@ -40,7 +40,7 @@ TellsOf c files name told =
 -- a checker has taken in no entry, and a world is at the start of its run, which has this bound
 pub record AreAtStart (checker : Checker) (world : Situation) (bound : Bound) : Type 0 where
   pub ready : IsOpen checker
-  pub none : entries_in checker ≡ []
+  pub none : checker_entries checker ≡ []
   pub at_start :
       world ≡ situation checker.journal.inst.now.tables checker.journal.a0.now.items
       checker.journal.a0.now.items
@@ -70,10 +70,10 @@ pub record ReadsEntries (files : Reading) (name : List ℕ) (lines : ℕ) (befor
   pub right :
       IfSome (files.held name) (λ bytes. OnOk told
       (AreAllRight before.journal.inst.now.tables before.journal.a0.now.items
-      before.journal.lots.now bytes (entries_in after)))
+      before.journal.lots.now bytes (checker_entries after)))
   pub all :
       IfSome (files.held name) (λ bytes. OnOk told
-      (length (lines_of bytes) ≡ lines + length (entries_in after)))
+      (length (lines_of bytes) ≡ lines + length (checker_entries after)))
   pub wrong :
       IfSome (files.held name) (λ bytes. (n : ℕ) → told ≡ Err (why.Wrong n) → (h : List Entry) ×
       IsWrongNext before.journal.inst.now.tables before.journal.a0.now.items
@@ -87,25 +87,25 @@ pub record ReadsEntries (files : Reading) (name : List ℕ) (lines : ℕ) (befor
 abbrev pub AreReadBy : Checker → List ℕ → ℕ → Checker → Type 0
 AreReadBy before bytes place after =
     AreRead before.journal.inst.now.tables before.journal.a0.now.items before.journal.lots.now bytes
-    place (entries_in after)
+    place (checker_entries after)
 
 -- the next entry line was read, if there is one, and its entry was taken in; or the line is that of no entry that may
 -- follow
 pub record ReadsEntry (files : Reading) (old new : Standing) (before after : Checker)
     (told : Result Bool VerifyFault) : Type 0 where
   pub reads : Reads (files.held_after new.name) new
-  pub more : told ≡ Ok true → HasMore before after
+  pub more : told ≡ Ok true → HasTakenSomeEntry before after
   pub read :
       IfSome (files.held old.name) (λ bytes. told ≡ Ok true
       → AreReadBy before bytes new.place after)
   pub none : told ≡ Ok false → after ≡ before
   pub end :
       IfSome (files.held old.name) (λ bytes. told ≡ Ok false
-      → length (lines_of bytes) ≡ 10 + length (entries_in before))
+      → length (lines_of bytes) ≡ 10 + length (checker_entries before))
   pub wrong :
       IfSome (files.held old.name) (λ bytes. (n : ℕ) → told ≡ Err (why.Wrong n)
       → IsWrongNext before.journal.inst.now.tables before.journal.a0.now.items
-      before.journal.lots.now bytes (entries_in before) n)
+      before.journal.lots.now bytes (checker_entries before) n)
   pub fault : told ≡ Err why.ReadFault → ReadFailed files old.name
   pub memory : told ≢ Err why.NoMemory
   pub same : IsSameRun before after

@@ -3,8 +3,8 @@ ghost use Rattle.ra_io.specs.Outside.{reading};
 ghost use Rattle.ra_report_lines.specs.Reading.{Reads};
 ghost use Rattle.ra_journal.specs.declared.entries.Entry.{Entry as Recorded};
 ghost use Rattle.ra_report.specs.JournalTexts.{entry_line};
-ghost use Rattle.ra_verify.specs.Checking.{entries_in, IsOpen, MayFollow, IsSameRun, HasTakenLine};
-ghost use Rattle.ra_verify.specs.Reading.{AreLines, AreFirst};
+ghost use Rattle.ra_verify.specs.Checking.{checker_entries, IsOpen, MayFollow, IsSameRun, HasTakenLine};
+ghost use Rattle.ra_verify.specs.Reading.{AreLines, AreFirstLines};
 ghost use Rattle.ra_verify.specs.Verdicts.{AreReadBy, ReadsEntries, ReadsEntry};
 ghost use Rattle.ra_verify.specs.declared.faults.VerifyFault.TheVariants as fault;
 
@@ -27,11 +27,11 @@ pub(crate) fn read_rest<F: Files>(
     requires reads { Reads (F.held files.old reader.old.name) reader.old }
     requires few { lines ≤ 10 }
     requires head { IfSome (F.held files.old reader.old.name) (λ bytes.
-        AreFirst bytes reader.old.place lines) }
+        AreFirstLines bytes reader.old.place lines) }
     requires near { reader.old.place ≤ HEAD_BYTES }
     requires room { line.old.room ≡ LONGEST_LINE }
     requires ready { IsOpen checker.old }
-    requires none { entries_in checker.old ≡ [] }
+    requires none { checker_entries checker.old ≡ [] }
     ensures { ReadsEntries (reading F.Files files.old files.new) reader.old.name lines
         checker.old checker.new result }
 {
@@ -55,7 +55,7 @@ fn read_entries<F: Files>(
     requires near { reader.old.place ≤ HEAD_BYTES }
     requires room { line.old.room ≡ LONGEST_LINE }
     requires ready { IsOpen checker.old }
-    requires none { entries_in checker.old ≡ [] }
+    requires none { checker_entries checker.old ≡ [] }
     ensures { ReadsEntries (reading F.Files files.old files.new) reader.old.name 10
         checker.old checker.new result }
 {
@@ -73,7 +73,7 @@ fn read_entry<F: Files>(
     requires reads { Reads (F.held files.old reader.old.name) reader.old }
     requires read { IfSome (F.held files.old reader.old.name) (λ bytes.
         AreReadBy checker.old bytes reader.old.place checker.old) }
-    requires near { reader.old.place ≤ HEAD_BYTES + LONGEST_LINE * length (entries_in checker.old) }
+    requires near { reader.old.place ≤ HEAD_BYTES + LONGEST_LINE * length (checker_entries checker.old) }
     requires room { line.old.room ≡ LONGEST_LINE }
     requires ready { IsOpen checker.old }
     ensures entry { ReadsEntry (reading F.Files files.old files.new) reader.old reader.new
@@ -94,13 +94,13 @@ fn take_entry(line: &[u8], checker: &mut Checker<'_>) -> Result<bool, VerifyFaul
     requires ready { IsOpen checker.old }
     ensures right { IsOk result → (result ≡ Ok true) × HasTakenLine checker.old checker.new
         line.now }
-    ensures wrong { IfErr result (λ why. (why ≡ fault.Wrong (11 + length (entries_in checker.old)))
+    ensures wrong { IfErr result (λ why. (why ≡ fault.Wrong (11 + length (checker_entries checker.old)))
         × ((e : Recorded) → MayFollow checker.old e
-        → line.now ≢ entry_line (length (entries_in checker.old)) e)) }
+        → line.now ≢ entry_line (length (checker_entries checker.old)) e)) }
     ensures short { (e : Recorded) (rest : List ℕ) → MayFollow checker.old e
         → LONGEST_FRONT ≤ length line.now
-        → line.now ++ rest ≡ entry_line (length (entries_in checker.old)) e
-        → length (entry_line (length (entries_in checker.old)) e) ≤ LONGEST_LINE }
+        → line.now ++ rest ≡ entry_line (length (checker_entries checker.old)) e
+        → length (entry_line (length (checker_entries checker.old)) e) ≤ LONGEST_LINE }
     ensures same { IsSameRun checker.old checker.new }
 {
     let wrong = wrong_entry(checker);
@@ -113,7 +113,7 @@ fn take_entry(line: &[u8], checker: &mut Checker<'_>) -> Result<bool, VerifyFaul
 
 /// The refusal of the line after those of the entries so far.
 fn wrong_entry(checker: &Checker<'_>) -> VerifyFault
-    ensures { result ≡ fault.Wrong (11 + length (entries_in checker.now)) }
+    ensures { result ≡ fault.Wrong (11 + length (checker_entries checker.now)) }
 {
     VerifyFault::Wrong {
         line: 11 + checker.journal.len(),

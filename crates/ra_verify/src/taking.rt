@@ -3,7 +3,7 @@ ghost use Rattle.ra_topology.specs.Starts.{IsFeasibleStart};
 ghost use Rattle.ra_journal.specs.declared.entries.Entry.{Entry as Recorded};
 ghost use Rattle.ra_journal.specs.Committing.{next_entry};
 ghost use Rattle.ra_report.specs.JournalTexts.{entry_line};
-ghost use Rattle.ra_verify.specs.Checking.{entries_in, IsOpen, MayFollow, HasTaken, HasTakenLine, IsSameRun, MayStand, is_recorded};
+ghost use Rattle.ra_verify.specs.Checking.{checker_entries, IsOpen, MayFollow, HasTakenEntry, HasTakenLine, IsSameRun, MayStand, is_recorded};
 
 use crate::checker::Checker;
 use ra_base::{Assignment, NoMemory, Parts};
@@ -30,7 +30,7 @@ impl<'a> Checker<'a> {
         ensures topology { IfOk result (λ c. c.journal.topo.now ≡ topo.now) }
         ensures initial { IfOk result (λ c. c.journal.a0.now ≡ a0.now) }
         ensures lots { IfOk result (λ c. c.journal.lots.now ≡ lots.now) }
-        ensures entries { IfOk result (λ c. entries_in c ≡ []) }
+        ensures entries { IfOk result (λ c. checker_entries c ≡ []) }
         ensures ready { IfOk result (λ c. IsOpen c) }
     {
         let journal = Journal::make(alloc, inst, topo, a0, start, lots)?;
@@ -44,11 +44,11 @@ impl<'a> Checker<'a> {
         requires ready { IsOpen self.old }
         ensures right { result ≡ true → HasTakenLine self.old self.new line.now }
         ensures wrong { result ≡ false → (e : Recorded) → MayFollow self.old e
-            → line.now ≢ entry_line (length (entries_in self.old)) e }
+            → line.now ≢ entry_line (length (checker_entries self.old)) e }
         ensures short { (e : Recorded) (rest : List ℕ) → MayFollow self.old e
             → LONGEST_FRONT ≤ length line.now
-            → line.now ++ rest ≡ entry_line (length (entries_in self.old)) e
-            → length (entry_line (length (entries_in self.old)) e) ≤ LONGEST_LINE }
+            → line.now ++ rest ≡ entry_line (length (checker_entries self.old)) e
+            → length (entry_line (length (checker_entries self.old)) e) ≤ LONGEST_LINE }
         ensures same { IsSameRun self.old self.new }
     {
         match read_front(line) {
@@ -64,10 +64,10 @@ impl<'a> Checker<'a> {
         ensures right { result ≡ true → HasTakenLine self.old self.new line.now }
         ensures wrong { result ≡ false → (e : Recorded) → MayFollow self.old e
             → e.worker ≡ front.now.worker → e.q ≡ front.now.q
-            → line.now ≢ entry_line (length (entries_in self.old)) e }
+            → line.now ≢ entry_line (length (checker_entries self.old)) e }
         ensures short { (e : Recorded) → MayFollow self.old e
             → e.worker ≡ front.now.worker → e.q ≡ front.now.q
-            → length (entry_line (length (entries_in self.old)) e) ≤ LONGEST_LINE }
+            → length (entry_line (length (checker_entries self.old)) e) ≤ LONGEST_LINE }
         ensures same { IsSameRun self.old self.new }
     {
         let at = self.journal.len();
@@ -81,9 +81,9 @@ impl<'a> Checker<'a> {
     /// Takes in the next entry of a worker, planned at a place, if it may follow, and says whether it may.
     fn take(&mut self, worker: u32, q: u64) -> bool
         requires ready { IsOpen self.old }
-        ensures right { result ≡ true → HasTaken self.old self.new
+        ensures right { result ≡ true → HasTakenEntry self.old self.new
             (next_entry self.old.journal.inst.now.tables self.old.journal.a0.now.items
-            self.old.journal.lots.now (entries_in self.old) worker q) }
+            self.old.journal.lots.now (checker_entries self.old) worker q) }
         ensures wrong { result ≡ false → (e : Recorded) → MayFollow self.old e
             → e.worker ≡ worker → e.q ≡ q → ⊥ }
         ensures same { IsSameRun self.old self.new }

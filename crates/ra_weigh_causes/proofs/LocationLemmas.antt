@@ -20,7 +20,7 @@ use Rattle.ra_moves.proofs.ValueLemmas.{end_from, end_to}
 use Rattle.ra_moves.specs.Moving.{IsMove}
 use Rattle.ra_moves.proofs.StayLemmas.{tally_applied, tally_stays}
 use Rattle.ra_weigh_causes.specs.declared.marks.Mark.TheVariants.{InLocation}
-use Rattle.ra_weigh_causes.specs.Marks.{mark_of, has_mark, marked, held_in, end_location}
+use Rattle.ra_weigh_causes.specs.Marks.{mark_of, has_mark, marked, location_holds, end_location}
 
 -- what the locations of the first n ends have after a move and before it
 pub record Held (e before after : ℕ → ℕ) (n came went : ℕ) : Type 0 where
@@ -78,48 +78,52 @@ location_stays i a steps s label move none = tally_stays i a steps (of_service i
 
 held_stays : (i : Tables) (a : List Machine) (steps : List Step) (s label : ℕ) → IsMove i a steps →
     is_named (end_count steps) (end_location i steps) label ≡ false →
-    held_in i a s label ≡ held_in i (applied a steps) s label
-unfolding held_in
+    location_holds i a s label ≡ location_holds i (applied a steps) s label
+unfolding location_holds
 held_stays i a steps s label move none = ap (λ n. one_if (ltb 0 n)) (sym (location_stays i a steps s label move none))
 
 small_end : (i : Tables) (steps : List Step) (j : ℕ) → Small i → end_location i steps j < 2 ^ 32
 unfolding end_location
 small_end i steps j small = small.locations (end_in steps j)
 
-pub locations_are : (i : Tables) (a : List Machine) (s : ℕ) → locations_of i a s ≡ total (2 ^ 32) (held_in i a s)
-unfolding locations_of held_in
+pub locations_are : (i : Tables) (a : List Machine) (s : ℕ) → locations_of i a s ≡ total (2 ^ 32) (location_holds i a s)
+unfolding locations_of location_holds
 locations_are i a s = refl
 
 locations_change : (i : Tables) (a : List Machine) (steps : List Step) (s : ℕ) → Small i → IsMove i a steps →
-    locations_of i a s + total (end_count steps) (fresh (end_location i steps) (held_in i (applied a steps) s)) ≡
-    locations_of i (applied a steps) s + total (end_count steps) (fresh (end_location i steps) (held_in i a s))
+    locations_of i a s + total (end_count steps) (fresh (end_location i steps) (location_holds i (applied a steps) s)) ≡
+    locations_of i (applied a steps) s + total (end_count steps) (fresh (end_location i steps) (location_holds i a s))
 locations_change i a steps s small move =
-    let change = total_change_named (2 ^ 32) (end_count steps) (end_location i steps) (held_in i a s)
-    (held_in i (applied a steps) s) (λ j h. small_end i steps j small)
+    let change = total_change_named (2 ^ 32) (end_count steps) (end_location i steps) (location_holds i a s)
+    (location_holds i (applied a steps) s) (λ j h. small_end i steps j small)
     (λ label h none. held_stays i a steps s label move none) in
-    ap (λ n. n + total (end_count steps) (fresh (end_location i steps) (held_in i (applied a steps) s)))
+    ap (λ n. n + total (end_count steps) (fresh (end_location i steps) (location_holds i (applied a steps) s)))
     (locations_are i a s)
     ∙ change
-    ∙ ap (λ n. n + total (end_count steps) (fresh (end_location i steps) (held_in i a s)))
+    ∙ ap (λ n. n + total (end_count steps) (fresh (end_location i steps) (location_holds i a s)))
     (sym (locations_are i (applied a steps) s))
 
 pub located_enough : (i : Tables) (a : List Machine) (steps : List Step) (s n kept came went : ℕ) → Small i →
-    IsMove i a steps → n ≡ end_count steps → Held (end_location i steps) (held_in i a s) (held_in i (applied a steps) s)
+    IsMove i a steps → n ≡ end_count steps →
+    Held (end_location i steps) (location_holds i a s) (location_holds i (applied a steps) s)
     n came went → kept ≡ locations_of i a s → went ≤ kept + came
 located_enough i a steps s n kept came went small move all so_far is =
-    let came_all : came ≡ total (end_count steps) (fresh (end_location i steps) (held_in i (applied a steps) s)) =
+    let came_all : came ≡
+    total (end_count steps) (fresh (end_location i steps) (location_holds i (applied a steps) s)) =
     rw all at so_far.came_is in
-    let went_all : went ≡ total (end_count steps) (fresh (end_location i steps) (held_in i a s)) =
+    let went_all : went ≡ total (end_count steps) (fresh (end_location i steps) (location_holds i a s)) =
     rw all at so_far.went_is in
     omega (arith, came_all, went_all, is, locations_change i a steps s small move)
 
 pub located : (i : Tables) (a : List Machine) (steps : List Step) (s n kept came went : ℕ) → Small i →
-    IsMove i a steps → n ≡ end_count steps → Held (end_location i steps) (held_in i a s) (held_in i (applied a steps) s)
+    IsMove i a steps → n ≡ end_count steps →
+    Held (end_location i steps) (location_holds i a s) (location_holds i (applied a steps) s)
     n came went → kept ≡ locations_of i a s → kept + came - went ≡ locations_of i (applied a steps) s
 located i a steps s n kept came went small move all so_far is =
-    let came_all : came ≡ total (end_count steps) (fresh (end_location i steps) (held_in i (applied a steps) s)) =
+    let came_all : came ≡
+    total (end_count steps) (fresh (end_location i steps) (location_holds i (applied a steps) s)) =
     rw all at so_far.came_is in
-    let went_all : went ≡ total (end_count steps) (fresh (end_location i steps) (held_in i a s)) =
+    let went_all : went ≡ total (end_count steps) (fresh (end_location i steps) (location_holds i a s)) =
     rw all at so_far.went_is in
     omega (arith, came_all, went_all, is, locations_change i a steps s small move)
 
@@ -132,8 +136,8 @@ pub held_new : (e f : ℕ → ℕ) (j label x : ℕ) → label ≡ e j → is_na
 held_new e f j label x is new value = value ∙ ap f is ∙ sym (fresh_new e f j (ap (is_named j e) (sym is) ∙ new))
 
 pub held_marked : (i : Tables) (a : List Machine) (s label n x : ℕ) → n ≡ marked i InLocation a s label →
-    x ≡ one_if (ltb 0 n) → x ≡ held_in i a s label
-unfolding held_in marked in_location has_mark mark_of
+    x ≡ one_if (ltb 0 n) → x ≡ location_holds i a s label
+unfolding location_holds marked in_location has_mark mark_of
 held_marked i a s label n x count value = value ∙ ap (λ k. one_if (ltb 0 k)) count
 
 -- the location of an end, as it is read
@@ -160,8 +164,8 @@ unfolding fresh
 fresh_few e f j each =
     elim (is_named j e (e j)) as (λ t. cond t 0 (f (e j)) ≤ 1) [ true ↦ omega arith | false ↦ each (e j) ]
 
-pub held_few : (i : Tables) (a : List Machine) (s label : ℕ) → held_in i a s label ≤ 1
-unfolding held_in
+pub held_few : (i : Tables) (a : List Machine) (s label : ℕ) → location_holds i a s label ≤ 1
+unfolding location_holds
 held_few i a s label = one_if_le (ltb 0 (in_location i a s label))
 
 -- the location that a step leaves
@@ -198,26 +202,27 @@ one_grows m n more = ⊎_elim
 
 held_grows : (i : Tables) (a : List Machine) (steps : List Step) (s label : ℕ) → IsMove i a steps →
     is_named (length steps) (from_location i steps) label ≡ false →
-    held_in i a s label ≤ held_in i (applied a steps) s label
-unfolding held_in
+    location_holds i a s label ≤ location_holds i (applied a steps) s label
+unfolding location_holds
 held_grows i a steps s label move none = one_grows _ _ (location_grows i a steps s label move none)
 
 -- what the locations that no step leaves hold
 unleft : Tables → List Machine → List Step → ℕ → ℕ → ℕ
-unleft i a steps s label = cond (is_named (length steps) (from_location i steps) label) 0 (held_in i a s label)
+unleft i a steps s label = cond (is_named (length steps) (from_location i steps) label) 0 (location_holds i a s label)
 
 unleft_left : (i : Tables) (a : List Machine) (steps : List Step) (s label : ℕ) →
     is_named (length steps) (from_location i steps) label ≡ true → unleft i a steps s label ≡ 0
 unfolding unleft
-unleft_left i a steps s label left = ap (λ t. cond t 0 (held_in i a s label)) left
+unleft_left i a steps s label left = ap (λ t. cond t 0 (location_holds i a s label)) left
 
 unleft_other : (i : Tables) (a : List Machine) (steps : List Step) (s label : ℕ) →
-    is_named (length steps) (from_location i steps) label ≡ false → unleft i a steps s label ≡ held_in i a s label
+    is_named (length steps) (from_location i steps) label ≡ false →
+    unleft i a steps s label ≡ location_holds i a s label
 unfolding unleft
-unleft_other i a steps s label none = ap (λ t. cond t 0 (held_in i a s label)) none
+unleft_other i a steps s label none = ap (λ t. cond t 0 (location_holds i a s label)) none
 
 unleft_stays : (i : Tables) (a : List Machine) (steps : List Step) (s label : ℕ) → IsMove i a steps →
-    unleft i a steps s label ≤ held_in i (applied a steps) s label
+    unleft i a steps s label ≤ location_holds i (applied a steps) s label
 unleft_stays i a steps s label move = ⊎_elim
     (λ (left : is_named (length steps) (from_location i steps) label ≡ true).
     omega (arith, unleft_left i a steps s label left))
@@ -232,11 +237,12 @@ small_from i steps j small = small.locations (from_in steps j)
 pub left_few : (i : Tables) (a : List Machine) (steps : List Step) (s : ℕ) → Small i → IsMove i a steps →
     locations_of i a s ≤ locations_of i (applied a steps) s + length steps
 left_few i a steps s small move =
-    let change = total_change_named (2 ^ 32) (length steps) (from_location i steps) (held_in i a s) (unleft i a steps s)
+    let change = total_change_named (2 ^ 32) (length steps) (from_location i steps) (location_holds i a s)
+    (unleft i a steps s)
     (λ j h. small_from i steps j small) (λ label h none. sym (unleft_other i a steps s label none)) in
-    let few : total (length steps) (fresh (from_location i steps) (held_in i a s)) ≤ length steps * 1 =
-    total_bound (length steps) 1 (fresh (from_location i steps) (held_in i a s))
-    (λ j h. fresh_few (from_location i steps) (held_in i a s) j (held_few i a s)) in
-    let rest = total_le (2 ^ 32) (unleft i a steps s) (held_in i (applied a steps) s)
+    let few : total (length steps) (fresh (from_location i steps) (location_holds i a s)) ≤ length steps * 1 =
+    total_bound (length steps) 1 (fresh (from_location i steps) (location_holds i a s))
+    (λ j h. fresh_few (from_location i steps) (location_holds i a s) j (held_few i a s)) in
+    let rest = total_le (2 ^ 32) (unleft i a steps s) (location_holds i (applied a steps) s)
     (λ label h. unleft_stays i a steps s label move) in
     omega (arith, change, few, rest, locations_are i a s, locations_are i (applied a steps) s)

@@ -21,7 +21,7 @@ use Rattle.ra_moves.specs.Replacing.{applied}
 use Rattle.ra_moves.specs.Moving.{IsMove}
 use Rattle.ra_moves.proofs.StayLemmas.{tally_applied, of_other}
 use Rattle.ra_weigh_causes.specs.Flowing.{MoveAlone}
-use Rattle.ra_weigh_causes.specs.Marks.{held_in}
+use Rattle.ra_weigh_causes.specs.Marks.{location_holds}
 use Rattle.ra_weigh_causes.proofs.LocationLemmas.{locations_are, held_few, one_grows}
 use Rattle.ra_weigh_causes.proofs.TestLemmas.{spread_enough}
 
@@ -74,14 +74,14 @@ one_apart x y apart = ap one_if (ne_eqb x y apart)
 stays_by_others : (i : Tables) (a : List Machine) (steps : List Step) (j s : ℕ) → IsMove i a steps →
     j < length steps → service_in i steps j ≡ s → MoveAlone i steps j s (length steps) →
     1 < in_location i a s (location_of i (from_in steps j)) → locations_of i a s ≤ locations_of i (applied a steps) s
-unfolding held_in
+unfolding location_holds
 stays_by_others i a steps j s move within is alone others =
     let left = location_of i (from_in steps j) in
     omega (
       arith,
       locations_are i a s,
       locations_are i (applied a steps) s,
-      total_le (2 ^ 32) (held_in i a s) (held_in i (applied a steps) s) (λ label below. ⊎_elim
+      total_le (2 ^ 32) (location_holds i a s) (location_holds i (applied a steps) s) (λ label below. ⊎_elim
           (λ (here : label ≡ left).
           omega (
             arith,
@@ -109,13 +109,13 @@ stays_there : (i : Tables) (a : List Machine) (steps : List Step) (j s : ℕ) �
     j < length steps → service_in i steps j ≡ s → MoveAlone i steps j s (length steps) →
     location_of i (from_in steps j) ≡ location_of i (to_in steps j) →
     locations_of i a s ≤ locations_of i (applied a steps) s
-unfolding held_in
+unfolding location_holds
 stays_there i a steps j s move within is alone same =
     omega (
       arith,
       locations_are i a s,
       locations_are i (applied a steps) s,
-      total_le (2 ^ 32) (held_in i a s) (held_in i (applied a steps) s) (λ label below. one_grows _ _
+      total_le (2 ^ 32) (location_holds i a s) (location_holds i (applied a steps) s) (λ label below. one_grows _ _
           (omega (
             arith,
             location_moves i a steps j s label move within is alone,
@@ -128,7 +128,7 @@ stays_by_coming : (i : Tables) (a : List Machine) (steps : List Step) (j s : ℕ
     j < length steps → service_in i steps j ≡ s → MoveAlone i steps j s (length steps) →
     location_of i (from_in steps j) ≢ location_of i (to_in steps j) →
     in_location i a s (location_of i (to_in steps j)) ≡ 0 → locations_of i a s ≤ locations_of i (applied a steps) s
-unfolding held_in
+unfolding location_holds
 stays_by_coming i a steps j s small move within is alone apart none =
     let left = location_of i (from_in steps j) in
     let come = location_of i (to_in steps j) in
@@ -136,7 +136,7 @@ stays_by_coming i a steps j s small move within is alone apart none =
       arith,
       locations_are i a s,
       locations_are i (applied a steps) s,
-      total_change_two (2 ^ 32) left come (held_in i a s) (held_in i (applied a steps) s)
+      total_change_two (2 ^ 32) left come (location_holds i a s) (location_holds i (applied a steps) s)
           (small.locations (from_in steps j)) (small.locations (to_in steps j)) apart
           (λ label below not_left not_come. ap (λ n. one_if (ltb 0 n))
           (omega (

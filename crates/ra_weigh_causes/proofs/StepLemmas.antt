@@ -19,8 +19,8 @@ use Rattle.ra_moves.specs.Steps.{step_at, process_in, from_in, to_in}
 use Rattle.ra_moves.specs.Values.{gone, come}
 use Rattle.ra_moves.specs.Touched.{service_in}
 use Rattle.ra_moves.specs.Moving.{IsMove}
-use Rattle.ra_world.specs.Required.{AreRequired}
-use Rattle.ra_weigh_causes.specs.Flowing.{AreSteps, AreNone}
+use Rattle.ra_world.specs.Required.{AreRequiredRows}
+use Rattle.ra_weigh_causes.specs.Flowing.{AreFirstSteps, AreNone}
 
 -- three steps that are read
 read_each : (steps : List Step) (a b c : Step) → length steps ≤ 3 → (0 < length steps → a ≡ step_at steps 0) →
@@ -34,12 +34,12 @@ read_each steps a b c few one two three (suc (suc (suc j))) within = absurd (ome
 
 pub three_read : (steps : List Step) (a b c : Step) → length steps ≤ 3 → (0 < length steps → a ≡ step_at steps 0) →
     (1 < length steps → b ≡ step_at steps 1) → (2 < length steps → c ≡ step_at steps 2) →
-    AreSteps steps (a ∷ b ∷ c ∷ [])
+    AreFirstSteps steps (a ∷ b ∷ c ∷ [])
 three_read steps a b c few one two three = record { each = read_each steps a b c few one two three }
 
 -- what the process of a step requires, as it is read
-pub required_there : (i : Tables) (steps : List Step) (n j r width : ℕ) (table : List ℕ) → AreRequired i steps n table →
-    j < n → r < resource_count i → width ≡ resource_count i →
+pub required_there : (i : Tables) (steps : List Step) (n j r width : ℕ) (table : List ℕ) →
+    AreRequiredRows i steps n table → j < n → r < resource_count i → width ≡ resource_count i →
     get_or (take (j * 20 + width - j * 20) (drop (j * 20) table)) r 0 ≡ requirement_of i (process_in steps j) r
 required_there i steps n j r width table are within inside all =
     get_or-take (j * 20 + width - j * 20) (drop (j * 20) table) r 0 (omega arith)

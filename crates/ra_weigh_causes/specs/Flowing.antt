@@ -9,7 +9,7 @@ use Rattle.ra_moves.specs.Touched.{service_in}
 use Rattle.ra_moves.specs.Values.{gone, come}
 
 -- the first ones of a list are the steps of a move
-pub record AreSteps (steps all : List Step) : Type 0 where
+pub record AreFirstSteps (steps all : List Step) : Type 0 where
   pub each : (j : ℕ) → j < length steps → step_at all j ≡ step_at steps j
 
 -- zero of each resource

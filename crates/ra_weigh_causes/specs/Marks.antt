@@ -26,8 +26,8 @@ unfoldable pub marked : Tables → Mark → List Machine → ℕ → ℕ → ℕ
 marked i mark a s x = members_at i a s (has_mark i mark x)
 
 -- 1 for a location, given by its label, that holds a process of service s
-unfoldable pub held_in : Tables → List Machine → ℕ → ℕ → ℕ
-held_in i a s label = one_if (nat_lt 0 (in_location i a s label))
+unfoldable pub location_holds : Tables → List Machine → ℕ → ℕ → ℕ
+location_holds i a s label = one_if (nat_lt 0 (in_location i a s label))
 
 -- the location of an end of the steps
 unfoldable pub end_location : Tables → List Step → ℕ → ℕ

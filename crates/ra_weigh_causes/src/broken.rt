@@ -3,7 +3,7 @@ ghost use Rattle.ra_model.specs.Broken.{first_broken};
 ghost use Rattle.ra_model.specs.Situations.{broken_at};
 ghost use Rattle.ra_moves.specs.Replacing.{after_move};
 ghost use Rattle.ra_moves.specs.Moving.{MayMove};
-ghost use Rattle.ra_world.specs.Required.{AreRequired};
+ghost use Rattle.ra_world.specs.Required.{AreRequiredRows};
 ghost use Rattle.ra_weigh_causes.specs.Trials.{tables_of, initial_of, after_of};
 
 use crate::trial::Trial;
@@ -16,7 +16,7 @@ use ra_world::World;
 /// and processes of one service.
 pub fn first_broken(world: &World<'_>, mv: &Move, required: &[u32; 60]) -> Option<Cause>
     requires moves { MayMove world.now mv.now.steps }
-    requires required { AreRequired world.now.tables mv.now.steps
+    requires required { AreRequiredRows world.now.tables mv.now.steps
         (length mv.now.steps) required.now }
     ensures { result ≡ broken_at (after_move world.now mv.now.steps) }
 {
@@ -29,7 +29,7 @@ pub fn first_broken(world: &World<'_>, mv: &Move, required: &[u32; 60]) -> Optio
 /// service, except for the binary searches for a count.
 pub fn is_unbroken(world: &World<'_>, mv: &Move, required: &[u32; 60]) -> bool
     requires moves { MayMove world.now mv.now.steps }
-    requires required { AreRequired world.now.tables mv.now.steps
+    requires required { AreRequiredRows world.now.tables mv.now.steps
         (length mv.now.steps) required.now }
     ensures { (result ≡ true) ↔ (broken_at (after_move world.now mv.now.steps) ≡ None) }
 {

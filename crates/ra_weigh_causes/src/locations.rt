@@ -3,7 +3,7 @@ ghost use Rattle.ra_base.specs.Sums.{is_named, fresh, one_if};
 ghost use Rattle.ra_model.specs.Numbers.{service_count};
 ghost use Rattle.ra_model.specs.Services.{locations_of};
 ghost use Rattle.ra_moves.specs.Values.{end_count};
-ghost use Rattle.ra_weigh_causes.specs.Marks.{held_in, end_location};
+ghost use Rattle.ra_weigh_causes.specs.Marks.{location_holds, end_location};
 ghost use Rattle.ra_weigh_causes.specs.Trials.{tables_of, steps_of, before_of, after_of};
 
 use crate::marks::Mark;
@@ -40,9 +40,9 @@ impl<'a, 'b> Trial<'a, 'b> {
         requires service { s.0 < service_count (tables_of self.now) }
         requires end { j < end_count (steps_of self.now) }
         ensures came { result.came ≡ fresh (end_location (tables_of self.now) (steps_of self.now))
-            (held_in (tables_of self.now) (after_of self.now) s.0) j }
+            (location_holds (tables_of self.now) (after_of self.now) s.0) j }
         ensures went { result.went ≡ fresh (end_location (tables_of self.now) (steps_of self.now))
-            (held_in (tables_of self.now) (before_of self.now) s.0) j }
+            (location_holds (tables_of self.now) (before_of self.now) s.0) j }
         ensures came_few { result.came ≤ 1 }
         ensures went_few { result.went ≤ 1 }
     {

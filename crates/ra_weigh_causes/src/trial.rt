@@ -9,8 +9,8 @@ ghost use Rattle.ra_moves.specs.Moving.{IsMove, MayMove};
 ghost use Rattle.ra_moves.specs.Laws.{AreLocal};
 ghost use Rattle.ra_rows.specs.Rows as row_words;
 ghost use Rattle.ra_cells.specs.Stands as cell_words;
-ghost use Rattle.ra_world.specs.Required.{AreRequired};
-ghost use Rattle.ra_weigh_causes.specs.Flowing.{AreSteps, AreNone};
+ghost use Rattle.ra_world.specs.Required.{AreRequiredRows};
+ghost use Rattle.ra_weigh_causes.specs.Flowing.{AreFirstSteps, AreNone};
 
 use ra_base::{Assignment, Resource};
 use ra_cells::Cells;
@@ -49,9 +49,9 @@ pub(crate) struct Trial<'a, 'b> {
     pub ghost cells_tables: { cells.now.inst.now.tables ≡ inst.now.tables },
     pub ghost cells_stand: { cell_words.StandFor cells.now inst.now.tables start.now.items
         at.now.items },
-    pub ghost known: { AreRequired inst.now.tables mv.now.steps (length mv.now.steps)
+    pub ghost known: { AreRequiredRows inst.now.tables mv.now.steps (length mv.now.steps)
         required.now },
-    pub ghost read: { AreSteps mv.now.steps all },
+    pub ghost read: { AreFirstSteps mv.now.steps all },
     pub ghost counted: { count ≡ length mv.now.steps },
     pub ghost nothing_each: { AreNone nothing },
     pub ghost nothing_width: { length nothing ≡ 20 },
@@ -62,7 +62,7 @@ impl<'a, 'b> Trial<'a, 'b> {
     #[inline(always)]
     pub(crate) fn of(world: &'a World<'b>, mv: &'a Move, required: &'a [u32; 60]) -> Trial<'a, 'b>
         requires moves { MayMove world.now mv.now.steps }
-        requires required { AreRequired world.now.tables mv.now.steps
+        requires required { AreRequiredRows world.now.tables mv.now.steps
             (length mv.now.steps) required.now }
         ensures instance { result.inst.now.tables ≡ world.now.tables }
         ensures initial { result.start.now.items ≡ world.now.start }
@@ -117,7 +117,7 @@ impl<'a, 'b> Trial<'a, 'b> {
 /// The steps of a move, filled up with others.
 #[inline(always)]
 fn steps_of(mv: &Move) -> [Step; 3]
-    ensures { AreSteps mv.now.steps result }
+    ensures { AreFirstSteps mv.now.steps result }
 {
     let count = mv.steps();
     let one = mv.step(0);

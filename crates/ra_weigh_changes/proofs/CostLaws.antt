@@ -9,7 +9,7 @@ use Rattle.ra_model.specs.Limits.{WellFormed}
 use Rattle.ra_model.specs.Costs.{service_cost, objective}
 use Rattle.ra_model.specs.Situations.{Situation, cost_at, moved_at, service_cost_at}
 use Rattle.ra_cells.specs.MovedCounts.{MovedCounts}
-use Rattle.ra_cells.specs.Replaced.{greatest_with, IsChange, AreApart}
+use Rattle.ra_cells.specs.Replaced.{greatest_with, IsChange, AreOfDifferentServices}
 use Rattle.ra_cells.specs.Stands.{StandFor}
 use Rattle.ra_cells.specs.declared.cells.Cells.{Cells}
 use Rattle.ra_moves.specs.declared.steps.Step.{Step}
@@ -44,7 +44,7 @@ count_change st steps moved counts k limits is moves are few =
 
 pub count_apart : (st : Situation) (steps : List Step) (counts : List (Option MovedCount)) (j k : ℕ) →
     AreCountsOf st steps (length steps) counts → j < k → k < 3 →
-    AreApart (get_or counts j None) (get_or counts k None)
+    AreOfDifferentServices (get_or counts j None) (get_or counts k None)
 unfolding changed_count
 count_apart st steps counts j k are before few =
     rw (are.each j (omega arith), are.each k few) (counts_apart st steps j k before)

@@ -18,9 +18,9 @@ use Rattle.ra_moves.specs.Values.{gone, come, end_count, end_in}
 use Rattle.ra_moves.specs.Moving.{IsMove}
 use Rattle.ra_moves.proofs.ValueLemmas.{end_from, end_to}
 use Rattle.ra_moves.proofs.StayLemmas.{tally_applied}
-use Rattle.ra_weigh_changes.specs.Room.{AreWithin, HaveRoom}
+use Rattle.ra_weigh_changes.specs.Room.{IsWithinCapacity, HaveRoom}
 use Rattle.ra_weigh_changes.specs.Exchanges.{IsExchange, IsExchangedAt, HasExchanged}
-use Rattle.ra_world.specs.Required.{AreRequired}
+use Rattle.ra_world.specs.Required.{AreRequiredRows}
 use Rattle.ra_weigh_changes.proofs.MoveLemmas.{from_read, to_read}
 use Rattle.ra_weigh_changes.proofs.RowUse.{IsRequiredRow, required_from}
 use Rattle.ra_weigh_changes.proofs.RoomLemmas.{no_room}
@@ -105,7 +105,7 @@ step_within steps m comes goes at = (omega (arith, at.other, at.exchange.two), o
 
 pub exchanged_now : (i : Tables) (a : List Machine) (steps : List Step) (m comes goes r width : ℕ)
     (table row coming going : List ℕ) → IsMove i a steps → IsExchangedAt steps m comes goes →
-    AreRequired i steps (length steps) table → width ≡ resource_count i → r < resource_count i →
+    AreRequiredRows i steps (length steps) table → width ≡ resource_count i → r < resource_count i →
     get_or row r 0 ≡ use_of i a m r → ((k : ℕ) → k < width → get_or coming k 0 ≡ cell 20 table comes k) →
     ((k : ℕ) → k < width → get_or going k 0 ≡ cell 20 table goes k) →
     use_of i (applied a steps) m r + get_or going r 0 ≡ get_or row r 0 + get_or coming r 0
@@ -202,8 +202,8 @@ second_read steps s exchange is = rw (to_read steps 0 s is) (second_exchanged st
 -- room on both is room for the exchange
 pub room_exchanged : (i : Tables) (b : List Machine) (steps : List Step) (s : Step) (second : Bool) →
     IsExchange steps → s ≡ step_at steps 0 →
-    AreWithin i s.from.0 (use_of i b s.from.0) (resource_count i) →
-    (second ≡ true) ↔ AreWithin i s.to.0 (use_of i b s.to.0) (resource_count i) →
+    IsWithinCapacity i s.from.0 (use_of i b s.from.0) (resource_count i) →
+    (second ≡ true) ↔ IsWithinCapacity i s.to.0 (use_of i b s.to.0) (resource_count i) →
     (second ≡ true) ↔ HaveRoom i b steps (length steps)
 room_exchanged i b steps s second exchange is first tells =
     let left : s.from.0 ≡ to_in steps 1 = from_read steps 0 s is ∙ sym exchange.back in
@@ -218,7 +218,7 @@ room_exchanged i b steps s second exchange is first tells =
     )
 
 pub no_room_exchanged : (i : Tables) (b : List Machine) (steps : List Step) (s : Step) → IsExchange steps →
-    s ≡ step_at steps 0 → (AreWithin i s.from.0 (use_of i b s.from.0) (resource_count i) → ⊥) →
+    s ≡ step_at steps 0 → (IsWithinCapacity i s.from.0 (use_of i b s.from.0) (resource_count i) → ⊥) →
     HaveRoom i b steps (length steps) → ⊥
 no_room_exchanged i b steps s exchange is fails =
     no_room i b steps (length steps) 1 s.from.0 (omega (arith, exchange.two))

@@ -13,7 +13,7 @@ use Rattle.ra_moves.specs.declared.steps.Step.{Step}
 use Rattle.ra_moves.specs.Steps.{to_in}
 use Rattle.ra_moves.specs.Replacing.{applied}
 use Rattle.ra_moves.specs.Moving.{IsMove}
-use Rattle.ra_weigh_changes.specs.Room.{AreWithin, HaveRoom}
+use Rattle.ra_weigh_changes.specs.Room.{IsWithinCapacity, HaveRoom}
 
 -- an answer that is true, and one that is false
 pub told_true : {P : Type 0} → P → (true ≡ true) ↔ P
@@ -23,11 +23,11 @@ pub told_false : {P : Type 0} → (P → ⊥) → (false ≡ true) ↔ P
 told_false fails = (λ same. absurd (cc), λ fact. absurd (fails fact))
 
 -- the resources of a machine
-pub within_none : (i : Tables) (m : ℕ) (used : ℕ → ℕ) → AreWithin i m used 0
+pub within_none : (i : Tables) (m : ℕ) (used : ℕ → ℕ) → IsWithinCapacity i m used 0
 within_none i m used = record { each = λ r before. absurd (omega arith) }
 
-pub within_more : (i : Tables) (m n most : ℕ) (used : ℕ → ℕ) → AreWithin i m used n → most ≡ capacity_of i m n →
-    used n ≤ most → AreWithin i m used (n + 1)
+pub within_more : (i : Tables) (m n most : ℕ) (used : ℕ → ℕ) → IsWithinCapacity i m used n → most ≡ capacity_of i m n →
+    used n ≤ most → IsWithinCapacity i m used (n + 1)
 within_more i m n most used so_far is fits = record {
   each = λ r below. ⊎_elim
       (λ (before : r < n). so_far.each r before)
@@ -36,10 +36,11 @@ within_more i m n most used so_far is fits = record {
 }
 
 pub not_within : (i : Tables) (m n r most : ℕ) (used : ℕ → ℕ) → r < n → most ≡ capacity_of i m r → most < used r →
-    AreWithin i m used n → ⊥
+    IsWithinCapacity i m used n → ⊥
 not_within i m n r most used below is high all = absurd (omega (arith, is, high, all.each r below))
 
-pub within_all : (i : Tables) (m n k : ℕ) (used : ℕ → ℕ) → k ≡ n → AreWithin i m used k → AreWithin i m used n
+pub within_all : (i : Tables) (m n k : ℕ) (used : ℕ → ℕ) → k ≡ n → IsWithinCapacity i m used k →
+    IsWithinCapacity i m used n
 within_all i m n k used all within = rw (← all) within
 
 -- the use now, as a row has it
@@ -49,8 +50,8 @@ used_now i tables a m r row same is inside = (rw same at is).each r inside
 
 -- what is told of a row is told of the use that it has
 pub told_of_use : (i : Tables) (a : List Machine) (m : ℕ) (row : List ℕ) (told : Bool) → IsUsageRow i a m row →
-    (told ≡ true) ↔ AreWithin i m (λ r. get_or row r 0) (resource_count i) →
-    (told ≡ true) ↔ AreWithin i m (use_of i a m) (resource_count i)
+    (told ≡ true) ↔ IsWithinCapacity i m (λ r. get_or row r 0) (resource_count i) →
+    (told ≡ true) ↔ IsWithinCapacity i m (use_of i a m) (resource_count i)
 told_of_use i a m row told is says = (
   λ yes. record { each = λ r below. omega (arith, is.each r below, (says.0 yes).each r below) },
   λ within. says.1 (record { each = λ r below. omega (arith, is.each r below, within.each r below) }),
@@ -61,7 +62,7 @@ pub room_none : (i : Tables) (b : List Machine) (steps : List Step) → HaveRoom
 room_none i b steps = record { each = λ j before. absurd (omega arith) }
 
 pub room_more : (i : Tables) (b : List Machine) (steps : List Step) (n to : ℕ) → HaveRoom i b steps n →
-    to ≡ to_in steps n → AreWithin i to (use_of i b to) (resource_count i) → HaveRoom i b steps (n + 1)
+    to ≡ to_in steps n → IsWithinCapacity i to (use_of i b to) (resource_count i) → HaveRoom i b steps (n + 1)
 room_more i b steps n to so_far is here = record {
   each = λ j below. ⊎_elim
       (λ (before : j < n). so_far.each j before)
@@ -70,7 +71,7 @@ room_more i b steps n to so_far is here = record {
 }
 
 pub no_room : (i : Tables) (b : List Machine) (steps : List Step) (n j to : ℕ) → j < n → to ≡ to_in steps j →
-    (AreWithin i to (use_of i b to) (resource_count i) → ⊥) → HaveRoom i b steps n → ⊥
+    (IsWithinCapacity i to (use_of i b to) (resource_count i) → ⊥) → HaveRoom i b steps n → ⊥
 no_room i b steps n j to below is fails all = fails (rw is (all.each j below))
 
 -- if no capacity is broken there is room

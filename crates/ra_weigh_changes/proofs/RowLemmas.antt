@@ -6,7 +6,7 @@ use Rattle.ra_base.specs.Tables.{cell}
 use Rattle.ra_base.proofs.Tables.{cell_is}
 use Rattle.std.proofs.Common.{take, drop}
 use Rattle.std.proofs.lemmas.List.{get_or-take, get_or-drop}
-use Rattle.ra_weigh_changes.specs.RowChanges.{share_at, HasMore, HasMoreAt, HasFollowed, CanFollow}
+use Rattle.ra_weigh_changes.specs.RowChanges.{share_at, HasMoreInRow, HasMoreInRowAt, RowHasFollowed, CanFollow}
 
 -- a row of requirements, as it is read
 pub required_cell : (width j r : ℕ) (table : List ℕ) → r < width →
@@ -40,14 +40,14 @@ pub share_elsewhere : (at m amount : ℕ) → at ≢ m → share_at at m amount 
 unfolding share_at
 share_elsewhere at m amount apart = cond-false _ _ _ (ne_eqb at m apart)
 
-pub more_here : (at m : ℕ) (old new amounts : List ℕ) → at ≡ m → HasMore old new amounts →
-    HasMoreAt at m old new amounts
+pub more_here : (at m : ℕ) (old new amounts : List ℕ) → at ≡ m → HasMoreInRow old new amounts →
+    HasMoreInRowAt at m old new amounts
 more_here at m old new amounts here more = record {
   same_length = more.same_length;
   each = λ r within. omega (arith, more.each r within, share_here at m (get_or amounts r 0) here);
 }
 
-pub more_elsewhere : (at m : ℕ) (row amounts : List ℕ) → at ≢ m → HasMoreAt at m row row amounts
+pub more_elsewhere : (at m : ℕ) (row amounts : List ℕ) → at ≢ m → HasMoreInRowAt at m row row amounts
 more_elsewhere at m row amounts apart = record {
   same_length = refl;
   each = λ r within. omega (arith, share_elsewhere at m (get_or amounts r 0) apart);
@@ -59,7 +59,8 @@ enough_here at m r row amounts here enough = omega (arith, share_here at m (get_
 
 -- what enters, and then what leaves
 pub enough_left : (from to m : ℕ) (old mid amounts : List ℕ) → CanFollow from to m old amounts →
-    HasMoreAt to m old mid amounts → (r : ℕ) → r < length mid → share_at from m (get_or amounts r 0) ≤ get_or mid r 0
+    HasMoreInRowAt to m old mid amounts → (r : ℕ) → r < length mid →
+    share_at from m (get_or amounts r 0) ≤ get_or mid r 0
 enough_left from to m old mid amounts able entered r within =
     omega (
       arith,
@@ -67,8 +68,8 @@ enough_left from to m old mid amounts able entered r within =
       entered.each r (omega (arith, entered.same_length)),
     )
 
-pub followed : (from to m : ℕ) (old mid new amounts : List ℕ) → HasMoreAt to m old mid amounts →
-    HasMoreAt from m new mid amounts → HasFollowed from to m old new amounts
+pub followed : (from to m : ℕ) (old mid new amounts : List ℕ) → HasMoreInRowAt to m old mid amounts →
+    HasMoreInRowAt from m new mid amounts → RowHasFollowed from to m old new amounts
 followed from to m old mid new amounts entered left = record {
   same_length = sym left.same_length ∙ entered.same_length;
   each = λ r within.

@@ -12,8 +12,8 @@ use Rattle.ra_moves.specs.declared.steps.Step.{Step}
 use Rattle.ra_moves.specs.Steps.{step_at, process_in, from_in, to_in}
 use Rattle.ra_moves.specs.Replacing.{after_steps}
 use Rattle.ra_moves.specs.Moving.{IsMove}
-use Rattle.ra_world.specs.Required.{AreRequired}
-use Rattle.ra_weigh_changes.specs.RowChanges.{share_at, HasFollowed, CanFollow}
+use Rattle.ra_world.specs.Required.{AreRequiredRows}
+use Rattle.ra_weigh_changes.specs.RowChanges.{share_at, RowHasFollowed, CanFollow}
 use Rattle.ra_weigh_changes.proofs.MoveLemmas.{from_read, to_read, tally_next}
 
 -- the row has what step j's process requires
@@ -21,7 +21,7 @@ pub record IsRequiredRow (i : Tables) (steps : List Step) (j : ℕ) (amounts : L
   pub each : (r : ℕ) → r < resource_count i → get_or amounts r 0 ≡ requirement_of i (process_in steps j) r
 
 pub required_from : (i : Tables) (steps : List Step) (n j width : ℕ) (table amounts : List ℕ) →
-    AreRequired i steps n table → j < n → width ≡ resource_count i →
+    AreRequiredRows i steps n table → j < n → width ≡ resource_count i →
     ((r : ℕ) → r < width → get_or amounts r 0 ≡ cell 20 table j r) → IsRequiredRow i steps j amounts
 required_from i steps n j width table amounts are within is read = record {
   each = λ r inside. read r (omega arith) ∙ are.each j r within inside;
@@ -74,7 +74,7 @@ can_follow i a steps j m s row amounts limits small move within is required widt
 pub row_next : (i : Tables) (a : List Machine) (steps : List Step) (j m : ℕ) (s : Step) (old new amounts : List ℕ) →
     IsMove i a steps → j < length steps → s ≡ step_at steps j → IsRequiredRow i steps j amounts →
     length old ≡ resource_count i → IsUsageRow i (after_steps a steps j) m old →
-    HasFollowed s.from.0 s.to.0 m old new amounts → IsUsageRow i (after_steps a steps (j + 1)) m new
+    RowHasFollowed s.from.0 s.to.0 m old new amounts → IsUsageRow i (after_steps a steps (j + 1)) m new
 row_next i a steps j m s old new amounts move within is required width usage follows = record {
   each = λ r here.
       omega (

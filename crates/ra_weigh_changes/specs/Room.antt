@@ -8,10 +8,10 @@ use Rattle.ra_moves.specs.declared.steps.Step.{Step}
 use Rattle.ra_moves.specs.Steps.{to_in}
 
 -- the use of each of the first n resources is within the capacity of machine m
-pub record AreWithin (i : Tables) (m : ℕ) (used : ℕ → ℕ) (n : ℕ) : Type 0 where
+pub record IsWithinCapacity (i : Tables) (m : ℕ) (used : ℕ → ℕ) (n : ℕ) : Type 0 where
   pub each : (r : ℕ) → r < n → used r ≤ capacity_of i m r
 
 -- in assignment b each machine that one of the first n steps enters has no use above its capacity
 pub record HaveRoom (i : Tables) (b : List Machine) (steps : List Step) (n : ℕ) : Type 0 where
   pub each : (j : ℕ) → j < n
-      → AreWithin i (to_in steps j) (use_of i b (to_in steps j)) (resource_count i)
+      → IsWithinCapacity i (to_in steps j) (use_of i b (to_in steps j)) (resource_count i)

@@ -6,19 +6,19 @@ unfoldable pub share_at : ℕ → ℕ → ℕ → ℕ
 share_at at m amount = if at == m then amount else 0
 
 -- each number of a row has grown by its amount
-pub record HasMore (old new amounts : List ℕ) : Type 0 where
+pub record HasMoreInRow (old new amounts : List ℕ) : Type 0 where
   pub same_length : length new ≡ length old
   pub each : (r : ℕ) → r < length old
       → slice_index new r ≡ slice_index old r + slice_index amounts r
 
 -- each number of a row has grown by its amount if the row is that of one machine, and else it stays
-pub record HasMoreAt (at m : ℕ) (old new amounts : List ℕ) : Type 0 where
+pub record HasMoreInRowAt (at m : ℕ) (old new amounts : List ℕ) : Type 0 where
   pub same_length : length new ≡ length old
   pub each : (r : ℕ) → r < length old
       → slice_index new r ≡ slice_index old r + share_at at m (slice_index amounts r)
 
 -- the amounts have left one machine for another: what the row of machine m has then
-pub record HasFollowed (from to m : ℕ) (old new amounts : List ℕ) : Type 0 where
+pub record RowHasFollowed (from to m : ℕ) (old new amounts : List ℕ) : Type 0 where
   pub same_length : length new ≡ length old
   pub each : (r : ℕ) → r < length old
       → slice_index new r + share_at from m (slice_index amounts r)

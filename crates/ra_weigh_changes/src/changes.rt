@@ -2,7 +2,7 @@ ghost use Rattle.std.specs.Prelude.{◌≡◌, length, None};
 ghost use Rattle.ra_moves.specs.Judging.{broken_by};
 ghost use Rattle.ra_moves.specs.Weighing.{weighed_of};
 ghost use Rattle.ra_moves.specs.Moving.{MayMove};
-ghost use Rattle.ra_world.specs.Required.{AreRequired};
+ghost use Rattle.ra_world.specs.Required.{AreRequiredRows};
 
 use crate::counts::counts_of;
 use crate::ends::change_at_ends;
@@ -16,7 +16,7 @@ use ra_world::World;
 /// memory.
 pub fn changed_by(world: &World<'_>, mv: &Move, required: &[u32; 60]) -> Weighed
     requires moves { MayMove world.now mv.now.steps }
-    requires required { AreRequired world.now.tables mv.now.steps
+    requires required { AreRequiredRows world.now.tables mv.now.steps
         (length mv.now.steps) required.now }
     requires unbroken { broken_by world.now mv.now.steps ≡ None }
     ensures { result ≡ weighed_of world.now mv.now.steps }

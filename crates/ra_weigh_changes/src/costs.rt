@@ -1,5 +1,5 @@
 ghost use Rattle.std.specs.Prelude.{◌≡◌, ◌↔◌, ◌+◌, ◌^◌, ◌<◌, ◌≤◌, true, length};
-ghost use Rattle.ra_world.specs.Required.{AreRequired};
+ghost use Rattle.ra_world.specs.Required.{AreRequiredRows};
 ghost use Rattle.ra_weigh_changes.specs.Below.{IsIfBelow};
 ghost use Rattle.ra_model.specs.Situations.{cost_at, service_cost_at};
 ghost use Rattle.ra_moves.specs.Replacing.{after_move};
@@ -21,7 +21,7 @@ pub fn cost_after_move(
     bound: u128,
 ) -> Option<u128>
     requires moves { MayMove world.now mv.now.steps }
-    requires required { AreRequired world.now.tables mv.now.steps
+    requires required { AreRequiredRows world.now.tables mv.now.steps
         (length mv.now.steps) required.now }
     ensures { IsIfBelow bound (cost_at (after_move world.now mv.now.steps)) result }
 {

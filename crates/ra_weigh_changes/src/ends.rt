@@ -6,7 +6,7 @@ ghost use Rattle.ra_rows.specs.Rows.{IsUsageRow};
 ghost use Rattle.ra_moves.specs.Replacing.{applied};
 ghost use Rattle.ra_moves.specs.Values.{end_count, end_in};
 ghost use Rattle.ra_moves.specs.Moving.{MayMove};
-ghost use Rattle.ra_world.specs.Required.{AreRequired};
+ghost use Rattle.ra_world.specs.Required.{AreRequiredRows};
 ghost use Rattle.ra_weigh_changes.specs.PlaceCosts.{row_cost};
 ghost use Rattle.ra_weigh_changes.specs.EndCosts.{IsChangeAtEnds};
 ghost use Rattle.ra_weigh_changes.specs.Exchanges.{IsExchange, IsExchangedAt};
@@ -25,7 +25,7 @@ use ra_world::{World, row_balance, row_load};
 #[tactic(auto, unfolding(ra_moves::specs::Values::end_count))]
 pub(crate) fn change_at_ends(world: &World<'_>, mv: &Move, required: &[u32; 60]) -> Change
     requires moves { MayMove world.now mv.now.steps }
-    requires required { AreRequired world.now.tables mv.now.steps
+    requires required { AreRequiredRows world.now.tables mv.now.steps
         (length mv.now.steps) required.now }
     ensures { IsChangeAtEnds world.now mv.now.steps result }
 {
@@ -45,7 +45,7 @@ pub(crate) fn change_at_ends(world: &World<'_>, mv: &Move, required: &[u32; 60])
 #[inline(always)]
 fn change_at_exchange(world: &World<'_>, mv: &Move, required: &[u32; 60]) -> Change
     requires moves { MayMove world.now mv.now.steps }
-    requires required { AreRequired world.now.tables mv.now.steps
+    requires required { AreRequiredRows world.now.tables mv.now.steps
         (length mv.now.steps) required.now }
     requires exchange { IsExchange mv.now.steps }
     ensures { IsChangeAtEnds world.now mv.now.steps result }
@@ -70,7 +70,7 @@ fn cost_exchanged(
     goes: u32,
 ) -> u128
     requires moves { MayMove world.now mv.now.steps }
-    requires required { AreRequired world.now.tables mv.now.steps
+    requires required { AreRequiredRows world.now.tables mv.now.steps
         (length mv.now.steps) required.now }
     requires machine { m.0 < machine_count world.now.tables }
     requires exchanged { IsExchangedAt mv.now.steps m.0 comes goes }
@@ -94,7 +94,7 @@ fn cost_exchanged(
 #[tactic(auto, using(ra_base::proofs::Named::names, crate::proofs::MoveLemmas::end_known))]
 fn change_at(world: &World<'_>, mv: &Move, required: &[u32; 60], j: u32) -> Change
     requires moves { MayMove world.now mv.now.steps }
-    requires required { AreRequired world.now.tables mv.now.steps
+    requires required { AreRequiredRows world.now.tables mv.now.steps
         (length mv.now.steps) required.now }
     requires end { j < end_count mv.now.steps }
     ensures added { result.added ≡ fresh (end_in mv.now.steps)
@@ -147,7 +147,7 @@ fn is_named_before(mv: &Move, j: u32, m: Machine) -> bool
 #[inline(always)]
 fn cost_after(world: &World<'_>, mv: &Move, required: &[u32; 60], m: Machine) -> u128
     requires moves { MayMove world.now mv.now.steps }
-    requires required { AreRequired world.now.tables mv.now.steps
+    requires required { AreRequiredRows world.now.tables mv.now.steps
         (length mv.now.steps) required.now }
     requires machine { m.0 < machine_count world.now.tables }
     ensures value { result ≡

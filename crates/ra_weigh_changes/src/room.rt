@@ -3,8 +3,8 @@ ghost use Rattle.ra_model.specs.Numbers.{resource_count, machine_count};
 ghost use Rattle.ra_model.specs.Usage.{use_of};
 ghost use Rattle.ra_moves.specs.Replacing.{applied};
 ghost use Rattle.ra_moves.specs.Moving.{MayMove};
-ghost use Rattle.ra_world.specs.Required.{AreRequired};
-ghost use Rattle.ra_weigh_changes.specs.Room.{AreWithin, HaveRoom};
+ghost use Rattle.ra_world.specs.Required.{AreRequiredRows};
+ghost use Rattle.ra_weigh_changes.specs.Room.{IsWithinCapacity, HaveRoom};
 ghost use Rattle.ra_weigh_changes.specs.Exchanges.{IsExchange, IsExchangedAt};
 
 use crate::exchanges::is_exchange;
@@ -18,7 +18,7 @@ use ra_world::World;
 /// number of resources, and is less than that of the cost.
 pub fn has_room(world: &World<'_>, mv: &Move, required: &[u32; 60]) -> bool
     requires moves { MayMove world.now mv.now.steps }
-    requires required { AreRequired world.now.tables mv.now.steps
+    requires required { AreRequiredRows world.now.tables mv.now.steps
         (length mv.now.steps) required.now }
     ensures { (result ≡ true) ↔ HaveRoom world.now.tables
         (applied world.now.here mv.now.steps) mv.now.steps (length mv.now.steps) }
@@ -39,7 +39,7 @@ pub fn has_room(world: &World<'_>, mv: &Move, required: &[u32; 60]) -> bool
 #[inline(always)]
 fn exchange_has_room(world: &World<'_>, mv: &Move, required: &[u32; 60]) -> bool
     requires moves { MayMove world.now mv.now.steps }
-    requires required { AreRequired world.now.tables mv.now.steps
+    requires required { AreRequiredRows world.now.tables mv.now.steps
         (length mv.now.steps) required.now }
     requires exchange { IsExchange mv.now.steps }
     ensures { (result ≡ true) ↔ HaveRoom world.now.tables
@@ -64,11 +64,11 @@ fn has_room_exchanged(
     goes: u32,
 ) -> bool
     requires moves { MayMove world.now mv.now.steps }
-    requires required { AreRequired world.now.tables mv.now.steps
+    requires required { AreRequiredRows world.now.tables mv.now.steps
         (length mv.now.steps) required.now }
     requires machine { m.0 < machine_count world.now.tables }
     requires exchanged { IsExchangedAt mv.now.steps m.0 comes goes }
-    ensures { (result ≡ true) ↔ AreWithin world.now.tables m.0
+    ensures { (result ≡ true) ↔ IsWithinCapacity world.now.tables m.0
         (use_of world.now.tables (applied world.now.here mv.now.steps) m.0)
         (resource_count world.now.tables) }
 {
@@ -91,10 +91,10 @@ fn has_room_exchanged(
 /// Whether a machine has the capacity for its use after the move.
 fn machine_has_room(world: &World<'_>, mv: &Move, required: &[u32; 60], m: Machine) -> bool
     requires moves { MayMove world.now mv.now.steps }
-    requires required { AreRequired world.now.tables mv.now.steps
+    requires required { AreRequiredRows world.now.tables mv.now.steps
         (length mv.now.steps) required.now }
     requires machine { m.0 < machine_count world.now.tables }
-    ensures { (result ≡ true) ↔ AreWithin world.now.tables m.0
+    ensures { (result ≡ true) ↔ IsWithinCapacity world.now.tables m.0
         (use_of world.now.tables (applied world.now.here mv.now.steps) m.0)
         (resource_count world.now.tables) }
 {
@@ -109,7 +109,7 @@ fn machine_has_room(world: &World<'_>, mv: &Move, required: &[u32; 60], m: Machi
 fn is_within(inst: &Instance, m: Machine, row: &[u64]) -> bool
     requires machine { m.0 < machine_count inst.now.tables }
     requires width { length row.now ≡ resource_count inst.now.tables }
-    ensures { (result ≡ true) ↔ AreWithin inst.now.tables m.0 (slice_index row.now)
+    ensures { (result ≡ true) ↔ IsWithinCapacity inst.now.tables m.0 (slice_index row.now)
         (resource_count inst.now.tables) }
 {
     for r in 0..inst.resources() {

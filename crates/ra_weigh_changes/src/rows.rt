@@ -4,8 +4,8 @@ ghost use Rattle.ra_model.specs.Numbers.{resource_count, machine_count};
 ghost use Rattle.ra_rows.specs.Rows.{IsUsageRow};
 ghost use Rattle.ra_moves.specs.Replacing.{applied};
 ghost use Rattle.ra_moves.specs.Moving.{MayMove};
-ghost use Rattle.ra_world.specs.Required.{AreRequired};
-ghost use Rattle.ra_weigh_changes.specs.RowChanges.{share_at, HasMore, HasMoreAt, HasFollowed, CanFollow};
+ghost use Rattle.ra_world.specs.Required.{AreRequiredRows};
+ghost use Rattle.ra_weigh_changes.specs.RowChanges.{share_at, HasMoreInRow, HasMoreInRowAt, RowHasFollowed, CanFollow};
 ghost use Rattle.ra_weigh_changes.specs.Exchanges.{HasExchanged};
 
 use ra_base::Machine;
@@ -22,7 +22,7 @@ pub(crate) fn row_after(
     row: &mut [u64],
 )
     requires moves { MayMove world.now mv.now.steps }
-    requires required { AreRequired world.now.tables mv.now.steps
+    requires required { AreRequiredRows world.now.tables mv.now.steps
         (length mv.now.steps) required.now }
     requires machine { m.0 < machine_count world.now.tables }
     requires width { length row.old ≡ resource_count world.now.tables }
@@ -38,7 +38,7 @@ pub(crate) fn row_after(
 #[inline(always)]
 fn follow_row(world: &World<'_>, mv: &Move, required: &[u32; 60], m: Machine, row: &mut [u64])
     requires moves { MayMove world.now mv.now.steps }
-    requires required { AreRequired world.now.tables mv.now.steps
+    requires required { AreRequiredRows world.now.tables mv.now.steps
         (length mv.now.steps) required.now }
     requires width { length row.old ≡ resource_count world.now.tables }
     requires before { IsUsageRow world.now.tables world.now.here m.0 row.old }
@@ -71,7 +71,7 @@ pub(crate) fn required_row(required: &[u32; 60], j: u32, width: u32) -> &[u32]
 fn follow_step(row: &mut [u64], m: Machine, step: Step, amounts: &[u32])
     requires width { length amounts.now ≡ length row.old }
     requires able { CanFollow step.from.0 step.to.0 m.0 row.old amounts.now }
-    ensures { HasFollowed step.from.0 step.to.0 m.0 row.old row.new amounts.now }
+    ensures { RowHasFollowed step.from.0 step.to.0 m.0 row.old row.new amounts.now }
 {
     enter_row(row, m, step.to, amounts);
     leave_row(row, m, step.from, amounts);
@@ -83,7 +83,7 @@ fn follow_step(row: &mut [u64], m: Machine, step: Step, amounts: &[u32])
 fn enter_row(row: &mut [u64], m: Machine, at: Machine, amounts: &[u32])
     requires width { length amounts.now ≡ length row.old }
     requires room { (r : ℕ) → r < length row.old → slice_index row.old r < 2 ^ 63 }
-    ensures { HasMoreAt at.0 m.0 row.old row.new amounts.now }
+    ensures { HasMoreInRowAt at.0 m.0 row.old row.new amounts.now }
 {
     if at.0 == m.0 {
         add_row(row, amounts);
@@ -97,7 +97,7 @@ fn leave_row(row: &mut [u64], m: Machine, at: Machine, amounts: &[u32])
     requires width { length amounts.now ≡ length row.old }
     requires enough { (r : ℕ) → r < length row.old → share_at at.0 m.0 (slice_index amounts.now r)
         ≤ slice_index row.old r }
-    ensures { HasMoreAt at.0 m.0 row.new row.old amounts.now }
+    ensures { HasMoreInRowAt at.0 m.0 row.new row.old amounts.now }
 {
     if at.0 == m.0 {
         take_row(row, amounts);
@@ -109,7 +109,7 @@ fn leave_row(row: &mut [u64], m: Machine, at: Machine, amounts: &[u32])
 fn add_row(row: &mut [u64], amounts: &[u32])
     requires width { length amounts.now ≡ length row.old }
     requires room { (r : ℕ) → r < length row.old → slice_index row.old r < 2 ^ 63 }
-    ensures { HasMore row.old row.new amounts.now }
+    ensures { HasMoreInRow row.old row.new amounts.now }
 {
     for r in 0..row.len() {
         row[r] += u64::from(amounts[r]);
@@ -122,7 +122,7 @@ fn take_row(row: &mut [u64], amounts: &[u32])
     requires width { length amounts.now ≡ length row.old }
     requires enough { (r : ℕ) → r < length row.old → slice_index amounts.now r
         ≤ slice_index row.old r }
-    ensures { HasMore row.new row.old amounts.now }
+    ensures { HasMoreInRow row.new row.old amounts.now }
 {
     for r in 0..row.len() {
         row[r] -= u64::from(amounts[r]);

@@ -16,7 +16,7 @@ use Rattle.ra_model.specs.Situations.{Situation, moved_at}
 use Rattle.ra_moves.specs.Replacing.{after_move}
 use Rattle.ra_model.proofs.BoundLemmas.{moved_within}
 use Rattle.ra_cells.specs.MovedCounts.{MovedCounts}
-use Rattle.ra_cells.specs.Replaced.{counted_after, greatest_with, IsChange, AreApart}
+use Rattle.ra_cells.specs.Replaced.{counted_after, greatest_with, IsChange, AreOfDifferentServices}
 use Rattle.ra_moves.specs.declared.steps.Step.{Step}
 use Rattle.ra_moves.specs.Steps.{process_in}
 use Rattle.ra_moves.specs.Replacing.{applied}
@@ -85,7 +85,7 @@ count_changes st steps moved k limits is counts = ⊎_elim
 
 -- of different services
 pub counts_apart : (st : Situation) (steps : List Step) (j k : ℕ) → j < k →
-    AreApart (changed_count st steps j) (changed_count st steps k)
+    AreOfDifferentServices (changed_count st steps j) (changed_count st steps k)
 unfolding moved_count
 counts_apart st steps j k before = ⊎_elim
     (λ (none : changed_count st steps j ≡ None). rw none tt)

@@ -18,7 +18,7 @@ use Rattle.ra_model.specs.Situations.{Situation, cost_at, moved_at}
 use Rattle.ra_moves.specs.Replacing.{after_move}
 use Rattle.ra_model.proofs.BoundLemmas.{objective_under}
 use Rattle.ra_cells.specs.MovedCounts.{MovedCounts}
-use Rattle.ra_cells.specs.Replaced.{counted_after, greatest_with, IsChange, AreApart}
+use Rattle.ra_cells.specs.Replaced.{counted_after, greatest_with, IsChange, AreOfDifferentServices}
 use Rattle.ra_moves.specs.declared.steps.Step.{Step}
 use Rattle.ra_moves.specs.declared.verdicts.Verdict.TheVariants.{Refused}
 use Rattle.ra_moves.specs.declared.verdicts.Weighed.{Weighed}
@@ -35,9 +35,9 @@ pub record AreChanges (moved : MovedCounts) (weighed : Weighed) : Type 0 where
   pub first : IfSome weighed.first (λ c. IsChange moved c)
   pub second : IfSome weighed.second (λ c. IsChange moved c)
   pub third : IfSome weighed.third (λ c. IsChange moved c)
-  pub first_second : AreApart weighed.first weighed.second
-  pub first_third : AreApart weighed.first weighed.third
-  pub second_third : AreApart weighed.second weighed.third
+  pub first_second : AreOfDifferentServices weighed.first weighed.second
+  pub first_third : AreOfDifferentServices weighed.first weighed.third
+  pub second_third : AreOfDifferentServices weighed.second weighed.third
 
 -- a move without a broken cause names no process twice
 unbroken_move : (st : Situation) (steps : List Step) (moved : MovedCounts) (kept : ℕ)

@@ -29,32 +29,32 @@ use Rattle.ra_moves.specs.Touched.{service_in}
 use Rattle.ra_moves.specs.Weighing.{is_new_service, local_cost, local_change, moved_count, changed_count, count_at}
 use Rattle.ra_moves.specs.Weighing.{services_moved, weighed_by, weighed_of}
 use Rattle.ra_weigh_shift.specs.Conditions.{shifted}
-use Rattle.ra_weigh_shift.specs.Sharing.{use_without, use_with, row_cost, cost_of, way_cost}
+use Rattle.ra_weigh_shift.specs.Sharing.{use_without, use_with, row_cost_with, cost_of, way_cost}
 use Rattle.ra_weigh_shift.proofs.RoomLaws.{IsStart, use_entered, use_left}
 use Rattle.ra_weigh_shift.proofs.MemberLaws.{members_mine}
 use Rattle.ra_weigh_shift.proofs.AllowLaws.{applied_one}
 
 -- the costs of a row of use are those of each equal row
 pub row_cost_same : (i : Tables) (m : ℕ) (u v : ℕ → ℕ) → WellFormed i → ((r : ℕ) → r < resource_count i → u r ≡ v r) →
-    row_cost i m u ≡ row_cost i m v
-unfolding row_cost
+    row_cost_with i m u ≡ row_cost_with i m v
+unfolding row_cost_with
 row_cost_same i m u v limits same =
     ap₂ (λ x y. x + y) (row_load_same i m u v same) (row_balance_same i m u v limits same)
 
 -- the costs of a machine in an assignment, from its row
-cost_by_row : (i : Tables) (a : List Machine) (m : ℕ) → cost_of i a m ≡ row_cost i m (use_of i a m)
-unfolding cost_of row_cost machine_load machine_balance
+cost_by_row : (i : Tables) (a : List Machine) (m : ℕ) → cost_of i a m ≡ row_cost_with i m (use_of i a m)
+unfolding cost_of row_cost_with machine_load machine_balance
 cost_by_row i a m = refl
 
 pub cost_entered : (st : Situation) (p to : ℕ) → IsStart st p to →
-    cost_of st.tables (shifted st.here p to) to ≡ row_cost st.tables to (use_with st.tables st.here p to)
+    cost_of st.tables (shifted st.here p to) to ≡ row_cost_with st.tables to (use_with st.tables st.here p to)
 unfolding use_with
 cost_entered st p to h = cost_by_row st.tables (shifted st.here p to) to
     ∙ row_cost_same st.tables to (use_of st.tables (shifted st.here p to) to) (use_with st.tables st.here p to) h.formed
     (λ r within. use_entered st p to r h)
 
 pub cost_left : (st : Situation) (p to : ℕ) → IsStart st p to →
-    cost_of st.tables (shifted st.here p to) (machine_at st.here p) ≡ row_cost st.tables (machine_at st.here p)
+    cost_of st.tables (shifted st.here p to) (machine_at st.here p) ≡ row_cost_with st.tables (machine_at st.here p)
     (use_without st.tables st.here p)
 unfolding use_without
 cost_left st p to h = cost_by_row st.tables (shifted st.here p to) (machine_at st.here p)
@@ -114,9 +114,9 @@ signed after before added taken is = omega (arith, ints, is)
 
 -- the change of the costs: what is added less what is taken away
 pub change_is : (st : Situation) (p to without before with way here : ℕ) → IsStart st p to →
-    without ≡ row_cost st.tables (machine_at st.here p) (use_without st.tables st.here p) →
+    without ≡ row_cost_with st.tables (machine_at st.here p) (use_without st.tables st.here p) →
     before ≡ cost_of st.tables st.here (machine_at st.here p) + way_cost st.tables st.start p
-    (machine_at st.here p) → with ≡ row_cost st.tables to (use_with st.tables st.here p to) →
+    (machine_at st.here p) → with ≡ row_cost_with st.tables to (use_with st.tables st.here p to) →
     way ≡ way_cost st.tables st.start p to → here ≡ cost_of st.tables st.here to →
     pos (without + with + way) -ℤ pos (before + here) ≡ local_change st (leaving st.here p to ∷ [])
 unfolding local_change

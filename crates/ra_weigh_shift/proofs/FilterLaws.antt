@@ -27,7 +27,7 @@ use Rattle.ra_rows.specs.FilterRows.{load_asked, load_row, first_asked, first_ro
 use Rattle.ra_weigh_shift.specs.Arriving.{BreaksNothing, cost_after, cost_now, service_now, cost_added, cost_taken}
 use Rattle.ra_weigh_shift.specs.Arriving.{sum_at, IsCostBelow, IsSumBelow}
 use Rattle.ra_weigh_shift.specs.Conditions.{shifted, HasRoom}
-use Rattle.ra_weigh_shift.specs.Sharing.{use_without, use_with, row_cost, cost_of, way_cost}
+use Rattle.ra_weigh_shift.specs.Sharing.{use_without, use_with, row_cost_with, cost_of, way_cost}
 use Rattle.ra_weigh_shift.specs.Filter.{load_above, balance_above, saved, filter_sum, moved_away, service_away}
 use Rattle.ra_weigh_shift.specs.Filter.{base_added, base_taken, IsFiltered}
 use Rattle.ra_weigh_shift.proofs.RoomLaws.{IsStart}
@@ -104,8 +104,8 @@ balance_comes i a p m limits room =
 
 -- both costs of the machine that is entered
 cost_comes : (i : Tables) (a : List Machine) (p m : ℕ) → WellFormed i → HasRoom i a p m →
-    row_cost i m (use_with i a p m) + saved i p ≡ cost_of i a m + load_above i a p m + balance_above i a p m
-unfolding row_cost cost_of
+    row_cost_with i m (use_with i a p m) + saved i p ≡ cost_of i a m + load_above i a p m + balance_above i a p m
+unfolding row_cost_with cost_of
 cost_comes i a p m limits room = omega (arith, load_comes i a p m, balance_comes i a p m limits room)
 
 -- the costs of a way that doesn't end at home
@@ -208,8 +208,8 @@ pub home_change : (st : Situation) (p to : ℕ) → IsStart st p to →
     cost_at (record st { here = shifted st.here p to })
     + (cost_of st.tables st.here (machine_at st.here p) + way_cost st.tables st.start p (machine_at st.here p)
     + cost_of st.tables st.here to + service_cost_at st) ≡
-    cost_at st + (row_cost st.tables (machine_at st.here p) (use_without st.tables st.here p)
-    + row_cost st.tables to (use_with st.tables st.here p to)
+    cost_at st + (row_cost_with st.tables (machine_at st.here p) (use_without st.tables st.here p)
+    + row_cost_with st.tables to (use_with st.tables st.here p to)
     + way_cost st.tables st.start p to + service_cost_at (record st { here = shifted st.here p to }))
 home_change st p to h = omega (
   arith,
@@ -222,11 +222,11 @@ home_change st p to h = omega (
 
 pub home_at : (w : Situation) (p to kept without before now with way here service : ℕ) → IsSound w →
     p < process_count w.tables → to < machine_count w.tables → BreaksNothing w p to →
-    kept ≡ cost_now w → without ≡ row_cost w.tables (machine_at w.here p)
+    kept ≡ cost_now w → without ≡ row_cost_with w.tables (machine_at w.here p)
     (use_without w.tables w.here p) →
     before ≡ cost_of w.tables w.here (machine_at w.here p)
     + way_cost w.tables w.start p (machine_at w.here p) → now ≡ service_now w →
-    with ≡ row_cost w.tables to (use_with w.tables w.here p to) →
+    with ≡ row_cost_with w.tables to (use_with w.tables w.here p to) →
     way ≡ way_cost w.tables w.start p to →
     here ≡ cost_of w.tables w.here to →
     service ≡ service_cost_at (record w { here = shifted w.here p to }) →

@@ -22,7 +22,7 @@ use Rattle.ra_rows.specs.FilterRows.{load_asked, load_row, first_asked, first_ro
 use Rattle.ra_world.specs.FilterTables.{filter_row_count, filter_width, filter_row, IsRowTable}
 use Rattle.ra_weigh_shift.specs.Arriving.{BreaksNothing, cost_after, cost_added, cost_taken, sum_at, IsCostBelow}
 use Rattle.ra_weigh_shift.specs.Filter.{load_above, balance_above, filter_sum}
-use Rattle.ra_weigh_shift.specs.Lanes.{filter_asked, AreInRows, AreTerms, AreSums, AreMarked, HaveWays, machine_in}
+use Rattle.ra_weigh_shift.specs.Lanes.{filter_asked, AreInRows, AreTerms, AreSums, AreCheapMarked, HaveWays, machine_in}
 use Rattle.ra_weigh_shift.specs.Lanes.{way_in}
 use Rattle.ra_weigh_shift.proofs.FilterLaws.{dear_cost, filtered_at, sum_none}
 
@@ -245,7 +245,7 @@ pub marked : (w : Situation) (p first bound taken added room limit marks : ℕ) 
     IsSound w → p < process_count w.tables → taken ≡ cost_taken w p → added ≡ cost_added w p →
     room ≡ bound + taken - added →
     0 < room → limit ≡ min (room - 1) (2 ^ 32 - 1) → AreSums w p first limit marks sums →
-    AreMarked w p first bound marks sums
+    AreCheapMarked w p first bound marks sums
 marked w p first bound taken added room limit marks sums sound known taken_is added_is room_is some limit_is are =
     record {
       dear = λ k below unset apart.
@@ -266,7 +266,7 @@ marked w p first bound taken added room limit marks sums sound known taken_is ad
 pub none_marked : (w : Situation) (p first bound taken added room : ℕ) (sums : List ℕ) → IsSound w →
     p < process_count w.tables →
     taken ≡ cost_taken w p → added ≡ cost_added w p → room ≡ bound + taken - added → room ≡ 0 →
-    AreMarked w p first bound 0 sums
+    AreCheapMarked w p first bound 0 sums
 none_marked w p first bound taken added room sums sound known taken_is added_is room_is none = record {
   dear = λ k below unset apart. dear_at w p (machine_in w first k) bound taken added room sound known
       (in_machines w first k sound)

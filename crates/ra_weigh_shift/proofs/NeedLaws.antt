@@ -13,7 +13,7 @@ use Rattle.ra_model.specs.Relations.{depends}
 use Rattle.ra_model.specs.Feasible.{HasNear}
 use Rattle.ra_model.specs.Situations.{Situation, IsFeasible}
 use Rattle.ra_model.proofs.BrokenLemmas.{near_from_count, count_from_near}
-use Rattle.ra_weigh_shift.specs.Conditions.{shifted, FindsNeeds, MayLeave}
+use Rattle.ra_weigh_shift.specs.Conditions.{shifted, FindsOtherNeeds, MayLeave}
 use Rattle.ra_weigh_shift.proofs.RoomLaws.{IsStart, placed, others}
 use Rattle.ra_weigh_shift.proofs.MemberLaws.{near_mine, near_other}
 
@@ -30,7 +30,7 @@ depends_from i s u needs = is_named_from (dependency_count i s) (need_of i s) u 
 -- what p needs is where it goes
 pub needs_from : (st : Situation) (p to : ℕ) → IsStart st p to →
     IsFeasible (record st { here = shifted st.here p to }) →
-    FindsNeeds st.tables st.here p to
+    FindsOtherNeeds st.tables st.here p to
 needs_from st p to h after = record {
   each = λ k within other.
       let s = service_of st.tables p in
@@ -100,7 +100,7 @@ leaves_from st p to h after leaves = record {
         omega (arith, counted, there, here, mine, gone_from st p to h leaves last)
 
 -- the other way round: p itself finds what its service needs
-near_p : (st : Situation) (p to k : ℕ) → IsStart st p to → FindsNeeds st.tables st.here p to →
+near_p : (st : Situation) (p to k : ℕ) → IsStart st p to → FindsOtherNeeds st.tables st.here p to →
     k < dependency_count st.tables (service_of st.tables p) →
     HasNear st.tables (shifted st.here p to) (need_of st.tables (service_of st.tables p) k)
     (neighbourhood_of st.tables to)
@@ -209,7 +209,7 @@ kept_near st p to s k q h may s_in k_in q_in one_service other mine = ⊎_elim
         (cases_eq (neighbourhood_of st.tables (machine_at st.here p))
         (neighbourhood_of st.tables (machine_at st.here q)))
 
-near_moved : (st : Situation) (p to s k q : ℕ) → IsStart st p to → FindsNeeds st.tables st.here p to →
+near_moved : (st : Situation) (p to s k q : ℕ) → IsStart st p to → FindsOtherNeeds st.tables st.here p to →
     k < dependency_count st.tables s → service_of st.tables q ≡ s → q ≡ p →
     HasNear st.tables (shifted st.here p to) (need_of st.tables s k)
     (neighbourhood_of st.tables (machine_at (shifted st.here p to) q))
@@ -242,7 +242,7 @@ near_stayed st p to s k q h may s_in k_in q_in one_service other = ⊎_elim
     ))))
     (cases_eq (need_of st.tables s k) (service_of st.tables p))
 
-pub dependency_after : (st : Situation) (p to : ℕ) → IsStart st p to → FindsNeeds st.tables st.here p to →
+pub dependency_after : (st : Situation) (p to : ℕ) → IsStart st p to → FindsOtherNeeds st.tables st.here p to →
     (neighbourhood_of st.tables (machine_at st.here p) ≢ neighbourhood_of st.tables to → MayLeave st.tables st.here p) →
     (s k q : ℕ) → s < service_count st.tables →
     k < dependency_count st.tables s → q < process_count st.tables → service_of st.tables q ≡ s →

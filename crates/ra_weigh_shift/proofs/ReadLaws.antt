@@ -24,7 +24,7 @@ use Rattle.ra_topology.proofs.NeedLemmas.{need_within}
 use Rattle.ra_topology.specs.Fits.{AreDistinctNeeds, AreDependants}
 use Rattle.ra_topology.specs.Lists.{services_of, numbers_of, service_at, is_dependant, AreDistinctNeedsOf}
 use Rattle.ra_topology.specs.Lists.{AreDependantsOf}
-use Rattle.ra_weigh_shift.specs.Conditions.{HasRoom, HasRoomBetween, FindsNeeds, MayLeave}
+use Rattle.ra_weigh_shift.specs.Conditions.{HasRoom, HasRoomBetween, FindsOtherNeeds, MayLeave}
 use Rattle.ra_weigh_shift.specs.Sharing.{AreRequired, use_without, use_with, locations_without}
 use Rattle.ra_weigh_shift.proofs.SpreadLaws.{some_location}
 
@@ -210,7 +210,7 @@ listed_need i s x services are within = is_named_from (dependency_count i s) (ne
 pub needs_hold : (i : Tables) (a : List Machine) (p s to label : ℕ) (services : List Service) → s ≡ service_of i p →
     label ≡ neighbourhood_of i to → AreDistinctNeedsOf i s services →
     ((k : ℕ) → k < length services → service_at services k ≢ service_of i p →
-    0 < in_neighbourhood i a (service_at services k) label) → FindsNeeds i a p to
+    0 < in_neighbourhood i a (service_at services k) label) → FindsOtherNeeds i a p to
 needs_hold i a p s to label services s_is label_is are all = record {
   each = λ k within other.
       let listed = need_listed i s k services are (omega (arith, within, ap (dependency_count i) s_is)) in
@@ -222,7 +222,7 @@ needs_hold i a p s to label services s_is label_is are all = record {
 pub needs_lack : (i : Tables) (a : List Machine) (p s to label k : ℕ) (services : List Service) → s ≡ service_of i p →
     label ≡ neighbourhood_of i to → AreDistinctNeedsOf i s services → k < length services →
     service_at services k ≢ service_of i p → in_neighbourhood i a (service_at services k) label ≡ 0 →
-    FindsNeeds i a p to → ⊥
+    FindsOtherNeeds i a p to → ⊥
 needs_lack i a p s to label k services s_is label_is are within other none finds =
     let listed = listed_need i s k services are within in
     let here : service_at services k ≡ need_of i (service_of i p) listed.0 = sym listed.2

@@ -28,8 +28,8 @@ moved_after st p to =
     moved_at (record st { here = shifted st.here p to }) (service_of st.tables p)
 
 -- how many processes of service s are in a neighbourhood now
-abbrev pub members_in : Situation → ℕ → ℕ → ℕ
-members_in st s label = in_neighbourhood st.tables st.here s label
+abbrev pub members_near : Situation → ℕ → ℕ → ℕ
+members_near st s label = in_neighbourhood st.tables st.here s label
 
 -- the cost now, and the service cost in it
 abbrev pub cost_now : Situation → ℕ

@@ -28,7 +28,7 @@ pub record HasRoomBetween (st : Situation) (p to : ℕ) : Type 0 where
       ≤ capacity_of st.tables to r
 
 -- each service that p's service needs is in the neighbourhood of `to`, into which p brings its own
-pub record FindsNeeds (i : Tables) (a : List Machine) (p to : ℕ) : Type 0 where
+pub record FindsOtherNeeds (i : Tables) (a : List Machine) (p to : ℕ) : Type 0 where
   pub each : (k : ℕ) → k < dependency_count i (service_of i p)
       → need_of i (service_of i p) k ≢ service_of i p
       → 0 < in_neighbourhood i a (need_of i (service_of i p) k) (neighbourhood_of i to)
@@ -67,6 +67,6 @@ pub record Allows (st : Situation) (p to : ℕ) : Type 0 where
   pub between : HasRoomBetween st p to
   pub alone : IsAlone st.tables st.here p to
   pub spread : KeepsSpread st.tables st.here p to
-  pub needs : FindsNeeds st.tables st.here p to
+  pub needs : FindsOtherNeeds st.tables st.here p to
   pub leaves : KeepsDependants st.tables st.here p to
   pub admitted : IsAdmitted st.tables st.start p to

@@ -11,7 +11,7 @@ use Rattle.ra_model.specs.Situations.{Situation, cost_at, moved_at, service_cost
 use Rattle.ra_cells.specs.Marks.{away}
 use Rattle.ra_rows.specs.FilterRows.{load_asked, load_row, first_asked, first_row, second_asked, second_row}
 use Rattle.ra_weigh_shift.specs.Conditions.{shifted}
-use Rattle.ra_weigh_shift.specs.Sharing.{use_without, row_cost, cost_of, way_cost}
+use Rattle.ra_weigh_shift.specs.Sharing.{use_without, row_cost_with, cost_of, way_cost}
 
 -- what p adds to the load cost of machine m: for each resource what it asks above what the machine has below its safety
 -- capacity
@@ -49,7 +49,7 @@ service_away st p =
 -- what is added for every such machine: the costs of the machine that p leaves, its process cost, the service cost
 unfoldable pub base_added : Situation → ℕ → ℕ
 base_added st p =
-    row_cost st.tables (machine_at st.here p) (use_without st.tables st.here p)
+    row_cost_with st.tables (machine_at st.here p) (use_without st.tables st.here p)
     + process_weight_of st.tables * process_cost_of st.tables p + service_away st p
 
 -- what is taken away for every such machine: the costs of that machine before, those of p there, the most that p can

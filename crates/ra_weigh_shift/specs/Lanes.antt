@@ -69,7 +69,7 @@ pub record HaveWays (i : Tables) (home first limit : ℕ) (sums : List ℕ) (mar
   pub bits : (k : ℕ) → k < 64 → (bit_at marks k ≡ 1) ↔ (slice_index with k ≤ limit)
 
 -- a bit for each of sixty-four machines to which a shift may cost less than a bound, and what each adds
-pub record AreMarked (st : Situation) (p first bound marks : ℕ) (sums : List ℕ) : Type 0 where
+pub record AreCheapMarked (st : Situation) (p first bound marks : ℕ) (sums : List ℕ) : Type 0 where
   -- without a bit, the shift costs at least the bound or breaks something, unless p comes home
   pub dear : (k : ℕ) → k < 64 → bit_at marks k ≢ 1
       → machine_at st.start p ≢ machine_in st first k

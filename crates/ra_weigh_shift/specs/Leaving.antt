@@ -3,7 +3,7 @@ use Rattle.std.specs.Prelude.{ℕ, ◌+◌}
 use Rattle.ra_model.specs.Numbers.{service_of, location_of, neighbourhood_of, spread_of}
 use Rattle.ra_model.specs.Assignments.{machine_at}
 use Rattle.ra_model.specs.Situations.{Situation}
-use Rattle.ra_weigh_shift.specs.Sharing.{use_without, row_cost, cost_of, way_cost}
+use Rattle.ra_weigh_shift.specs.Sharing.{use_without, row_cost_with, cost_of, way_cost}
 
 -- the machine of p
 abbrev pub machine_left : Situation → ℕ → ℕ
@@ -22,7 +22,7 @@ spread_wanted st p = spread_of st.tables (service_of st.tables p)
 
 -- the load and balance cost of its machine without it
 abbrev pub cost_left : Situation → ℕ → ℕ
-cost_left st p = row_cost st.tables (machine_left st p) (use_without st.tables st.here p)
+cost_left st p = row_cost_with st.tables (machine_left st p) (use_without st.tables st.here p)
 
 -- the load and balance cost of its machine with it, and its own process and machine cost there
 abbrev pub cost_before : Situation → ℕ → ℕ

@@ -23,8 +23,8 @@ unfoldable pub use_with : Tables → List Machine → ℕ → ℕ → ℕ → �
 use_with i a p to r = use_of i a to r + requirement_of i p r
 
 -- the load cost and the balance cost of a machine with this use
-unfoldable pub row_cost : Tables → ℕ → (ℕ → ℕ) → ℕ
-row_cost i m u = row_load i m u + row_balance i m u
+unfoldable pub row_cost_with : Tables → ℕ → (ℕ → ℕ) → ℕ
+row_cost_with i m u = row_load i m u + row_balance i m u
 
 -- the load cost and the balance cost of machine m as it is
 unfoldable pub cost_of : Tables → List Machine → ℕ → ℕ

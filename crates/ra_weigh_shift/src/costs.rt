@@ -1,17 +1,17 @@
 ghost use Rattle.std.specs.Prelude.{◌≡◌, ℕ, ◌+◌, ◌-◌, ◌*◌, ◌^◌, ◌<◌, ◌≤◌, slice_index};
 ghost use Rattle.ra_model.specs.Numbers.{resource_count, machine_count, process_count};
 ghost use Rattle.ra_model.specs.Assignments.{machine_at};
-ghost use Rattle.ra_weigh_shift.specs.Sharing.{AreRequired, use_without, use_with, row_cost, way_cost};
+ghost use Rattle.ra_weigh_shift.specs.Sharing.{AreRequired, use_without, use_with, row_cost_with, way_cost};
 
 use ra_base::{Machine, Process};
 use ra_model::Instance;
 use ra_world::{World, row_balance, row_load};
 
 /// The load cost and the balance cost of a machine with this use, a number for each resource.
-#[tactic(auto, unfolding(crate::specs::Sharing::row_cost))]
+#[tactic(auto, unfolding(crate::specs::Sharing::row_cost_with))]
 pub(crate) fn cost_of_row(inst: &Instance, m: Machine, row: &[u64; 20]) -> u128
     requires { m.0 < machine_count inst.now.tables }
-    ensures value { result ≡ row_cost inst.now.tables m.0 (slice_index row.now) }
+    ensures value { result ≡ row_cost_with inst.now.tables m.0 (slice_index row.now) }
     ensures bound { result ≤ 30 * 2 ^ 96 }
 {
     let used = &row[..inst.resources() as usize];
@@ -55,7 +55,7 @@ fn fill_without(
 pub(crate) fn cost_with(world: &World<'_>, p: Process, required: &[u32; 20], to: Machine) -> u128
     requires machine { to.0 < machine_count world.now.tables }
     requires required { AreRequired world.now.tables p.0 required.now }
-    ensures value { result ≡ row_cost
+    ensures value { result ≡ row_cost_with
         world.now.tables to.0 (use_with world.now.tables world.now.here p.0 to.0) }
     ensures bound { result ≤ 30 * 2 ^ 96 }
 {
@@ -74,7 +74,7 @@ pub(crate) fn cost_without(
     requires process { p.0 < process_count world.now.tables }
     requires from { from.0 ≡ machine_at world.now.here p.0 }
     requires required { AreRequired world.now.tables p.0 required.now }
-    ensures value { result ≡ row_cost
+    ensures value { result ≡ row_cost_with
         world.now.tables from.0 (use_without world.now.tables world.now.here p.0) }
     ensures bound { result ≤ 30 * 2 ^ 96 }
 {

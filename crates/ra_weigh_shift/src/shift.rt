@@ -4,9 +4,9 @@ ghost use Rattle.ra_weigh_shift.specs.Filter.{service_away};
 ghost use Rattle.ra_model.specs.Assignments.{machine_at};
 ghost use Rattle.ra_model.specs.Services.{on_machine, in_neighbourhood};
 ghost use Rattle.ra_model.specs.Situations.{cost_at, IsSound};
-ghost use Rattle.ra_weigh_shift.specs.Arriving.{BreaksNothing, cost_after, moved_after, members_in, cost_now, service_now, cost_added, cost_taken, IsCostBelow, IsSumBelow, sum_at};
-ghost use Rattle.ra_weigh_shift.specs.Lanes.{AreMarked};
-ghost use Rattle.ra_weigh_shift.specs.Conditions.{HasRoom, HasRoomBetween, IsAlone, locations_after, KeepsSpread, FindsNeeds, KeepsDependants, IsAdmitted};
+ghost use Rattle.ra_weigh_shift.specs.Arriving.{BreaksNothing, cost_after, moved_after, members_near, cost_now, service_now, cost_added, cost_taken, IsCostBelow, IsSumBelow, sum_at};
+ghost use Rattle.ra_weigh_shift.specs.Lanes.{AreCheapMarked};
+ghost use Rattle.ra_weigh_shift.specs.Conditions.{HasRoom, HasRoomBetween, IsAlone, locations_after, KeepsSpread, FindsOtherNeeds, KeepsDependants, IsAdmitted};
 ghost use Rattle.ra_weigh_shift.specs.Leaving.{machine_left, location_left, neighbourhood_left, spread_wanted, cost_left, cost_before};
 ghost use Rattle.ra_weigh_shift.specs.Sharing.{AreRequired, way_cost};
 
@@ -227,7 +227,7 @@ impl<'w, 'a> Shift<'w, 'a> {
         requires first { first < machine_count self.now.world.now.tables }
         requires bound { bound ≤ 2 ^ 120 }
         ensures { IfSome result (λ marks.
-            AreMarked self.now.world.now self.now.process.0 first bound marks sums.new) }
+            AreCheapMarked self.now.world.now self.now.process.0 first bound marks sums.new) }
     {
         let room = self.room_below(bound);
         if room == 0 {
@@ -417,7 +417,7 @@ impl<'w, 'a> Shift<'w, 'a> {
     #[inline(always)]
     pub(crate) fn finds_needs(&self, to: Machine) -> bool
         requires { to.0 < machine_count self.now.world.now.tables }
-        ensures { (result ≡ true) ↔ FindsNeeds
+        ensures { (result ≡ true) ↔ FindsOtherNeeds
             self.now.world.now.tables self.now.world.now.here self.now.process.0 to.0 }
     {
         let label = self.world.instance().neighbourhood(to);
@@ -436,10 +436,10 @@ impl<'w, 'a> Shift<'w, 'a> {
         requires { need.0 < service_count self.now.world.now.tables }
         ensures other { result ≡ true →
             need.0 ≢ service_of self.now.world.now.tables self.now.process.0 }
-        ensures none { result ≡ true → members_in self.now.world.now need.0 label ≡ 0 }
+        ensures none { result ≡ true → members_near self.now.world.now need.0 label ≡ 0 }
         ensures some { result ≡ false →
             need.0 ≢ service_of self.now.world.now.tables self.now.process.0 →
-            0 < members_in self.now.world.now need.0 label }
+            0 < members_near self.now.world.now need.0 label }
     {
         if need.0 == self.service.0 {
             return false;

@@ -16,10 +16,10 @@ use Rattle.clap.proofs.WalkLemmas.{both}
 use Rattle.clap.specs.declared.parser.matches.Found.{Found}
 use Rattle.ra_base.specs.declared.causes.Drawing.TheVariants.{Two}
 use Rattle.ra_words.specs.Words.{behind, has_option, is_name, value_at, word_at}
-use Rattle.ra_words.specs.Numbers.{has_digits, is_number, worth}
+use Rattle.ra_words.specs.Numbers.{has_digits, is_number, decimal_worth}
 use Rattle.ra_words.specs.LotTexts.{are_lots, first_place, is_lot, is_seed_lot, is_written, is_written_lot, lot_says}
 use Rattle.ra_words.specs.LotTexts.{seed_text}
-use Rattle.ra_words.specs.Lines.{Finds, Line, Spells, option_words, plain_of, words_of}
+use Rattle.ra_words.specs.Lines.{Finds, Line, Spells, option_words, plain_of, words_of_line}
 use Rattle.ra_words.specs.Forms.{RunFound, found_check, found_bound, found_bound_from, found_solve, found_trial}
 use Rattle.ra_words.specs.Forms.{found_verify, found_repair, found_edit}
 use Rattle.ra_words.proofs.LotLaws.{lots_told}
@@ -208,7 +208,7 @@ closed_parts words place ends = record { closed = grind (arith, common_steps); l
 
 pub closing_spelled : (k : ℕ) (words : List (List ℕ)) → Files ends_closed (suc k) words →
     Spells (closing_line (suc k) words) words
-unfolding words_of option_words
+unfolding words_of_line option_words
 closing_spelled k words files =
     let n = suc k in
     let is = closed_parts words (suc n) files.ends in
@@ -283,7 +283,7 @@ pair_line words = record {
 
 pair_spelled : (words : List (List ℕ)) → length words ≡ 2 → is_name (word_at words 1) ≡ true →
     Spells (pair_line words) words
-unfolding words_of option_words
+unfolding words_of_line option_words
 pair_spelled words two name = record {
   is = words_here 2 0 words (omega (arith, two))
       ∙ ap (λ ws. words_from 0 words 2 ++ ws) (drop_all 2 words (omega (arith, two)));
@@ -334,7 +334,7 @@ pub trial_found : (words : List (List ℕ)) (found : Found) → is_trial words �
 unfolding trial_says word_at
 trial_found words found trial finds =
     let f = finds (pair_line words) (trial_spelled words trial) in
-    ap (λ ws. Trials (worth (word_at ws 0))) f.plain
+    ap (λ ws. Trials (decimal_worth (word_at ws 0))) f.plain
 
 -- ---- files, options and lots: solve and verify
 
@@ -366,7 +366,7 @@ lots_parts words place ends = record {
 
 pub running_spelled : (k : ℕ) (words : List (List ℕ)) → Files ends_in_lots (suc k) words →
     Spells (running_line (suc k) words) words
-unfolding words_of slack_text closed_text draws_text lot_words closed_place draws_place lots_place
+unfolding words_of_line slack_text closed_text draws_text lot_words closed_place draws_place lots_place
 running_spelled k words files =
     let n = suc k in
     let is = lots_parts words (suc n) files.ends in
@@ -462,7 +462,7 @@ repair_parts words repair = record {
 }
 
 pub repair_spelled : (words : List (List ℕ)) → is_repair words ≡ true → Spells (repair_line words) words
-unfolding words_of option_words lot_place
+unfolding words_of_line option_words lot_place
 repair_spelled words repair =
     let is = repair_parts words repair in
     let named = closed_named (value_at (codes "--closed") words 3) is.closed in

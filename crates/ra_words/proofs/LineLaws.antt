@@ -14,7 +14,7 @@ use Rattle.clap.proofs.OnLiterals.{clap_on_literals}
 use Rattle.clap.proofs.SimpleLemmas.{is_nil}
 use Rattle.clap.proofs.TakesLemmas.{leaf_takes}
 use Rattle.clap.proofs.WalkLemmas.{both, first_value-rows, raw_values-rows}
-use Rattle.ra_words.specs.Lines.{Finds, Line, Spells, line_app, option_words, words_of}
+use Rattle.ra_words.specs.Lines.{Finds, Line, Spells, line_app, option_words, words_of_line}
 use Rattle.ra_words.proofs.RowLaws.{first_all}
 use Rattle.ra_words.proofs.LineWalk.{Closed, Draws, Given, Goes, Holds, Reads, Seen, Slack, end_goes, id_of, line_rules}
 use Rattle.ra_words.proofs.LineWalk.{line_shape, maybe_goes, plains_go, seen_of, some_words, standing, with_seen}
@@ -93,7 +93,7 @@ none_by_default (a ∷ rules) rows none =
 -- the rows at the end of the words
 line_rows : (line : Line) (words : List Text) → Spells line words → (rows : List Row)
     × (matches_of line_app words ≡ rows) × Reads rows (seen_in line)
-unfolding words_of
+unfolding words_of_line
 line_rows line words is =
     let goes = line_goes line words is in
     let h = goes.holds in
@@ -141,7 +141,7 @@ line_found app m words is has line spelled =
 
 pub line_taken : (app : App) (words : List Text) → app ≡ line_app → (line : Line) → Spells line words →
     takes app words ≡ true
-unfolding words_of
+unfolding words_of_line
 line_taken app words is line spelled =
     let goes = line_goes line words spelled in
     let h = goes.holds in

@@ -12,7 +12,7 @@ use Rattle.ra_base.specs.Listed.{Listed}
 use Rattle.ra_draws.specs.declared.sources.Lot.{Lot}
 use Rattle.ra_draws.specs.Lots.{IsFitting, IsLots, lot_at}
 use Rattle.ra_words.specs.Words.{word_at}
-use Rattle.ra_words.specs.Numbers.{has_digits, is_number, worth}
+use Rattle.ra_words.specs.Numbers.{has_digits, is_number, decimal_worth}
 use Rattle.ra_words.specs.LotTexts.{FromSeed, FromWords, first_place, seed_text, budget_text, is_seed_lot, is_written}
 use Rattle.ra_words.specs.LotTexts.{written_pieces, is_written_lot, is_lot, source_says, budget_says, lot_says}
 use Rattle.ra_words.specs.LotTexts.{are_lots}
@@ -165,14 +165,20 @@ lots_said words place k lots is past =
 eight_by : (words : Listed ℕ) (word : List ℕ) (test : Bool) (budget : ℕ) → is_written word ≡ test →
     (if test then is_written_lot word else is_seed_lot word) ≡ true
     → FromWords words.items ≡
-    (if test then FromWords (map worth (written_pieces word)) else FromSeed (worth (seed_text word)))
-    → budget ≡ (if test then length (written_pieces word) / 8 else worth (budget_text word)) →
+    (if test then FromWords (map decimal_worth (written_pieces word)) else FromSeed (decimal_worth (seed_text word)))
+    → budget ≡ (if test then length (written_pieces word) / 8 else decimal_worth (budget_text word)) →
     length words.items ≡ 8 * budget
 unfolding is_written_lot
 eight_by words word true budget is lot source many =
     let whole : length (written_pieces word) % 8 ≡ 0 = grind (arith, common_steps) in
-    let same : words.items ≡ map worth (written_pieces word) = cc in
-    omega (arith, ap length same, length-map (written_pieces word) worth, div-add-mod (length (written_pieces word)) 8)
+    let same : words.items ≡ map decimal_worth (written_pieces word) = cc in
+    omega (
+      arith,
+      ap length same,
+      length-map (written_pieces word) decimal_worth,
+      div-add-mod
+          (length (written_pieces word)) 8,
+    )
 eight_by words word false budget is lot source many = cc
 
 -- what is said of a fitting lot

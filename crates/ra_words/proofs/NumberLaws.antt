@@ -8,7 +8,7 @@ use Rattle.std.proofs.lemmas.Str.Parse.{digits_value-take-le, digit_at}
 use Rattle.std.specs.Int.{IsInRange}
 use Rattle.std.specs.Str.{all_ascii_digits}
 use Rattle.std.specs.Str.Parse.{digits_value}
-use Rattle.ra_words.specs.Numbers.{has_digits, worth}
+use Rattle.ra_words.specs.Numbers.{has_digits, decimal_worth}
 
 own : IsNumeralModel (λ ds. all_ascii_digits ds ≡ true) (digits_value 10)
 own = numerals_by_value _ tells_all_ascii_digits
@@ -27,14 +27,14 @@ pub record OneMore (text : List ℕ) (i value : ℕ) : Type 0 where
   pub low : 48 ≤ get_or text i 0
   pub high : get_or text i 0 ≤ 57
   pub small : value < 10 ^ 20
-  pub next : worth (take (i + 1) text) ≡ value * 10 + (get_or text i 0 - 48)
+  pub next : decimal_worth (take (i + 1) text) ≡ value * 10 + (get_or text i 0 - 48)
 
 next_by : (a b v d x : ℕ) → a ≡ b * 10 + d → d + 48 ≡ x → v ≡ b → a ≡ v * 10 + (x - 48)
 next_by a b v d x more digit is = omega arith
 
-pub one_more : (text : List ℕ) (i value : ℕ) → has_digits text ≡ true → i < length text → value ≡ worth (take i text) →
-    OneMore text i value
-unfolding worth
+pub one_more : (text : List ℕ) (i value : ℕ) → has_digits text ≡ true → i < length text →
+    value ≡ decimal_worth (take i text) → OneMore text i value
+unfolding decimal_worth
 one_more text i value h within is =
     let told = digits_told text h in
     let byte : IsInRange 48 57 (get_or text i 0) = digit_at text i (own.to text told.digits) within in

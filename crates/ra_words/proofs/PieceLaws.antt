@@ -5,7 +5,7 @@ use Rattle.std.proofs.Common.{length-drop, ◌++◌, append_assoc, append-nil, l
 use Rattle.std.proofs.Math.Seq.{drop-cons, take-length}
 use Rattle.std.proofs.lemmas.List.{length-map, length-take-le}
 use Rattle.std.specs.List.{list_all}
-use Rattle.ra_words.specs.Numbers.{is_number, worth}
+use Rattle.ra_words.specs.Numbers.{is_number, decimal_worth}
 use Rattle.std.proofs.lemmas.Grind.{common_steps}
 use Rattle.ra_words.specs.LotTexts.{first_place, in_front, pieces, piece_at}
 
@@ -102,9 +102,9 @@ pub piece_counted : (text : List ℕ) (start : ℕ) → start ≤ length text �
 piece_counted text start within = ap length (next_piece text start within) ∙ omega arith
 
 pub piece_valued : (text : List ℕ) (start : ℕ) → start ≤ length text →
-    map worth (left_from text start) ≡ worth (piece_at text start) ∷ map worth
+    map decimal_worth (left_from text start) ≡ decimal_worth (piece_at text start) ∷ map decimal_worth
     (left_from text (start + length (piece_at text start) + 1))
-piece_valued text start within = ap (map worth) (next_piece text start within)
+piece_valued text start within = ap (map decimal_worth) (next_piece text start within)
 
 pub left_past : (text : List ℕ) (start : ℕ) → length text < start → left_from text start ≡ []
 unfolding left_from
@@ -116,14 +116,14 @@ left_past (byte ∷ bytes) (suc start) past = left_past bytes start (omega arith
 pub record IsPut (text : List ℕ) (start : ℕ) (list : List ℕ) : Type 0 where
   pub within : start ≤ length text + 1
   pub all : list_all is_number (left_from text start) ≡ true
-  pub put : list ++ map worth (left_from text start) ≡ map worth (pieces text)
+  pub put : list ++ map decimal_worth (left_from text start) ≡ map decimal_worth (pieces text)
 
 pub none_put : (text list : List ℕ) → list_all is_number (pieces text) ≡ true → list ≡ [] → IsPut text 0 list
 unfolding left_from
 none_put text list all none = record {
   within = omega arith;
   all = all;
-  put = ap (λ ns. ns ++ map worth (pieces text)) none;
+  put = ap (λ ns. ns ++ map decimal_worth (pieces text)) none;
 }
 
 pub piece_read : (text : List ℕ) (start : ℕ) (list piece : List ℕ) → IsPut text start list → start ≤ length text →
@@ -134,36 +134,36 @@ piece_read text start list piece is within read = ap is_number read ∙ piece_to
 pub one_room : (text : List ℕ) (start : ℕ) (list : List ℕ) → IsPut text start list → start ≤ length text →
     length list < length (pieces text)
 one_room text start list is within =
-    let e : length list + length (map worth (left_from text start)) ≡ length (map worth (pieces text)) =
-    sym (length-append list (map worth (left_from text start))) ∙ ap length is.put in
+    let e : length list + length (map decimal_worth (left_from text start)) ≡ length (map decimal_worth (pieces text)) =
+    sym (length-append list (map decimal_worth (left_from text start))) ∙ ap length is.put in
     omega (
       arith,
-      length-map (left_from text start) worth,
-      length-map (pieces text) worth,
+      length-map (left_from text start) decimal_worth,
+      length-map (pieces text) decimal_worth,
       piece_counted text start within,
     )
 
 pub one_put : (text : List ℕ) (start : ℕ) (list more piece : List ℕ) (number : ℕ) → IsPut text start list →
     start ≤ length text → piece ≡ piece_at text start → length piece + start ≤ length text
-    → number ≡ worth piece → more ≡ list ++ number ∷ [] → IsPut text (start + length piece + 1) more
+    → number ≡ decimal_worth piece → more ≡ list ++ number ∷ [] → IsPut text (start + length piece + 1) more
 one_put text start list more piece number is within read end worth_is added =
     let next : ℕ = start + length (piece_at text start) + 1 in
     let same : next ≡ start + length piece + 1 = ap (λ p. start + length p + 1) (sym read) in
-    let last : number ≡ worth (piece_at text start) = worth_is ∙ ap worth read in
+    let last : number ≡ decimal_worth (piece_at text start) = worth_is ∙ ap decimal_worth read in
     record {
       within = omega arith;
       all = ap (λ k. list_all is_number (left_from text k)) (sym same)
           ∙ (sym (piece_accepted text start within (piece_told text start within is.all)) ∙ is.all);
       put =
-          ap (λ ns. ns ++ map worth (left_from text (start + length piece + 1))) added
-          ∙ append_assoc list (number ∷ []) (map worth (left_from text (start + length piece + 1)))
-          ∙ ap (λ k. list ++ number ∷ map worth (left_from text k)) (sym same)
-          ∙ ap (λ n. list ++ n ∷ map worth (left_from text next)) last
+          ap (λ ns. ns ++ map decimal_worth (left_from text (start + length piece + 1))) added
+          ∙ append_assoc list (number ∷ []) (map decimal_worth (left_from text (start + length piece + 1)))
+          ∙ ap (λ k. list ++ number ∷ map decimal_worth (left_from text k)) (sym same)
+          ∙ ap (λ n. list ++ n ∷ map decimal_worth (left_from text next)) last
           ∙ ap (λ ns. list ++ ns) (sym (piece_valued text start within))
           ∙ is.put;
     }
 
 pub all_put : (text : List ℕ) (start : ℕ) (list : List ℕ) → IsPut text start list → length text < start →
-    list ≡ map worth (pieces text)
+    list ≡ map decimal_worth (pieces text)
 all_put text start list is past =
-    sym (append-nil list) ∙ ap (λ ps. list ++ map worth ps) (sym (left_past text start past)) ∙ is.put
+    sym (append-nil list) ∙ ap (λ ps. list ++ map decimal_worth ps) (sym (left_past text start past)) ∙ is.put

@@ -6,7 +6,7 @@ use Rattle.ra_base.specs.declared.causes.Drawing.TheVariants.{Two}
 use Rattle.ra_words.specs.declared.forms.Form.{Form}
 use Rattle.ra_words.specs.declared.forms.Form.TheVariants.{Check, Bound, BoundFrom, Solve, Trial, Verify, Repair, Edit}
 use Rattle.ra_words.specs.Words.{word_at}
-use Rattle.ra_words.specs.Numbers.{is_number, worth}
+use Rattle.ra_words.specs.Numbers.{is_number, decimal_worth}
 use Rattle.ra_words.specs.LotTexts.{lot_says, are_lots}
 use Rattle.ra_words.specs.Lines.{plain_of}
 use Rattle.ra_words.specs.Jobs.{JobSays, Checks, Bounds, Solves, Trials, Verifies, Repairs, Edits, is_check, is_bound}
@@ -46,7 +46,7 @@ found_solve found =
     (drawing_says (first_value found (codes "draws"))) (map lot_says (drop 2 (plain_of found)))
 
 abbrev pub found_trial : Found → JobSays
-found_trial found = Trials (worth (word_at (plain_of found) 0))
+found_trial found = Trials (decimal_worth (word_at (plain_of found) 0))
 
 abbrev pub found_verify : Found → JobSays
 found_verify found =

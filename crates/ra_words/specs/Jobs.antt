@@ -5,7 +5,7 @@ use Rattle.std.specs.Str.{bytes_eq}
 use Rattle.ra_base.specs.declared.causes.Drawing.{Drawing}
 use Rattle.ra_base.specs.declared.causes.Drawing.TheVariants.{One, Two}
 use Rattle.ra_words.specs.Words.{word_at, is_name, value_at, behind}
-use Rattle.ra_words.specs.Numbers.{is_number, worth}
+use Rattle.ra_words.specs.Numbers.{is_number, decimal_worth}
 use Rattle.ra_words.specs.LotTexts.{LotSays, lot_says, are_lots}
 
 -- what the words of a job say
@@ -79,7 +79,7 @@ is_slack (Some text) = is_number text
 -- the slack is the value of this number, and 0 if it isn't given
 abbrev pub slack_says : Option (List ℕ) → ℕ
 slack_says None = 0
-slack_says (Some text) = worth text
+slack_says (Some text) = decimal_worth text
 
 -- the value of `--draws`, if it is given, is `1` or `2`
 abbrev pub is_drawing : Option (List ℕ) → Bool
@@ -145,7 +145,7 @@ is_trial words =
 
 -- what a trial says: its number
 unfoldable pub trial_says : List (List ℕ) → JobSays
-trial_says words = Trials (worth (word_at words 1))
+trial_says words = Trials (decimal_worth (word_at words 1))
 
 -- the word `verify` and three file names, then the options in their order, then lots
 unfoldable pub is_verify : List (List ℕ) → Bool

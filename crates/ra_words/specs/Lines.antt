@@ -22,15 +22,15 @@ option_words option None = []
 option_words option (Some text) = option ∷ text ∷ []
 
 -- the words of a line
-unfoldable pub words_of : Line → List (List ℕ)
-words_of line =
+unfoldable pub words_of_line : Line → List (List ℕ)
+words_of_line line =
     line.command ∷ (line.files ++ (option_words (codes "--slack") line.slack
     ++ (option_words (codes "--closed") line.closed
     ++ (option_words (codes "--draws") line.draws ++ line.behind))))
 
 -- the words are those of the line, and none after the command looks like an option
 pub record Spells (line : Line) (words : List (List ℕ)) : Type 0 where
-  pub is : words ≡ words_of line
+  pub is : words ≡ words_of_line line
   pub files : list_all is_name line.files ≡ true
   pub slack : option_map_or is_name line.slack true ≡ true
   pub closed : option_map_or is_name line.closed true ≡ true

@@ -3,7 +3,7 @@ use Rattle.std.specs.Prelude.{ℕ, suc, ◌/◌, ◌%◌, List, [], ◌∷◌, m
 use Rattle.std.specs.Prelude.{nat_le, ◌==◌, ◌&&◌, if◌then◌else◌}
 use Rattle.std.specs.List.{list_all}
 use Rattle.std.specs.Str.{bytes_eq}
-use Rattle.ra_words.specs.Numbers.{is_number, worth}
+use Rattle.ra_words.specs.Numbers.{is_number, decimal_worth}
 
 -- where the words of a lot come from: a seed, or the words that are written
 pub data SourceSays : Type 0 where
@@ -32,7 +32,7 @@ budget_text word = drop (suc (first_place 58 word)) word
 -- a number, a colon, and a number of proposals, at most 1,000,000
 unfoldable pub is_seed_lot : List ℕ → Bool
 is_seed_lot word =
-    is_number (seed_text word) && is_number (budget_text word) && nat_le (worth (budget_text word))
+    is_number (seed_text word) && is_number (budget_text word) && nat_le (decimal_worth (budget_text word))
     1000000
 
 -- a byte in front of the first piece
@@ -69,13 +69,13 @@ is_lot word = if is_written word then is_written_lot word else is_seed_lot word
 -- the words of a written lot, or the seed
 unfoldable pub source_says : List ℕ → SourceSays
 source_says word =
-    if is_written word then FromWords (map worth (written_pieces word))
-    else FromSeed (worth (seed_text word))
+    if is_written word then FromWords (map decimal_worth (written_pieces word))
+    else FromSeed (decimal_worth (seed_text word))
 
 -- how many proposals a lot makes: one for each eight words, or as many as it says
 unfoldable pub budget_says : List ℕ → ℕ
 budget_says word =
-    if is_written word then length (written_pieces word) / 8 else worth (budget_text word)
+    if is_written word then length (written_pieces word) / 8 else decimal_worth (budget_text word)
 
 -- what a lot says
 unfoldable pub lot_says : List ℕ → LotSays

@@ -8,9 +8,9 @@ unfoldable pub has_digits : List ℕ → Bool
 has_digits text = nat_lt 0 (length text) && nat_le (length text) 20 && all_ascii_digits text
 
 -- what decimal digits are worth
-unfoldable pub worth : List ℕ → ℕ
-worth text = digits_value 10 text
+unfoldable pub decimal_worth : List ℕ → ℕ
+decimal_worth text = digits_value 10 text
 
 -- 1 to 20 decimal digits, worth less than 2^64
 unfoldable pub is_number : List ℕ → Bool
-is_number text = has_digits text && nat_lt (worth text) (2 ^ 64)
+is_number text = has_digits text && nat_lt (decimal_worth text) (2 ^ 64)

@@ -2,7 +2,7 @@ ghost use Rattle.std.specs.Prelude.{◌≡◌, ◌+◌, ◌-◌, ◌/◌, ◌≤
 ghost use Rattle.std.specs.List.{list_all};
 ghost use Rattle.ra_draws.specs.Lots.{IsLots};
 ghost use Rattle.ra_words.specs.Words.{texts};
-ghost use Rattle.ra_words.specs.Numbers.{is_number, worth};
+ghost use Rattle.ra_words.specs.Numbers.{is_number, decimal_worth};
 ghost use Rattle.ra_words.specs.LotTexts.{pieces, is_written, written_pieces, is_written_lot, is_seed_lot, is_lot, seed_text, budget_text, source_says, budget_says, lot_says, are_lots};
 ghost use Rattle.ra_words.specs.Said.{said_source, said_lot};
 
@@ -81,7 +81,7 @@ fn written_budget(word: &[u8]) -> Option<u64>
 #[tactic(auto, using(crate::proofs::LotLaws::no_colon, crate::proofs::LotLaws::behind_colon), unfolding(crate::specs::LotTexts::is_seed_lot, crate::specs::LotTexts::seed_text, crate::specs::LotTexts::budget_text))]
 fn seed_budget(word: &[u8]) -> Option<u64>
     ensures { result ≡ (if is_seed_lot word.now then Some
-        (worth (budget_text word.now)) else None) }
+        (decimal_worth (budget_text word.now)) else None) }
 {
     let colon = first_place(word, b':');
     if colon == word.len() || !is_number(&word[..colon]) {
@@ -92,8 +92,8 @@ fn seed_budget(word: &[u8]) -> Option<u64>
 
 /// The number of proposals that a text gives. `None` if it is not a number, or too large.
 fn budget_of(text: &[u8]) -> Option<u64>
-    ensures { result ≡ (if is_number text.now && nat_le (worth text.now) 1000000 then Some
-        (worth text.now) else None) }
+    ensures { result ≡ (if is_number text.now && nat_le (decimal_worth text.now) 1000000 then Some
+        (decimal_worth text.now) else None) }
 {
     if is_number(text) && number(text) <= MOST_PROPOSALS {
         Some(number(text))
@@ -145,7 +145,7 @@ fn read_source(alloc: Global, word: &[u8]) -> Result<Source, NoMemory>
 fn written_words(alloc: Global, word: &[u8]) -> Result<Fixed<u64>, NoMemory>
     requires long { 2 ≤ length word.now }
     requires lot { is_written_lot word.now ≡ true }
-    ensures { IfOk result (λ list. list.items ≡ map worth (written_pieces word.now)) }
+    ensures { IfOk result (λ list. list.items ≡ map decimal_worth (written_pieces word.now)) }
 {
     let text = text_from(word, 2);
     let count = count_numbers(text).unwrap_or(0);

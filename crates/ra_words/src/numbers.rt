@@ -1,6 +1,6 @@
 ghost use Rattle.std.specs.Prelude.{◌≡◌, ◌≤◌, true, length};
 ghost use Rattle.std.specs.Str.{all_ascii_digits};
-ghost use Rattle.ra_words.specs.Numbers.{has_digits, worth, is_number};
+ghost use Rattle.ra_words.specs.Numbers.{has_digits, decimal_worth, is_number};
 
 /// Whether a text is 1 to 20 digits, worth less than 2^64.
 #[tactic(auto, unfolding(crate::specs::Numbers::is_number))]
@@ -14,7 +14,7 @@ pub(crate) fn is_number(text: &[u8]) -> bool
 #[tactic(auto, unfolding(crate::specs::Numbers::is_number))]
 pub(crate) fn number(text: &[u8]) -> u64
     requires { is_number text.now ≡ true }
-    ensures { result ≡ worth text.now }
+    ensures { result ≡ decimal_worth text.now }
 {
     worth(text) as u64
 }
@@ -42,7 +42,7 @@ fn all_digits(text: &[u8]) -> bool
 /// What 1 to 20 digits are worth.
 fn worth(text: &[u8]) -> u128
     requires { has_digits text.now ≡ true }
-    ensures { result ≡ worth text.now }
+    ensures { result ≡ decimal_worth text.now }
 {
     let mut value: u128 = 0;
     for byte in text {

@@ -1,6 +1,6 @@
 ghost use Rattle.std.specs.Prelude.{◌≡◌, ◌+◌, ◌≤◌, true, [], map, length, take, drop, Some, None, if◌then◌else◌};
 ghost use Rattle.std.specs.List.{list_all};
-ghost use Rattle.ra_words.specs.Numbers.{is_number, worth};
+ghost use Rattle.ra_words.specs.Numbers.{is_number, decimal_worth};
 ghost use Rattle.ra_words.specs.LotTexts.{first_place, pieces, piece_at};
 
 use crate::numbers::{is_number, number};
@@ -65,7 +65,7 @@ pub(crate) fn put_numbers(text: &[u8], list: &mut Fixed<u64>)
     requires numbers { list_all is_number (pieces text.now) ≡ true }
     requires empty { list.old.items ≡ [] }
     requires room { length (pieces text.now) ≤ list.old.room }
-    ensures { list.new.items ≡ map worth (pieces text.now) }
+    ensures { list.new.items ≡ map decimal_worth (pieces text.now) }
 {
     let mut start = 0;
     while start <= text.len() {

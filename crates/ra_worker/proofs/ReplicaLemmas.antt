@@ -17,7 +17,7 @@ use Rattle.ra_journal.proofs.QuietLemmas.{state_passed}
 use Rattle.ra_journal.proofs.RoomLemmas.{AreNumbered, entries_few, proposals_few}
 use Rattle.ra_worker.specs.declared.replica.Replica.{Replica}
 use Rattle.ra_worker.specs.Following.{IsJudged}
-use Rattle.ra_worker.specs.Replicas.{IsAt, ArePartOf, AreNext, HasTaken, ArePassed}
+use Rattle.ra_worker.specs.Replicas.{IsAt, ArePartOf, AreNextEntries, HasTaken, ArePassed}
 use Rattle.ra_worker.proofs.FollowingLemmas.{entry_judged, next_state, next_count}
 
 -- at place 0
@@ -64,12 +64,12 @@ taken_none r b = record {
 }
 
 -- where the next entry is in the journal
-place_there : (before r : Replica) (b h : List Entry) (j : ℕ) → AreNext before b h → HasTaken before r b j →
+place_there : (before r : Replica) (b h : List Entry) (j : ℕ) → AreNextEntries before b h → HasTaken before r b j →
     j < length b → r.place < length h
 place_there before r b h j next taken within = omega (arith, next.part.within, taken.place)
 
-entry_there : (before r : Replica) (b h : List Entry) (j : ℕ) (e : Entry) → AreNext before b h → HasTaken before r b j →
-    j < length b → e ≡ entry_at b j → e ≡ entry_at h r.place
+entry_there : (before r : Replica) (b h : List Entry) (j : ℕ) (e : Entry) → AreNextEntries before b h →
+    HasTaken before r b j → j < length b → e ≡ entry_at b j → e ≡ entry_at h r.place
 entry_there before r b h j e next taken within is = rw taken.place (is ∙ next.part.each j within)
 
 pub taken_more : (before r s : Replica) (b : List Entry) (j : ℕ) (e : Entry) → HasTaken before r b j → j < length b →
@@ -91,7 +91,7 @@ taken_more before r s b j e taken within e_is after inst initial lots worker num
 
 -- the next entry was judged at the state of the replica
 pub next_judged : (before r : Replica) (b h : List Entry) (j : ℕ) (e : Entry) → WellFormed before.world.tables →
-    IsAssignment before.world.tables before.world.start → AreNext before b h → HasTaken before r b j →
+    IsAssignment before.world.tables before.world.start → AreNextEntries before b h → HasTaken before r b j →
     j < length b → e ≡ entry_at b j → IsJudged r.world e.mv.steps e.verdict
 next_judged before r b h j e limits fits next taken within e_is =
     let at = taken.at h next in
@@ -103,7 +103,7 @@ next_judged before r b h j e limits fits next taken within e_is =
     (place_there before r b h j next taken within) (entry_there before r b h j e next taken within e_is) here
 
 -- its worker has some budget left
-pub next_left : (before r : Replica) (b h : List Entry) (j : ℕ) (e : Entry) → AreNext before b h →
+pub next_left : (before r : Replica) (b h : List Entry) (j : ℕ) (e : Entry) → AreNextEntries before b h →
     HasTaken before r b j → j < length b → e ≡ entry_at b j → e.worker ≡ r.proposals.worker →
     r.proposals.number < budget r.proposals.lots.now r.proposals.worker
 next_left before r b h j e next taken within e_is own =
@@ -120,7 +120,7 @@ next_left before r b h j e next taken within e_is own =
     omega (arith, number, some, ap (λ (l : Lots). budget l r.proposals.worker) lots)
 
 -- and there are few entries
-pub place_few : (before r : Replica) (b h : List Entry) (j : ℕ) → AreNext before b h → HasTaken before r b j →
+pub place_few : (before r : Replica) (b h : List Entry) (j : ℕ) → AreNextEntries before b h → HasTaken before r b j →
     j < length b → r.place < 2 ^ 63
 place_few before r b h j next taken within =
     let l = before.proposals.lots.now in

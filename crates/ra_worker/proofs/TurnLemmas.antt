@@ -18,7 +18,7 @@ use Rattle.ra_journal.specs.Legal.{Legal}
 use Rattle.ra_journal.specs.States.{state}
 use Rattle.ra_worker.specs.declared.replica.Replica.{Replica}
 use Rattle.ra_worker.specs.Skipping.{has_used, is_behind, is_skipped}
-use Rattle.ra_worker.specs.Replicas.{IsAt, ArePartOf, AreNext, HasTaken}
+use Rattle.ra_worker.specs.Replicas.{IsAt, ArePartOf, AreNextEntries, HasTaken}
 use Rattle.ra_worker.proofs.FollowingLemmas.{one_situation}
 
 -- how long a batch is
@@ -47,7 +47,7 @@ same_legal i j a0 b0 l m h legal inst initial lots = rw (← inst, ← initial, 
 
 -- and is next for the replica whose place it is copied from
 pub batch_next : (i : Tables) (a0 : List Machine) (l : Lots) (h b : List Entry) (r : Replica) → IsAt i a0 l h r →
-    Legal i a0 l h → b ≡ batch_from h r.place → AreNext r b h
+    Legal i a0 l h → b ≡ batch_from h r.place → AreNextEntries r b h
 batch_next i a0 l h b r at legal b_is = record {
   legal = same_legal r.world.tables i r.world.start a0 r.proposals.lots.now l h legal
       (sym at.instance) (sym at.initial) (sym at.lots);

@@ -85,15 +85,15 @@ pub record ArePartOf (h : List Entry) (at : ℕ) (entries : List Entry) : Type 0
   pub each : (j : ℕ) → j < length entries → entry_at entries j ≡ entry_at h (at + j)
 
 -- a replica is at a state of a legal journal, and entries are that journal's from its place on
-pub record AreNext (r : Replica) (entries h : List Entry) : Type 0 where
+pub record AreNextEntries (r : Replica) (entries h : List Entry) : Type 0 where
   pub legal : Legal (tables_at r) (start_at r) (lots_at r) h
   pub here : IsAt (tables_at r) (start_at r) (lots_at r) h r
   pub part : ArePartOf h (place_at r) entries
 
 -- they are the next entries of some journal
-pub record AreTold (r : Replica) (entries : List Entry) : Type 0 where
+pub record AreNextOfSomeJournal (r : Replica) (entries : List Entry) : Type 0 where
   pub journal : List Entry
-  pub next : AreNext r entries journal
+  pub next : AreNextEntries r entries journal
 
 -- a replica has taken in the first n of these entries: its place has grown by n, and it is at a state of each legal
 -- journal whose next entries they are
@@ -103,7 +103,7 @@ pub record HasTaken (before after : Replica) (entries : List Entry) (n : ℕ) : 
   pub lots : lots_at after ≡ lots_at before
   pub worker : worker_at after ≡ worker_at before
   pub place : place_at after ≡ place_at before + n
-  pub at : (h : List Entry) → AreNext before entries h
+  pub at : (h : List Entry) → AreNextEntries before entries h
       → IsAt (tables_at before) (start_at before) (lots_at before) h after
 
 -- a replica is at a state of a journal; the journal's entries from the replica's place on, before another place, are

@@ -7,7 +7,7 @@ ghost use Rattle.ra_journal.specs.Entries.{worker_count, budget, allowed};
 ghost use Rattle.ra_journal.specs.Refusing.{IsRefused};
 ghost use Rattle.ra_topology.specs.Starts.{IsFeasibleStart};
 ghost use Rattle.ra_worker.specs.Following.{IsJudged};
-ghost use Rattle.ra_worker.specs.Replicas.{tables_at, start_at, lots_at, worker_at, next_at, budget_at, place_at, IsPlanAt, IsNextPlan, HasFollowed, IsAt, AreTold, HasTaken, HasPassed};
+ghost use Rattle.ra_worker.specs.Replicas.{tables_at, start_at, lots_at, worker_at, next_at, budget_at, place_at, IsPlanAt, IsNextPlan, HasFollowed, IsAt, AreNextOfSomeJournal, HasTaken, HasPassed};
 
 use crate::following::follow;
 use crate::proposals::Proposals;
@@ -166,7 +166,7 @@ impl<'a> Replica<'a> {
 
     /// Takes in the next entries of the journal. After that it represents the state after them.
     pub fn take_in<L: Ledger>(&mut self, batch: &Batch, steps: &mut Steps<L>)
-        requires told { AreTold self.old batch.now }
+        requires told { AreNextOfSomeJournal self.old batch.now }
         ensures { HasTaken self.old self.new batch.now (length batch.now) }
     {
         // What is known of every world.

@@ -17,7 +17,7 @@ use Rattle.ra_worker.specs.declared.replica.Replica.{Replica}
 use Rattle.ra_worker.specs.Skipping.{has_used, is_behind, is_skipped}
 use Rattle.ra_worker.specs.Replicas.{IsAt}
 use Rattle.ra_worker_core.specs.declared.events.CoreReply.{CoreReply}
-use Rattle.ra_worker_core.specs.Core.{place_of, Turn, answered, turn}
+use Rattle.ra_worker_core.specs.Core.{core_place_of, Turn, answered, turn}
 use Rattle.ra_worker_core.specs.Replicas.{IsAtOf, AreAt, core_of}
 use Rattle.ra_worker_core.specs.Turns.{StandIn, IsOverSame, TakesTurn}
 
@@ -97,8 +97,8 @@ all_set i a0 l h w rs s at there here = record {
 
 -- the place of a replica in the core
 pub place_there : (h : List Entry) (rs : List Replica) (w : ℕ) (r : Replica) → w < length rs → get_or rs w r ≡ r →
-    place_of (core_of h rs) w ≡ r.place
-unfolding place_of core_of
+    core_place_of (core_of h rs) w ≡ r.place
+unfolding core_place_of core_of
 place_there h rs w r within is =
     get_or-map (λ (x : Replica). x.place) rs w r 0 within ∙ ap (λ (x : Replica). x.place) is
 

@@ -19,13 +19,13 @@ pub record Core : Type 0 where
   pub journal : List Entry
   pub places : List ℕ
 
-unfoldable pub place_of : Core → ℕ → ℕ
-place_of c w = slice_index c.places w
+unfoldable pub core_place_of : Core → ℕ → ℕ
+core_place_of c w = slice_index c.places w
 
 -- each place is at most the length of the journal
-pub record AreWithin (l : Lots) (c : Core) : Type 0 where
+pub record ArePlacesInJournal (l : Lots) (c : Core) : Type 0 where
   pub one_each : length c.places ≡ worker_count l
-  pub each : (w : ℕ) → w < worker_count l → place_of c w ≤ length c.journal
+  pub each : (w : ℕ) → w < worker_count l → core_place_of c w ≤ length c.journal
 
 -- a journal after a worker's turn, and the reply
 pub record Turn : Type 0 where
@@ -50,16 +50,16 @@ pub record Stepped : Type 0 where
 -- worker w takes in the entries from its place on, at most 1,024 of them
 unfoldable pub caught_up : Core → ℕ → Stepped
 caught_up c w =
-    let n = min 1024 (length c.journal - place_of c w) in
+    let n = min 1024 (length c.journal - core_place_of c w) in
     record {
-      after = record { journal = c.journal; places = slice_set c.places w (place_of c w + n) };
+      after = record { journal = c.journal; places = slice_set c.places w (core_place_of c w + n) };
       reply = Took n;
     }
 
 -- worker w hands in a proposal that is planned at its place, and no place changes
 unfoldable pub handed_in : Tables → List Machine → Lots → Core → ℕ → Stepped
 handed_in i a0 l c w =
-    let t = turn i a0 l c.journal w (place_of c w) in
+    let t = turn i a0 l c.journal w (core_place_of c w) in
     record { after = record { journal = t.journal; places = c.places }; reply = t.reply }
 
 -- the core and the reply after one event
@@ -78,11 +78,11 @@ core_after i a0 l c events (suc n) =
     (step i a0 l (core_after i a0 l c events n) (event_at events n)).after
 
 -- the replies to the first n events
-unfoldable pub replies_to : Tables → List Machine → Lots → Core → List CoreEvent → ℕ
+unfoldable pub core_replies_to : Tables → List Machine → Lots → Core → List CoreEvent → ℕ
     → List CoreReply
-replies_to i a0 l c events zero = []
-replies_to i a0 l c events (suc n) =
-    replies_to i a0 l c events n
+core_replies_to i a0 l c events zero = []
+core_replies_to i a0 l c events (suc n) =
+    core_replies_to i a0 l c events n
     ++ (step i a0 l (core_after i a0 l c events n) (event_at events n)).reply ∷ []
 
 -- the run of a list of events: the last core, and one reply for each event
@@ -94,14 +94,14 @@ unfoldable pub run : Tables → List Machine → Lots → Core → List CoreEven
 run i a0 l c events =
     record {
       last = core_after i a0 l c events (length events);
-      replies = replies_to i a0 l c events (length events);
+      replies = core_replies_to i a0 l c events (length events);
     }
 
 -- the worker of an event
-unfoldable pub worker_of : CoreEvent → ℕ
-worker_of (CatchUp w) = w
-worker_of (Commit w) = w
+unfoldable pub worker_of_event : CoreEvent → ℕ
+worker_of_event (CatchUp w) = w
+worker_of_event (Commit w) = w
 
 -- each event of a list names an existing worker
 pub record AreNamed (l : Lots) (events : List CoreEvent) : Type 0 where
-  pub each : (n : ℕ) → n < length events → worker_of (event_at events n) < worker_count l
+  pub each : (n : ℕ) → n < length events → worker_of_event (event_at events n) < worker_count l

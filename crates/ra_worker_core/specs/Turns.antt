@@ -9,8 +9,8 @@ use Rattle.ra_worker_core.specs.Core.{Core, Turn, turn}
 use Rattle.ra_worker_core.specs.Replicas.{AreAt, core_of}
 
 -- a replica is at a state of a journal, and so is each of the replicas of its workers, one for each in order
-abbrev pub StandsIn : Journal → Replica → Type 0
-StandsIn j r = IsAt (tables_in j) (start_in j) (lots_in j) (entries_in j) r
+abbrev pub StandsInJournal : Journal → Replica → Type 0
+StandsInJournal j r = IsAt (tables_in j) (start_in j) (lots_in j) (entries_in j) r
 
 abbrev pub StandIn : Journal → List Replica → Type 0
 StandIn j rs = AreAt (tables_in j) (start_in j) (lots_in j) (entries_in j) rs

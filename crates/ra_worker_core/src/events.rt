@@ -1,5 +1,5 @@
 ghost use Rattle.std.specs.Prelude.{◌≡◌};
-ghost use Rattle.ra_worker_core.specs.Core.{worker_of};
+ghost use Rattle.ra_worker_core.specs.Core.{worker_of_event};
 
 use ra_journal::Reply;
 
@@ -14,9 +14,9 @@ pub enum CoreEvent {
 
 impl CoreEvent {
     /// The worker whose turn it is.
-    #[tactic(auto, unfolding(crate::specs::Core::worker_of))]
+    #[tactic(auto, unfolding(crate::specs::Core::worker_of_event))]
     pub fn worker(&self) -> u32
-        ensures { result ≡ worker_of self.now }
+        ensures { result ≡ worker_of_event self.now }
     {
         match self {
             CoreEvent::CatchUp { worker } => *worker,

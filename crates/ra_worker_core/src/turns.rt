@@ -3,8 +3,8 @@ ghost use Rattle.ra_journal.specs.Entries.{worker_count};
 ghost use Rattle.ra_journal.specs.Journals.{lots_in, entries_in};
 ghost use Rattle.ra_worker.specs.Skipping.{is_skipped};
 ghost use Rattle.ra_worker.specs.Replicas.{worker_at, place_at};
-ghost use Rattle.ra_worker_core.specs.Core.{place_of};
-ghost use Rattle.ra_worker_core.specs.Turns.{StandsIn, StandIn, core_in, TakesTurn};
+ghost use Rattle.ra_worker_core.specs.Core.{core_place_of};
+ghost use Rattle.ra_worker_core.specs.Turns.{StandsInJournal, StandIn, core_in, TakesTurn};
 
 use crate::events::CoreReply;
 use ra_base::Steps;
@@ -23,7 +23,7 @@ pub fn take_turn_at<'a>(
 ) -> CoreReply
     requires at { StandIn journal.old replicas.old.items }
     requires exists { worker < worker_count (lots_in journal.old) }
-    requires ahead { place_of (core_in journal.old replicas.old.items) worker ≤ q }
+    requires ahead { core_place_of (core_in journal.old replicas.old.items) worker ≤ q }
     requires within { q ≤ length (entries_in journal.old) }
     ensures turn { TakesTurn journal.old journal.new worker q result }
     ensures places { (core_in journal.new replicas.new.items).places ≡
@@ -45,12 +45,12 @@ fn follow_to<'a, L: Ledger>(
     requires name { blank.name ≡ L.name }
     requires parts { blank.parts ≡ L.parts }
     requires some { 0 < blank.parts }
-    requires at { StandsIn journal.now replica.old }
+    requires at { StandsInJournal journal.now replica.old }
     requires ahead { place_at replica.old ≤ place }
     requires within { place ≤ length (entries_in journal.now) }
     ensures place { place_at replica.new ≡ place }
     ensures worker { worker_at replica.new ≡ worker_at replica.old }
-    ensures at { StandsIn journal.now replica.new }
+    ensures at { StandsInJournal journal.now replica.new }
 {
     let mut steps = Steps::<L>::make(blank);
     for at in replica.place()..place {
@@ -69,11 +69,11 @@ pub fn catch_up<'a, L: Ledger>(
     requires name { blank.name ≡ L.name }
     requires parts { blank.parts ≡ L.parts }
     requires some { 0 < blank.parts }
-    requires at { StandsIn journal.now replica.old }
+    requires at { StandsInJournal journal.now replica.old }
     ensures count { result ≡ min 1024 (length (entries_in journal.now) - place_at replica.old) }
     ensures place { place_at replica.new ≡ place_at replica.old + result }
     ensures worker { worker_at replica.new ≡ worker_at replica.old }
-    ensures at { StandsIn journal.now replica.new }
+    ensures at { StandsInJournal journal.now replica.new }
 {
     let mut steps = Steps::<L>::make(blank);
     let place = replica.place();
@@ -92,7 +92,7 @@ pub fn hand_in<'a, L: Ledger>(
     requires name { blank.name ≡ L.name }
     requires parts { blank.parts ≡ L.parts }
     requires some { 0 < blank.parts }
-    requires at { StandsIn journal.old replica.now }
+    requires at { StandsInJournal journal.old replica.now }
     ensures { TakesTurn journal.old journal.new (worker_at replica.now) (place_at replica.now)
         result }
 {
@@ -105,7 +105,7 @@ pub fn hand_in<'a, L: Ledger>(
 
 /// Whether a worker has used its budget or has not taken in all of its own entries.
 fn skipped(journal: &Journal<'_>, replica: &Replica<'_>) -> bool
-    requires at { StandsIn journal.now replica.now }
+    requires at { StandsInJournal journal.now replica.now }
     ensures { result ≡ is_skipped (lots_in journal.now) (entries_in journal.now)
         (worker_at replica.now) (place_at replica.now) }
 {
@@ -124,7 +124,7 @@ fn commit_next<'a, L: Ledger>(
     requires name { blank.name ≡ L.name }
     requires parts { blank.parts ≡ L.parts }
     requires some { 0 < blank.parts }
-    requires at { StandsIn journal.old replica.now }
+    requires at { StandsInJournal journal.old replica.now }
     requires not_skipped { is_skipped (lots_in journal.old) (entries_in journal.old)
         (worker_at replica.now) (place_at replica.now) ≡ false }
     ensures { TakesTurn journal.old journal.new (worker_at replica.now) (place_at replica.now)

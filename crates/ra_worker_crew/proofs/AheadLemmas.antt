@@ -10,7 +10,7 @@ use Rattle.ra_worker.specs.declared.replica.Replica.{Replica}
 use Rattle.ra_worker.specs.Replicas.{place_at, next_at, budget_at, IsPlanAt, IsNextPlan, HasPassed}
 use Rattle.ra_worker.proofs.FollowingLemmas.{one_situation}
 use Rattle.ra_worker_crew.specs.declared.ahead.Ahead.{Ahead}
-use Rattle.ra_worker_crew.specs.Ahead.{moved_to, ahead_at, HasPlaced, AreAhead, Stands}
+use Rattle.ra_worker_crew.specs.Ahead.{moved_to, ahead_at, HasPlaced, AreAhead, PlansStand}
 
 -- one of the plans gets a place
 ahead_placed : (r : Replica) (n : ℕ) (before after : Ahead) (place : ℕ) → AreAhead r n before →
@@ -72,7 +72,7 @@ ahead_same r n a b are plans made = record {
 }
 
 -- the next plan of a round that is right is the plan of the next proposal
-next_at_place : (r : Replica) (n i : ℕ) (a b : Ahead) (first plan : Plan) → Stands r n first a → a.at ≡ i →
+next_at_place : (r : Replica) (n i : ℕ) (a b : Ahead) (first plan : Plan) → PlansStand r n first a → a.at ≡ i →
     a.at ≤ a.made → HasPlaced a b (place_at r) → (b.at ≡ 0 → plan ≡ first) →
     ((j : ℕ) → j + 1 ≡ b.at → plan ≡ ahead_at b j plan) → IsNextPlan r plan
 next_at_place r n zero a b first plan stands is within placed first_is later_is =
@@ -85,20 +85,20 @@ next_at_place r n (suc j) a b first plan stands is within placed first_is later_
     subst (λ (k : ℕ). IsPlanAt r k plan) number
     (subst (IsPlanAt r (n + 1 + j)) (sym moved) (stands.later.each j plan (omega (arith, within, is))))
 
-pub round_next : (r : Replica) (n place : ℕ) (a b : Ahead) (first plan : Plan) → Stands r n first a → a.at ≤ a.made →
+pub round_next : (r : Replica) (n place : ℕ) (a b : Ahead) (first plan : Plan) → PlansStand r n first a → a.at ≤ a.made →
     place ≡ place_at r → HasPlaced a b place → (b.at ≡ 0 → plan ≡ first) →
     ((j : ℕ) → j + 1 ≡ b.at → plan ≡ ahead_at b j plan) → IsNextPlan r plan
 round_next r n place a b first plan stands within here placed first_is later_is =
     next_at_place r n a.at a b first plan stands refl within (subst (HasPlaced a b) here placed) first_is later_is
 
 -- some budget is left for it
-pub round_left : (r : Replica) (n : ℕ) (first : Plan) (a : Ahead) → Stands r n first a → a.at ≤ a.made →
+pub round_left : (r : Replica) (n : ℕ) (first : Plan) (a : Ahead) → PlansStand r n first a → a.at ≤ a.made →
     next_at r < budget_at r
 round_left r n first a stands within = omega (arith, stands.next, stands.later.within, within)
 
 -- after a quiet turn the rest of the round is right
-round_stands : (r s : Replica) (n place to : ℕ) (first : Plan) (a b c : Ahead) → Stands r n first a →
-    HasPlaced a b place → HasPassed r s to → c.plans ≡ b.plans → c.made ≡ b.made → c.at ≡ b.at + 1 → Stands s n first c
+round_stands : (r s : Replica) (n place to : ℕ) (first : Plan) (a b c : Ahead) → PlansStand r n first a →
+    HasPlaced a b place → HasPassed r s to → c.plans ≡ b.plans → c.made ≡ b.made → c.at ≡ b.at + 1 → PlansStand s n first c
 round_stands r s n place to first a b c stands placed passed plans made at = record {
   next = omega (arith, passed.number, stands.next, placed.at, at);
   fresh = λ none. absurd (omega (arith, none, at));
@@ -107,9 +107,9 @@ round_stands r s n place to first a b c stands placed passed plans made at = rec
 }
 
 -- the round is right after any turn, if a plan of it is left
-pub round_handed : (r s : Replica) (n place : ℕ) (quiet : Bool) (first : Plan) (a b c : Ahead) → Stands r n first a →
+pub round_handed : (r s : Replica) (n place : ℕ) (quiet : Bool) (first : Plan) (a b c : Ahead) → PlansStand r n first a →
     HasPlaced a b place → (quiet ≡ true → HasPassed r s (place_at s)) → c.plans ≡ b.plans → c.made ≡ b.made →
-    (quiet ≡ true → c.at ≡ b.at + 1) → (quiet ≡ false → c.made < c.at) → c.at ≤ c.made → Stands s n first c
+    (quiet ≡ true → c.at ≡ b.at + 1) → (quiet ≡ false → c.made < c.at) → c.at ≤ c.made → PlansStand s n first c
 round_handed r s n place true first a b c stands placed passed plans made next none left =
     round_stands r s n place (place_at s) first a b c stands placed (passed refl) plans made (next refl)
 round_handed r s n place false first a b c stands placed passed plans made next none left =

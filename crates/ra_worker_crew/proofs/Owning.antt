@@ -7,7 +7,7 @@ use Rattle.ra_journal.specs.declared.replies.Reply.{Reply}
 use Rattle.ra_journal.specs.Batches.{batch_from}
 use Rattle.ra_journal.specs.Entries.{entries_of, budget}
 use Rattle.ra_journal.specs.Quiet.{AreRefused}
-use Rattle.ra_turn.specs.Passes.{seen_by, made_by as mine_of}
+use Rattle.ra_turn.specs.Passes.{seen_by, notes_made_by as mine_of}
 use Rattle.ra_shared.specs.declared.shared.Shared.{Shared}
 use Rattle.ra_shared.specs.Copies.{CopiesUnlessQuiet}
 use Rattle.ra_shared.specs.Shares.{start_of, HasCommitted}
@@ -16,17 +16,18 @@ use Rattle.ra_worker.proofs.TurnLemmas.{batch_long, same_opening}
 use Rattle.ra_worker.specs.declared.replica.Replica.{Replica}
 use Rattle.ra_worker.specs.Replicas.{IsNextPlan, ArePassed, HasPassed}
 use Rattle.ra_worker_crew.specs.declared.worker.Worker.{Worker}
-use Rattle.ra_worker_crew.specs.Working.{IsAtWork, IsQuiet, HasNext, IsBehind, HasOwn, shown_in}
+use Rattle.ra_worker_crew.specs.Working.{IsAtWork, IsQuiet, HasNextBatch, IsAtOrAfterOwn, HasOwn, shown_in}
 use Rattle.ra_worker_crew.proofs.Seen.{own_count}
 use Rattle.ra_worker_crew.proofs.Steps.{next_commit, work_handed, later_handed, behind_handed}
 
 -- what it has seen stays the same while it takes that in
-pub behind_same : (w after : Worker) (shown : ℕ) → IsBehind shown w → after.pass ≡ w.pass → IsBehind shown after
+pub behind_same : (w after : Worker) (shown : ℕ) → IsAtOrAfterOwn shown w → after.pass ≡ w.pass →
+    IsAtOrAfterOwn shown after
 behind_same w after shown behind same = record { within = rw same behind.within; own = rw same behind.own }
 
 -- if the commit copied something, that is what comes next
 pub copied_next : (w : Worker) (q : ℕ) → CopiesUnlessQuiet q (seen_by w.pass) w.batch → q ≡ w.replica.place →
-    (length w.batch ≡ 0 → ⊥) → HasNext w
+    (length w.batch ≡ 0 → ⊥) → HasNextBatch w
 copied_next w q copied made some = record {
   next = ⊎_elim
       (λ all. all ∙ ap (batch_from (seen_by w.pass)) made)
@@ -49,7 +50,7 @@ module _ (s : Shared) (w w' : Worker) (plan : Plan) (reply : Reply) (work : IsAt
   pub handed : IsAtWork s w'
   handed = work_handed s w w' work same done.rest done.turn.0 done.seen
 
-  pub shown : IsBehind (shown_in reply) w'
+  pub shown : IsAtOrAfterOwn (shown_in reply) w'
   shown = behind_handed s w w' plan reply work own left next done.rest done.turn.0 done.seen done.committed
 
   pub later : w.replica.place ≤ shown_in reply

@@ -12,7 +12,7 @@ use Rattle.ra_journal.specs.declared.journal.Journal.{Journal}
 use Rattle.ra_journal.specs.Entries.{entries_of, worker_count, budget}
 use Rattle.ra_journal.specs.Legal.{Whole}
 use Rattle.ra_journal.proofs.RoomLemmas.{proposals_few}
-use Rattle.ra_turn.specs.Passes.{EachAt, seen_by, made_by, IsPartOf}
+use Rattle.ra_turn.specs.Passes.{EachAt, seen_by, notes_made_by, IsPartOf}
 use Rattle.ra_turn.specs.Notes.{by}
 use Rattle.ra_shared.specs.declared.books.Opening.{Opening}
 use Rattle.ra_shared.specs.declared.shared.Shared.{Shared}
@@ -23,7 +23,7 @@ use Rattle.ra_worker.specs.Replicas.{IsAt}
 use Rattle.ra_worker_crew.specs.declared.worker.Worker.{Worker}
 use Rattle.ra_worker_crew.specs.Working.{IsAtWork, HasOwn}
 use Rattle.ra_worker_crew.specs.Running.{HasRun}
-use Rattle.ra_worker_crew.specs.Crews.{IsFresh, IsReadyAs, AreReady, IsFinishedAs, HaveRun}
+use Rattle.ra_worker_crew.specs.Crews.{HasNotBegun, IsReadyAs, AreReady, IsFinishedAs, HaveRun}
 use Rattle.ra_worker_crew.proofs.Seen.{own_count, entries_grow}
 use Rattle.ra_worker_crew.proofs.Steps.{place_few}
 
@@ -77,8 +77,8 @@ all_last s ws run = each_has (λ (w : Worker). w.pass) (IsLast s) ws (λ n d wit
 made_all : (s : Shared) (w : Worker) (n : ℕ) (h : List Entry) → IsFinishedAs s n w → IsPartOf h w.pass →
     entries_of h (length h) n ≡ budget (start_of s).lots n
 made_all s w n h is part =
-    own_count h (made_by w.pass) n
-    (subst (λ (v : ℕ). by (λ (e : Entry). e.worker) v h ≡ made_by w.pass) is.number part.1) ∙ is.made
+    own_count h (notes_made_by w.pass) n
+    (subst (λ (v : ℕ). by (λ (e : Entry). e.worker) v h ≡ notes_made_by w.pass) is.number part.1) ∙ is.made
 
 pub all_whole : (s : Shared) (ws : List Worker) (j : Journal) → HaveRun s ws → opening_of_journal j ≡ start_of s →
     All (IsPartOf j.book.entries.items) (map (λ (w : Worker). w.pass) ws) → Whole j.lots.now j.book.entries.items
@@ -95,7 +95,8 @@ all_whole s ws j run opened parts =
     }
 
 -- workers that are made of new passes may run
-own_none : (i : Tables) (a0 : List Machine) (l : Lots) (w : Worker) → IsFresh i a0 l w → made_by w.pass ≡ [] → HasOwn w
+own_none : (i : Tables) (a0 : List Machine) (l : Lots) (w : Worker) → HasNotBegun i a0 l w → notes_made_by w.pass ≡ [] →
+    HasOwn w
 own_none i a0 l w fresh none =
     let v = w.replica.proposals.worker in
     let at = fresh.at [] in
@@ -114,7 +115,7 @@ same_at : (o : Opening) (i : Instance) (a0 : Listed Machine) (l : Lots) (h : Lis
 same_at o i a0 l h r inst initial lots at = rw (inst, initial, lots) at
 
 pub ready_as : (s : Shared) (i : Instance) (a0 : Listed Machine) (l : Lots) (w : Worker) (n : ℕ) →
-    (start_of s).inst ≡ i → (start_of s).a0 ≡ a0 → (start_of s).lots ≡ l → IsFresh i.tables a0.items l w →
+    (start_of s).inst ≡ i → (start_of s).a0 ≡ a0 → (start_of s).lots ≡ l → HasNotBegun i.tables a0.items l w →
     IsNew s n w.pass → IsReadyAs s n w
 ready_as s i a0 l w n inst initial lots fresh new = record {
   may = record {
@@ -131,7 +132,7 @@ ready_as s i a0 l w n inst initial lots fresh new = record {
 
 pub all_ready : (s : Shared) (i : Instance) (a0 : Listed Machine) (l : Lots) (ws : List Worker) →
     (start_of s).inst ≡ i → (start_of s).a0 ≡ a0 → (start_of s).lots ≡ l → length ws ≡ worker_count l →
-    EachAt (IsNew s) (map (λ (w : Worker). w.pass) ws) → All (IsFresh i.tables a0.items l) ws → AreReady s ws
+    EachAt (IsNew s) (map (λ (w : Worker). w.pass) ws) → All (HasNotBegun i.tables a0.items l) ws → AreReady s ws
 all_ready s i a0 l ws inst initial lots long new fresh = record {
   one_each = long ∙ ap worker_count (sym lots);
   each = λ n d within. ready_as s i a0 l (get_or ws n d) n inst initial lots (fresh n d within)

@@ -12,7 +12,7 @@ use Rattle.ra_journal.specs.Batches.{batch_from}
 use Rattle.ra_journal.specs.Committing.{next_number, IsCommit}
 use Rattle.ra_journal.specs.Entries.{entries_of, budget, proposal_count, worker_count}
 use Rattle.ra_journal.proofs.RoomLemmas.{AreNumbered, entries_fewer}
-use Rattle.ra_turn.specs.Passes.{seen_by, made_by}
+use Rattle.ra_turn.specs.Passes.{seen_by, notes_made_by}
 use Rattle.ra_shared.specs.declared.books.Opening.{Opening}
 use Rattle.ra_shared.specs.declared.shared.Shared.{Shared}
 use Rattle.ra_shared.specs.Books.{KnowsOwn, IsLegalSeen, IsCommitOf}
@@ -21,10 +21,11 @@ use Rattle.ra_shared.specs.Shares.{start_of, IsCommitted, IsAtRest}
 use Rattle.ra_shared.proofs.Handing.{recorded_stands, stale_stands}
 use Rattle.ra_worker.specs.declared.replica.Replica.{Replica}
 use Rattle.ra_worker.specs.Skipping.{has_used, is_behind, is_skipped}
-use Rattle.ra_worker.specs.Replicas.{IsNextPlan, AreTold, HasTaken}
+use Rattle.ra_worker.specs.Replicas.{IsNextPlan, AreNextOfSomeJournal, HasTaken}
 use Rattle.ra_worker.proofs.TurnLemmas.{may_commit, batch_next, batch_long, taken_at}
 use Rattle.ra_worker_crew.specs.declared.worker.Worker.{Worker}
-use Rattle.ra_worker_crew.specs.Working.{IsAtWork, HasOwn, HasRoom, IsBehind, HasTurned, HasMoved, MayGoOn, shown_in}
+use Rattle.ra_worker_crew.specs.Working.{IsAtWork, HasOwn, HasTurnsToSpare, IsAtOrAfterOwn, HasTurned, HasMovedOn}
+use Rattle.ra_worker_crew.specs.Working.{MayGoOn, shown_in}
 use Rattle.ra_worker_crew.proofs.Seen.{legal_few, prefix_long, prefix_at, prefix_entries, entries_grow, own_count}
 
 -- a worker that has some budget left, and all its entries before a place, isn't skipped there
@@ -37,7 +38,7 @@ not_skipped l h w q left all = or_from (has_used l h w) (is_behind h w q) (lt-le
 counted : (s : Shared) (w : Worker) → IsAtWork s w → HasOwn w →
     entries_of (seen_by w.pass) (length (seen_by w.pass)) w.replica.proposals.worker ≡ w.replica.proposals.number
 counted s w work own =
-    rw work.same (own_count (seen_by w.pass) (made_by w.pass) w.pass.number work.rest.own ∙ sym own.number)
+    rw work.same (own_count (seen_by w.pass) (notes_made_by w.pass) w.pass.number work.rest.own ∙ sym own.number)
 
 -- it may hand in its next plan
 pub next_commit : (s : Shared) (w : Worker) (plan : Plan) → IsAtWork s w → HasOwn w →
@@ -114,29 +115,30 @@ shown_handed : (s : Shared) (w w' : Worker) (plan : Plan) (reply : Reply) → Is
     w.replica.proposals.number < budget w.replica.proposals.lots.now w.replica.proposals.worker →
     IsNextPlan w.replica plan → IsAtRest s w'.pass → w'.pass.number ≡ w.pass.number →
     IsPrefix (seen_by w.pass) (seen_by w'.pass) → IsCommitted (start_of s) w.pass.number plan.q (seen_by w.pass)
-    (made_by w.pass) (seen_by w'.pass) (made_by w'.pass) reply →
-    IsShown w.pass.number plan.q (seen_by w'.pass) (made_by w'.pass) (shown_in reply)
+    (notes_made_by w.pass) (seen_by w'.pass) (notes_made_by w'.pass) reply →
+    IsShown w.pass.number plan.q (seen_by w'.pass) (notes_made_by w'.pass) (shown_in reply)
 shown_handed s w w' plan reply work own left next rest number prefix done =
-    let place : entries_of (seen_by w.pass) plan.q w.pass.number ≡ length (made_by w.pass) =
-    subst (λ q. entries_of (seen_by w.pass) q w.pass.number ≡ length (made_by w.pass)) (sym next.place)
-    (subst (λ v. entries_of (seen_by w.pass) w.replica.place v ≡ length (made_by w.pass)) work.same
+    let place : entries_of (seen_by w.pass) plan.q w.pass.number ≡ length (notes_made_by w.pass) =
+    subst (λ q. entries_of (seen_by w.pass) q w.pass.number ≡ length (notes_made_by w.pass)) (sym next.place)
+    (subst (λ v. entries_of (seen_by w.pass) w.replica.place v ≡ length (notes_made_by w.pass)) work.same
     (sym work.at.number ∙ own.number)) in
-    let knows : KnowsOwn w.pass.number (seen_by w'.pass) (made_by w'.pass) =
-    subst (λ n. KnowsOwn n (seen_by w'.pass) (made_by w'.pass)) number rest.own in
-    shown_by_answer (start_of s) w.pass.number plan (seen_by w.pass) (made_by w.pass) (seen_by w'.pass)
-    (made_by w'.pass) reply prefix (next_commit s w plan work own left next) place work.rest.own rest.legal knows
+    let knows : KnowsOwn w.pass.number (seen_by w'.pass) (notes_made_by w'.pass) =
+    subst (λ n. KnowsOwn n (seen_by w'.pass) (notes_made_by w'.pass)) number rest.own in
+    shown_by_answer (start_of s) w.pass.number plan (seen_by w.pass) (notes_made_by w.pass) (seen_by w'.pass)
+    (notes_made_by w'.pass) reply prefix (next_commit s w plan work own left next) place work.rest.own rest.legal knows
     done
 
 pub behind_handed : (s : Shared) (w w' : Worker) (plan : Plan) (reply : Reply) → IsAtWork s w → HasOwn w →
     w.replica.proposals.number < budget w.replica.proposals.lots.now w.replica.proposals.worker →
     IsNextPlan w.replica plan → IsAtRest s w'.pass → w'.pass.number ≡ w.pass.number →
     IsPrefix (seen_by w.pass) (seen_by w'.pass) → IsCommitted (start_of s) w.pass.number plan.q (seen_by w.pass)
-    (made_by w.pass) (seen_by w'.pass) (made_by w'.pass) reply → IsBehind (shown_in reply) w'
+    (notes_made_by w.pass) (seen_by w'.pass) (notes_made_by w'.pass) reply → IsAtOrAfterOwn (shown_in reply) w'
 behind_handed s w w' plan reply work own left next rest number prefix done =
     let shown = shown_handed s w w' plan reply work own left next rest number prefix done in
     record {
       within = shown.within;
-      own = subst (λ v. entries_of (seen_by w'.pass) (shown_in reply + 1) v ≡ length (made_by w'.pass)) (sym number)
+      own = subst (λ v. entries_of (seen_by w'.pass) (shown_in reply + 1) v ≡ length (notes_made_by w'.pass))
+          (sym number)
           shown.own;
     }
 
@@ -145,7 +147,7 @@ pub later_handed : (s : Shared) (w w' : Worker) (plan : Plan) (reply : Reply) �
     w.replica.proposals.number < budget w.replica.proposals.lots.now w.replica.proposals.worker →
     IsNextPlan w.replica plan → IsAtRest s w'.pass → w'.pass.number ≡ w.pass.number →
     IsPrefix (seen_by w.pass) (seen_by w'.pass) → IsCommitted (start_of s) w.pass.number plan.q (seen_by w.pass)
-    (made_by w.pass) (seen_by w'.pass) (made_by w'.pass) reply → w.replica.place ≤ shown_in reply
+    (notes_made_by w.pass) (seen_by w'.pass) (notes_made_by w'.pass) reply → w.replica.place ≤ shown_in reply
 later_handed s w w' plan reply work own left next rest number prefix done =
     omega (arith, (shown_handed s w w' plan reply work own left next rest number prefix done).later, next.place)
 
@@ -159,7 +161,7 @@ place_few s w work = omega (arith, work.at.place, seen_few s w work)
 
 -- what it is told comes next for its replica
 pub told_next : (s : Shared) (w' : Worker) (batch : List Entry) → IsAtWork s w' →
-    batch ≡ batch_from (seen_by w'.pass) w'.replica.place → AreTold w'.replica batch
+    batch ≡ batch_from (seen_by w'.pass) w'.replica.place → AreNextOfSomeJournal w'.replica batch
 told_next s w' batch work is = record {
   journal = seen_by w'.pass;
   next = batch_next (start_of s).inst.tables (start_of s).a0.items (start_of s).lots (seen_by w'.pass) batch w'.replica
@@ -184,17 +186,17 @@ place_told w w' batch is taken more =
     omega (arith, taken.place, ap (λ (x : List Entry). length x) is, batch_long (seen_by w.pass) w.replica.place)
 
 -- an entry that it has seen stays seen
-pub behind_later : (w w' : Worker) (shown : ℕ) → IsBehind shown w → IsPrefix (seen_by w.pass) (seen_by w'.pass) →
-    made_by w'.pass ≡ made_by w.pass → w'.pass.number ≡ w.pass.number → IsBehind shown w'
+pub behind_later : (w w' : Worker) (shown : ℕ) → IsAtOrAfterOwn shown w → IsPrefix (seen_by w.pass) (seen_by w'.pass) →
+    notes_made_by w'.pass ≡ notes_made_by w.pass → w'.pass.number ≡ w.pass.number → IsAtOrAfterOwn shown w'
 behind_later w w' shown behind prefix made number = record {
   within = omega (arith, behind.within, prefix_long (seen_by w.pass) (seen_by w'.pass) prefix);
-  own = subst (λ v. entries_of (seen_by w'.pass) (shown + 1) v ≡ length (made_by w'.pass)) (sym number)
+  own = subst (λ v. entries_of (seen_by w'.pass) (shown + 1) v ≡ length (notes_made_by w'.pass)) (sym number)
       (prefix_entries (seen_by w.pass) (seen_by w'.pass) (shown + 1) w.pass.number prefix (omega (arith, behind.within))
       ∙ behind.own ∙ ap (λ (x : List Entry). length x) (sym made));
 }
 
 -- and when the replica has taken it in, it has all that the worker has made
-pub own_past : (s : Shared) (w : Worker) (shown : ℕ) → IsAtWork s w → IsBehind shown w → shown < w.replica.place →
+pub own_past : (s : Shared) (w : Worker) (shown : ℕ) → IsAtWork s w → IsAtOrAfterOwn shown w → shown < w.replica.place →
     HasOwn w
 own_past s w shown work behind past =
     let h = seen_by w.pass in
@@ -208,13 +210,13 @@ own_past s w shown work behind past =
         behind.own,
         entries_grow h (shown + 1) w.replica.place n (omega (arith, past)),
         entries_grow h w.replica.place (length h) n work.at.place,
-        own_count h (made_by w.pass) n work.rest.own,
+        own_count h (notes_made_by w.pass) n work.rest.own,
       );
     }
 
 -- a turn to take one entry in
-pub turn_left : (s : Shared) (first w : Worker) (shown : ℕ) → IsAtWork s w → IsBehind shown w → HasRoom s 0 first →
-    HasTurned first w → w.replica.place ≤ shown → 0 < w.pass.left
+pub turn_left : (s : Shared) (first w : Worker) (shown : ℕ) → IsAtWork s w → IsAtOrAfterOwn shown w →
+    HasTurnsToSpare s 0 first → HasTurned first w → w.replica.place ≤ shown → 0 < w.pass.left
 turn_left s first w shown work behind room turned before =
     omega (arith, seen_few s w work, behind.within, room.turns, turned.turns)
 
@@ -231,14 +233,14 @@ turned_none w = record { number = refl; turns = omega arith; fewer = omega arith
 
 -- it has handed in a plan, and its replica has taken in what that turn showed
 pub moved_taken : (w w' taken : Worker) → w'.replica ≡ w.replica → w'.pass.number ≡ w.pass.number →
-    w'.pass.left + 1 ≡ w.pass.left → taken.pass ≡ w'.pass → w'.replica.place < taken.replica.place → HasMoved w taken
+    w'.pass.left + 1 ≡ w.pass.left → taken.pass ≡ w'.pass → w'.replica.place < taken.replica.place → HasMovedOn w taken
 moved_taken w w' taken same number turn kept place = rw kept (record {
   number = number;
   turns = omega (arith, turn, place, ap (λ (r : Replica). r.place) same);
   fewer = omega (arith, turn);
 })
 
-pub moved_then : (w taken after : Worker) → HasMoved w taken → HasTurned taken after → HasMoved w after
+pub moved_then : (w taken after : Worker) → HasMovedOn w taken → HasTurned taken after → HasMovedOn w after
 moved_then w taken after moved turned = record {
   number = turned.number ∙ moved.number;
   turns = omega (arith, moved.turns, turned.turns);
@@ -246,7 +248,8 @@ moved_then w taken after moved turned = record {
 }
 
 -- so there are as many turns to spare as there were
-pub room_moved : (s : Shared) (w taken : Worker) → HasRoom s 1 w → HasMoved w taken → HasRoom s 0 taken
+pub room_moved : (s : Shared) (w taken : Worker) → HasTurnsToSpare s 1 w → HasMovedOn w taken →
+    HasTurnsToSpare s 0 taken
 room_moved s w taken room moved = record { turns = omega (arith, room.turns, moved.turns) }
 
 -- a worker with some budget left hasn't seen all proposals of the run
@@ -273,11 +276,11 @@ place_fewer s w work own left =
 
 -- so it has a turn to spare besides those for what it has not taken in
 pub room_left : (s : Shared) (w : Worker) → MayGoOn s w →
-    w.replica.proposals.number < budget w.replica.proposals.lots.now w.replica.proposals.worker → HasRoom s 1 w
+    w.replica.proposals.number < budget w.replica.proposals.lots.now w.replica.proposals.worker → HasTurnsToSpare s 1 w
 room_left s w may left = record { turns = omega (arith, may.turns, place_fewer s w may.work may.own left) }
 
 -- and it may go on after that turn
-pub may_on : (s : Shared) (w after : Worker) → MayGoOn s w → IsAtWork s after → HasOwn after → HasMoved w after →
+pub may_on : (s : Shared) (w after : Worker) → MayGoOn s w → IsAtWork s after → HasOwn after → HasMovedOn w after →
     MayGoOn s after
 may_on s w after may work own moved = record {
   work = work;

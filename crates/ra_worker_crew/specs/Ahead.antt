@@ -40,7 +40,7 @@ pub record AreAhead (r : Replica) (n : ℕ) (ahead : Ahead) : Type 0 where
       → IsPlanAt r (n + j) (moved_to (place_at r) (ahead_at ahead j d))
 
 -- the plans of a round, whose plan 0 is of proposal n, are right: the next of them is of the replica's next proposal
-pub record Stands (r : Replica) (n : ℕ) (first : Plan) (ahead : Ahead) : Type 0 where
+pub record PlansStand (r : Replica) (n : ℕ) (first : Plan) (ahead : Ahead) : Type 0 where
   pub next : next_at r ≡ n + ahead.at
   pub fresh : ahead.at ≡ 0 → IsNextPlan r first
   pub later : AreAhead r (n + 1) ahead

@@ -4,7 +4,7 @@ use Rattle.ra_journal.specs.Batches.{batch_from}
 use Rattle.ra_journal.specs.declared.replies.Reply.{Reply}
 use Rattle.ra_journal.specs.declared.replies.Reply.TheVariants.{Recorded, Stale}
 use Rattle.ra_journal.specs.Entries.{entries_of, proposal_count}
-use Rattle.ra_turn.specs.Passes.{seen_by, made_by}
+use Rattle.ra_turn.specs.Passes.{seen_by, notes_made_by}
 use Rattle.ra_shared.specs.declared.shared.Shared.{Shared}
 use Rattle.ra_shared.specs.Shares.{start_of, IsAtRest}
 use Rattle.ra_worker.specs.Replicas.{IsAt, ArePassed}
@@ -21,15 +21,15 @@ pub record IsAtWork (s : Shared) (w : Worker) : Type 0 where
 
 -- it has taken in all entries that it has made
 pub record HasOwn (w : Worker) : Type 0 where
-  pub number : w.replica.proposals.number ≡ length (made_by w.pass)
+  pub number : w.replica.proposals.number ≡ length (notes_made_by w.pass)
 
 -- an entry that it has seen: no entry of its own comes after that place
-pub record IsBehind (shown : ℕ) (w : Worker) : Type 0 where
+pub record IsAtOrAfterOwn (shown : ℕ) (w : Worker) : Type 0 where
   pub within : shown < length (seen_by w.pass)
-  pub own : entries_of (seen_by w.pass) (shown + 1) w.pass.number ≡ length (made_by w.pass)
+  pub own : entries_of (seen_by w.pass) (shown + 1) w.pass.number ≡ length (notes_made_by w.pass)
 
 -- it has this number of turns to spare, and one for each proposal of the run that it has not taken in
-pub record HasRoom (s : Shared) (spare : ℕ) (w : Worker) : Type 0 where
+pub record HasTurnsToSpare (s : Shared) (spare : ℕ) (w : Worker) : Type 0 where
   pub turns : proposal_count (start_of s).lots + spare ≤ w.pass.left + w.replica.place
 
 -- for the same worker: each turn that it has taken advanced its place by at least one
@@ -39,7 +39,7 @@ pub record HasTurned (before after : Worker) : Type 0 where
   pub fewer : after.pass.left ≤ before.pass.left
 
 -- for the same worker: it has taken a turn, and at most as many turns as its place advanced
-pub record HasMoved (before after : Worker) : Type 0 where
+pub record HasMovedOn (before after : Worker) : Type 0 where
   pub number : after.pass.number ≡ before.pass.number
   pub turns : before.pass.left + before.replica.place ≤ after.pass.left + after.replica.place
   pub fewer : after.pass.left < before.pass.left
@@ -51,7 +51,7 @@ pub record MayGoOn (s : Shared) (w : Worker) : Type 0 where
   pub turns : 2 * proposal_count (start_of s).lots ≤ w.pass.left + 2 * w.replica.place
 
 -- its batch is what it has seen and not taken in, at most 1,024 entries
-pub record HasNext (w : Worker) : Type 0 where
+pub record HasNextBatch (w : Worker) : Type 0 where
   pub next : w.batch ≡ batch_from (seen_by w.pass) w.replica.place
 
 -- what it has seen and not taken in is refused, and one entry of it is its own

@@ -5,7 +5,7 @@ ghost use Rattle.ra_journal.specs.Legal.{Whole};
 ghost use Rattle.ra_topology.specs.Starts.{IsFeasibleStart};
 ghost use Rattle.ra_shared.specs.Books.{opening_of_journal};
 ghost use Rattle.ra_shared.specs.Shares.{start_of};
-ghost use Rattle.ra_worker_crew.specs.Crews.{IsFresh, AreReady, HaveRun};
+ghost use Rattle.ra_worker_crew.specs.Crews.{HasNotBegun, AreReady, HaveRun};
 ghost use Rattle.ra_worker_crew.specs.Running.{MayRun};
 
 use crate::running::Desk;
@@ -91,7 +91,7 @@ fn make_workers<'a>(
     ensures taken { IfOk result (λ workers. passes.new.items ≡ []) }
     ensures room { IfOk result (λ workers. length workers.items ≤ vec_capacity passes.new) }
     ensures fresh { IfOk result (λ workers.
-        All (IsFresh inst.now.tables a0.now.items lots.now) workers.items) }
+        All (HasNotBegun inst.now.tables a0.now.items lots.now) workers.items) }
 {
     let mut workers = Vec::with_capacity(alloc, passes.len())?;
     'passes: while passes.len() > 0 {
@@ -116,7 +116,7 @@ fn make_worker<'a>(
     requires exists { pass.number < worker_count lots.now }
     ensures pass { IfOk result (λ worker. worker.pass ≡ pass.entry) }
     ensures fresh { IfOk result (λ worker.
-        IsFresh inst.now.tables a0.now.items lots.now worker) }
+        HasNotBegun inst.now.tables a0.now.items lots.now worker) }
 {
     let replica = Replica::make(alloc, inst, topo, a0, start, lots, pass.number())?;
     Worker::make(alloc, replica, pass)

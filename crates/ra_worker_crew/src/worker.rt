@@ -1,10 +1,10 @@
 ghost use Rattle.std.specs.Prelude.{◌≡◌, ◌+◌, ◌*◌, ◌<◌, ◌≤◌, true, false, length, IfOk};
 ghost use mathlib.Core.List.{IsPrefix};
 ghost use Rattle.ra_journal.specs.Entries.{budget};
-ghost use Rattle.ra_turn.specs.Passes.{seen_by, made_by};
-ghost use Rattle.ra_worker.specs.Replicas.{next_at, budget_at, place_at, IsPlanAt, IsNextPlan, AreTold, HasTaken, HasPassed};
-ghost use Rattle.ra_worker_crew.specs.Ahead.{AreAhead, Stands};
-ghost use Rattle.ra_worker_crew.specs.Working.{IsAtWork, IsQuiet, HasNext, HasOwn, HasRoom, IsBehind, HasMoved, HasTurned, shown_in};
+ghost use Rattle.ra_turn.specs.Passes.{seen_by, notes_made_by};
+ghost use Rattle.ra_worker.specs.Replicas.{next_at, budget_at, place_at, IsPlanAt, IsNextPlan, AreNextOfSomeJournal, HasTaken, HasPassed};
+ghost use Rattle.ra_worker_crew.specs.Ahead.{AreAhead, PlansStand};
+ghost use Rattle.ra_worker_crew.specs.Working.{IsAtWork, IsQuiet, HasNextBatch, HasOwn, HasTurnsToSpare, IsAtOrAfterOwn, HasMovedOn, HasTurned, shown_in};
 
 use crate::ahead::Ahead;
 use ra_base::{NoMemory, Steps};
@@ -89,7 +89,7 @@ impl<'a> Worker<'a> {
     pub(crate) fn plan_ahead(&self, first: &Plan, ahead: &mut Ahead)
         requires left { next_at self.now.replica < budget_at self.now.replica }
         requires first { IsNextPlan self.now.replica first.now }
-        ensures { Stands self.now.replica (next_at self.now.replica) first.now ahead.new }
+        ensures { PlansStand self.now.replica (next_at self.now.replica) first.now ahead.new }
     {
         let most = ahead.begin();
         if most > 0 && self.replica.is_refused(first) {
@@ -136,10 +136,10 @@ impl<'a> Worker<'a> {
         requires plan { IsNextPlan self.old.replica plan.now }
         requires left { self.old.replica.proposals.number <
             budget self.old.replica.proposals.lots.now self.old.replica.proposals.worker }
-        requires turns { HasRoom shared.now 1 self.old }
+        requires turns { HasTurnsToSpare shared.now 1 self.old }
         ensures work { IsAtWork shared.now self.new }
         ensures own { HasOwn self.new }
-        ensures moved { HasMoved self.old self.new }
+        ensures moved { HasMovedOn self.old self.new }
         ensures quiet { result ≡ true →
             HasPassed self.old.replica self.new.replica (place_at self.new.replica) }
     {
@@ -173,7 +173,7 @@ impl<'a> Worker<'a> {
     /// Takes in the entries that a turn copied into its batch. At least one of them is new to it.
     fn take_copied(&mut self, _shared: &Shared<'a>)
         requires work { IsAtWork _shared.now self.old }
-        requires next { HasNext self.old }
+        requires next { HasNextBatch self.old }
         requires more { self.old.replica.place < length (seen_by self.old.pass) }
         ensures work { IsAtWork _shared.now self.new }
         ensures pass { self.new.pass ≡ self.old.pass }
@@ -185,8 +185,8 @@ impl<'a> Worker<'a> {
     /// Catches up past an entry that it has seen, if no entry of its own comes after that place.
     fn catch_up_past<R: Wait>(&mut self, rt: &R, shared: &Shared<'a>, shown: u64)
         requires work { IsAtWork shared.now self.old }
-        requires behind { IsBehind shown self.old }
-        requires turns { HasRoom shared.now 0 self.old }
+        requires behind { IsAtOrAfterOwn shown self.old }
+        requires turns { HasTurnsToSpare shared.now 0 self.old }
         ensures work { IsAtWork shared.now self.new }
         ensures own { HasOwn self.new }
         ensures past { shown < self.new.replica.place }
@@ -204,7 +204,7 @@ impl<'a> Worker<'a> {
         requires more { self.old.replica.place < length (seen_by self.old.pass) }
         ensures work { IsAtWork shared.now self.new }
         ensures seen { IsPrefix (seen_by self.old.pass) (seen_by self.new.pass) }
-        ensures made { made_by self.new.pass ≡ made_by self.old.pass }
+        ensures made { notes_made_by self.new.pass ≡ notes_made_by self.old.pass }
         ensures place { self.old.replica.place < self.new.replica.place }
         ensures number { self.new.pass.number ≡ self.old.pass.number }
         ensures turn { self.new.pass.left + 1 ≡ self.old.pass.left }
@@ -245,7 +245,7 @@ fn take_in<L: Ledger>(replica: &mut Replica<'_>, batch: &Batch, blank: Blank)
     requires name { blank.name ≡ L.name }
     requires parts { blank.parts ≡ L.parts }
     requires some { 0 < blank.parts }
-    requires told { AreTold replica.old batch.now }
+    requires told { AreNextOfSomeJournal replica.old batch.now }
     ensures { HasTaken replica.old replica.new batch.now (length batch.now) }
 {
     let mut steps = Steps::<L>::make(blank);

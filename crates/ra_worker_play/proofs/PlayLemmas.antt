@@ -13,14 +13,16 @@ use Rattle.ra_worker_core.specs.declared.events.CoreEvent.{CoreEvent}
 use Rattle.ra_worker_core.specs.declared.events.CoreEvent.TheVariants.{CatchUp, Commit}
 use Rattle.ra_worker_core.specs.declared.events.CoreReply.{CoreReply}
 use Rattle.ra_worker_core.specs.declared.events.CoreReply.TheVariants.{Took}
-use Rattle.ra_worker_core.specs.Core.{Core, place_of, turn, Stepped, caught_up, handed_in, step, event_at, core_after}
-use Rattle.ra_worker_core.specs.Core.{replies_to, run, worker_of}
+use Rattle.ra_worker_core.specs.Core.{Core, core_place_of, turn, Stepped, caught_up, handed_in, step, event_at}
+use Rattle.ra_worker_core.specs.Core.{core_after}
+use Rattle.ra_worker_core.specs.Core.{core_replies_to, run, worker_of_event}
 use Rattle.ra_worker_core.specs.Replicas.{core_of}
 use Rattle.ra_worker_core.proofs.CoreLemmas.{place_there}
 
 -- a step is what a replica does
-stepped_catch_up : (c d : Core) (w p q n : ℕ) → place_of c w ≡ p → n ≡ min 1024 (length c.journal - p) → q ≡ p + n →
-    d.journal ≡ c.journal → d.places ≡ set c.places w q → caught_up c w ≡ record { after = d; reply = Took n }
+stepped_catch_up : (c d : Core) (w p q n : ℕ) → core_place_of c w ≡ p → n ≡ min 1024 (length c.journal - p) →
+    q ≡ p + n → d.journal ≡ c.journal → d.places ≡ set c.places w q →
+    caught_up c w ≡ record { after = d; reply = Took n }
 unfolding caught_up
 stepped_catch_up c d w p q n place n_is q_is journal places = rw (place, ← n_is, ← q_is, ← journal, ← places) refl
 
@@ -36,8 +38,9 @@ step_catch_up i a0 l h rs w count r s within is count_is place =
     count_is place refl (map-set (λ (x : Replica). x.place) rs w s)
 
 stepped_commit : (i : Tables) (a0 : List Machine) (l : Lots) (c d : Core) (w p : ℕ) (reply : CoreReply) →
-    place_of c w ≡ p → d.journal ≡ (turn i a0 l c.journal w p).journal → reply ≡ (turn i a0 l c.journal w p).reply →
-    d.places ≡ c.places → handed_in i a0 l c w ≡ record { after = d; reply = reply }
+    core_place_of c w ≡ p → d.journal ≡ (turn i a0 l c.journal w p).journal →
+    reply ≡ (turn i a0 l c.journal w p).reply → d.places ≡ c.places →
+    handed_in i a0 l c w ≡ record { after = d; reply = reply }
 unfolding handed_in
 stepped_commit i a0 l c d w p reply place journal reply_is places = rw (place, ← journal, ← reply_is, ← places) refl
 
@@ -67,18 +70,18 @@ core_more i a0 l c d e events n event reply d_is event_is stepped = rw add-one
     ∙ sym (core_suc i a0 l c events n))
 
 replies_suc : (i : Tables) (a0 : List Machine) (l : Lots) (c : Core) (events : List CoreEvent) (n : ℕ) →
-    replies_to i a0 l c events (suc n) ≡ replies_to i a0 l c events n ++
+    core_replies_to i a0 l c events (suc n) ≡ core_replies_to i a0 l c events n ++
     (step i a0 l (core_after i a0 l c events n) (event_at events n)).reply ∷ []
-unfolding replies_to
+unfolding core_replies_to
 replies_suc i a0 l c events n = refl
 
 pub replies_more : (i : Tables) (a0 : List Machine) (l : Lots) (c d e : Core) (events : List CoreEvent) (n : ℕ)
     (event : CoreEvent) (reply : CoreReply) (base before after : List CoreReply) → d ≡ core_after i a0 l c events n →
     event ≡ event_at events n → step i a0 l d event ≡ record { after = e; reply = reply } →
-    before ≡ base ++ replies_to i a0 l c events n → after ≡ before ++ reply ∷ [] →
-    after ≡ base ++ replies_to i a0 l c events (n + 1)
+    before ≡ base ++ core_replies_to i a0 l c events n → after ≡ before ++ reply ∷ [] →
+    after ≡ base ++ core_replies_to i a0 l c events (n + 1)
 replies_more i a0 l c d e events n event reply base before after d_is event_is stepped before_is after_is =
-    let told = replies_to i a0 l c events n in
+    let told = core_replies_to i a0 l c events n in
     let reply_is : reply ≡ (step i a0 l (core_after i a0 l c events n) (event_at events n)).reply =
     ap (λ (s : Stepped). s.reply) (sym stepped)
     ∙ ap (λ (x : Core). (step i a0 l x event).reply) d_is
@@ -91,13 +94,13 @@ replies_more i a0 l c d e events n event reply base before after d_is event_is s
     ∙ ap (λ (x : List CoreReply). base ++ x) (sym (replies_suc i a0 l c events n)))
 
 -- the events of a list name existing workers
-pub named_catch_up : (event : CoreEvent) (w n : ℕ) → worker_of event < n → event ≡ CatchUp w → w < n
-unfolding worker_of
-named_catch_up event w n named is = subst (λ (x : CoreEvent). worker_of x < n) is named
+pub named_catch_up : (event : CoreEvent) (w n : ℕ) → worker_of_event event < n → event ≡ CatchUp w → w < n
+unfolding worker_of_event
+named_catch_up event w n named is = subst (λ (x : CoreEvent). worker_of_event x < n) is named
 
-pub named_commit : (event : CoreEvent) (w n : ℕ) → worker_of event < n → event ≡ Commit w → w < n
-unfolding worker_of
-named_commit event w n named is = subst (λ (x : CoreEvent). worker_of x < n) is named
+pub named_commit : (event : CoreEvent) (w n : ℕ) → worker_of_event event < n → event ≡ Commit w → w < n
+unfolding worker_of_event
+named_commit event w n named is = subst (λ (x : CoreEvent). worker_of_event x < n) is named
 
 -- before the first event
 pub core_start : (i : Tables) (a0 : List Machine) (l : Lots) (c : Core) (events : List CoreEvent) →
@@ -106,8 +109,8 @@ unfolding core_after
 core_start i a0 l c events = refl
 
 pub replies_start : (i : Tables) (a0 : List Machine) (l : Lots) (c : Core) (events : List CoreEvent)
-    (base : List CoreReply) → base ≡ base ++ replies_to i a0 l c events 0
-unfolding replies_to
+    (base : List CoreReply) → base ≡ base ++ core_replies_to i a0 l c events 0
+unfolding core_replies_to
 replies_start i a0 l c events base = sym (append-nil base)
 
 -- after the last one
@@ -117,33 +120,33 @@ unfolding run
 core_end i a0 l c d events n d_is n_is = rw (← n_is) d_is
 
 pub replies_end : (i : Tables) (a0 : List Machine) (l : Lots) (c : Core) (events : List CoreEvent) (n : ℕ)
-    (base after : List CoreReply) → after ≡ base ++ replies_to i a0 l c events n → n ≡ length events →
+    (base after : List CoreReply) → after ≡ base ++ core_replies_to i a0 l c events n → n ≡ length events →
     after ≡ base ++ (run i a0 l c events).replies
 unfolding run
 replies_end i a0 l c events n base after after_is n_is = rw (← n_is) after_is
 
 -- there is one reply for each event
 pub replies_long : (i : Tables) (a0 : List Machine) (l : Lots) (c : Core) (events : List CoreEvent) (n : ℕ) →
-    length (replies_to i a0 l c events n) ≡ n
-unfolding replies_to
+    length (core_replies_to i a0 l c events n) ≡ n
+unfolding core_replies_to
 replies_long i a0 l c events zero = refl
 replies_long i a0 l c events (suc n) =
     omega (
       arith,
-      length_push (replies_to i a0 l c events n)
+      length_push (core_replies_to i a0 l c events n)
           (step i a0 l (core_after i a0 l c events n) (event_at events n)).reply,
       replies_long i a0 l c events n,
     )
 
 -- there is room for one reply more
 pub room_left : (i : Tables) (a0 : List Machine) (l : Lots) (c : Core) (events : List CoreEvent) (n room : ℕ)
-    (base told : List CoreReply) → told ≡ base ++ replies_to i a0 l c events n → n < length events →
+    (base told : List CoreReply) → told ≡ base ++ core_replies_to i a0 l c events n → n < length events →
     length base + length events ≤ room → length told < room
 room_left i a0 l c events n room base told told_is within room_is =
     omega (
       arith,
       ap (λ (x : List CoreReply). length x) told_is,
-      length-append base (replies_to i a0 l c events n),
+      length-append base (core_replies_to i a0 l c events n),
       replies_long i a0 l c events n,
     )
 
@@ -154,11 +157,12 @@ same_step i j a0 b0 l m d event s stepped inst initial lots = rw (← inst, ← 
 
 -- one event more that names a worker
 pub named_more : (l : Lots) (events : List CoreEvent) (n w : ℕ) (event : CoreEvent) →
-    ((k : ℕ) → k < n → worker_of (event_at events k) < worker_count l) → event ≡ event_at events n →
-    w ≡ worker_of event → w < worker_count l → (k : ℕ) → k < n + 1 → worker_of (event_at events k) < worker_count l
+    ((k : ℕ) → k < n → worker_of_event (event_at events k) < worker_count l) → event ≡ event_at events n →
+    w ≡ worker_of_event event → w < worker_count l → (k : ℕ) → k < n + 1 →
+    worker_of_event (event_at events k) < worker_count l
 named_more l events n w event each event_is w_is exists k before = ⊎_elim
     (λ (less : k < n). each k less)
     (λ (last : n ≤ k). let here : n ≡ k = omega (arith, before) in
-    subst (λ j. worker_of (event_at events j) < worker_count l) here
-    (omega (arith, exists, w_is, ap worker_of event_is)))
+    subst (λ j. worker_of_event (event_at events j) < worker_count l) here
+    (omega (arith, exists, w_is, ap worker_of_event event_is)))
     (cases_lt k n)

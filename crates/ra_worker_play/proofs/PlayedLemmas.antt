@@ -13,8 +13,9 @@ use Rattle.ra_journal.specs.Entries.{worker_count}
 use Rattle.ra_worker.specs.declared.replica.Replica.{Replica}
 use Rattle.ra_worker_core.specs.declared.events.CoreEvent.{CoreEvent}
 use Rattle.ra_worker_core.specs.declared.events.CoreEvent.TheVariants.{CatchUp, Commit}
-use Rattle.ra_worker_core.specs.Core.{Core, AreNamed, place_of, turn, Stepped, caught_up, step, event_at, core_after}
-use Rattle.ra_worker_core.specs.Core.{run, worker_of}
+use Rattle.ra_worker_core.specs.Core.{Core, AreNamed, core_place_of, turn, Stepped, caught_up, step, event_at}
+use Rattle.ra_worker_core.specs.Core.{core_after}
+use Rattle.ra_worker_core.specs.Core.{run, worker_of_event}
 use Rattle.ra_worker_core.specs.Replicas.{core_of}
 use Rattle.ra_worker_core.specs.Turns.{StandIn, core_in}
 use Rattle.ra_worker_core.proofs.CoreLemmas.{place_there, over_itself, over_then, same_tables, same_start}
@@ -30,16 +31,16 @@ last_event : (xs : List CoreEvent) (e : CoreEvent) → event_at (xs ++ e ∷ [])
 unfolding event_at
 last_event xs e = get_or_push xs e (CatchUp 0) (length xs) refl
 
-named_push : (l : Lots) (xs : List CoreEvent) (e : CoreEvent) → AreNamed l xs → worker_of e < worker_count l →
+named_push : (l : Lots) (xs : List CoreEvent) (e : CoreEvent) → AreNamed l xs → worker_of_event e < worker_count l →
     AreNamed l (xs ++ e ∷ [])
 named_push l xs e named exists = record {
   each = λ n there. ⊎_elim
-      (λ (before : n < length xs). subst (λ x. worker_of x < worker_count l) (sym (same_event xs e n before))
+      (λ (before : n < length xs). subst (λ x. worker_of_event x < worker_count l) (sym (same_event xs e n before))
       (named.each n before))
       (λ (last : length xs ≤ n).
       let here : length xs ≡ n = omega (arith, there, length_push xs e) in
-      subst (λ k. worker_of (event_at (xs ++ e ∷ []) k) < worker_count l) here
-      (subst (λ x. worker_of x < worker_count l) (sym (last_event xs e)) exists))
+      subst (λ k. worker_of_event (event_at (xs ++ e ∷ []) k) < worker_count l) here
+      (subst (λ x. worker_of_event x < worker_count l) (sym (last_event xs e)) exists))
       (cases_lt n (length xs));
 }
 
@@ -75,7 +76,7 @@ played_none i a0 l c = record {
 
 -- one turn more
 pub played_more : (i : Tables) (a0 : List Machine) (l : Lots) (a b c : Core) (e : CoreEvent) → IsPlayed i a0 l a b →
-    worker_of e < worker_count l → c ≡ (step i a0 l b e).after → IsPlayed i a0 l a c
+    worker_of_event e < worker_count l → c ≡ (step i a0 l b e).after → IsPlayed i a0 l a c
 played_more i a0 l a b c e played exists c_is = record {
   events = played.events ++ e ∷ [];
   named = named_push l played.events e played.named exists;
@@ -108,7 +109,7 @@ set_twice (x ∷ places) (suc w) p q = ap (λ rest. x ∷ rest) (set_twice place
 played_to_end : (i : Tables) (a0 : List Machine) (l : Lots) (n : ℕ) (h : List Entry) (places : List ℕ) (w : ℕ) →
     w < worker_count l → w < length places → get_or places w 0 ≤ length h → length h ≤ get_or places w 0 + n →
     IsPlayed i a0 l (record { journal = h; places = places }) (record { journal = h; places = set places w (length h) })
-unfolding step caught_up worker_of place_of
+unfolding step caught_up worker_of_event core_place_of
 played_to_end i a0 l zero h places w exists there within left =
     let at_end : get_or places w 0 ≡ length h = omega (arith, within, left) in
     let same : places ≡ set places w (length h) = sym (set-get_or places w 0) ∙ ap (λ p. set places w p) at_end in
@@ -132,7 +133,7 @@ played_to_end i a0 l (suc n) h places w exists there within left =
 caught_all : (i : Tables) (a0 : List Machine) (l : Lots) (h : List Entry) (rs : List Replica) (w : ℕ) (r s : Replica) →
     w < worker_count l → w < length rs → get_or rs w r ≡ r → r.place ≤ length h → s.place ≡ length h →
     IsPlayed i a0 l (core_of h rs) (core_of h (set rs w s))
-unfolding core_of place_of
+unfolding core_of core_place_of
 caught_all i a0 l h rs w r s exists there is within place =
     let places = map (λ (x : Replica). x.place) rs in
     let at : get_or places w 0 ≡ r.place = place_there h rs w r there is in
@@ -146,7 +147,7 @@ caught_all i a0 l h rs w r s exists there is within place =
 pub turn_played : (i : Tables) (a0 : List Machine) (l : Lots) (h g : List Entry) (rs : List Replica) (w v : ℕ)
     (r s : Replica) → w < worker_count l → w < length rs → get_or rs w r ≡ r → r.place ≤ length h → s.place ≡ length h →
     v ≡ w → g ≡ (turn i a0 l h v s.place).journal → IsPlayed i a0 l (core_of h rs) (core_of g (set rs w s))
-unfolding worker_of
+unfolding worker_of_event
 turn_played i a0 l h g rs w v r s exists there is within place own g_is =
     let before = caught_all i a0 l h rs w r s exists there is within place in
     let stepped = step_commit i a0 l h g (set rs w s) w v s (turn i a0 l h v s.place).reply

@@ -17,7 +17,7 @@ use Rattle.ra_journal.proofs.CommitLemmas.{committed_legal}
 use Rattle.ra_worker.specs.Skipping.{has_used, is_behind, is_skipped}
 use Rattle.ra_worker.proofs.TurnLemmas.{seen_before, some_left}
 use Rattle.ra_worker_core.specs.declared.events.CoreEvent.TheVariants.{CatchUp, Commit}
-use Rattle.ra_worker_core.specs.Core.{place_of, Turn, answered, turn, caught_up, handed_in, step, worker_of}
+use Rattle.ra_worker_core.specs.Core.{core_place_of, Turn, answered, turn, caught_up, handed_in, step, worker_of_event}
 use Rattle.ra_worker_core.proofs.CoreLemmas.{turn_longer}
 use Rattle.ra_worker_play.specs.Laws.{StepKeepsLegal, StepKeepsPlaces}
 
@@ -43,10 +43,10 @@ turn_legal i a0 l h w q limits fits feasible legal exists within =
 
 -- and so does each step
 pub step_legal : StepKeepsLegal
-unfolding step caught_up handed_in worker_of
+unfolding step caught_up handed_in worker_of_event
 step_legal i a0 l c (CatchUp w) limits fits feasible legal within exists = legal
 step_legal i a0 l c (Commit w) limits fits feasible legal within exists =
-    turn_legal i a0 l c.journal w (place_of c w) limits fits feasible legal exists (within.each w exists)
+    turn_legal i a0 l c.journal w (core_place_of c w) limits fits feasible legal exists (within.each w exists)
 
 -- a place that is set
 place_set : (places : List ℕ) (w v p n : ℕ) → w < length places → p ≤ n → get_or places v 0 ≤ n →
@@ -61,7 +61,7 @@ more_within : (place long : ℕ) → place ≤ long → place + min 1024 (long -
 more_within place long within = omega arith
 
 pub step_within : StepKeepsPlaces
-unfolding step caught_up handed_in worker_of place_of
+unfolding step caught_up handed_in worker_of_event core_place_of
 step_within i a0 l c (CatchUp w) within exists = record {
   one_each = length-set c.places w _ ∙ within.one_each;
   each = λ v there. place_set c.places w v _ (length c.journal) (omega (arith, within.one_each))

@@ -9,17 +9,17 @@ use Rattle.ra_model.specs.Feasible.{Feasible}
 use Rattle.ra_journal.specs.Entries.{worker_count}
 use Rattle.ra_journal.specs.Legal.{Legal}
 use Rattle.ra_worker_core.specs.declared.events.CoreEvent.{CoreEvent}
-use Rattle.ra_worker_core.specs.Core.{Core, AreWithin, step, worker_of}
+use Rattle.ra_worker_core.specs.Core.{Core, ArePlacesInJournal, step, worker_of_event}
 
 -- over a feasible start a step of an existing worker keeps a legal journal legal
 abbrev pub StepKeepsLegal : Type 0
 StepKeepsLegal =
     (i : Tables) (a0 : List Machine) (l : Lots) (c : Core) (e : CoreEvent) → WellFormed i
-    → IsAssignment i a0 → Feasible i a0 a0 → Legal i a0 l c.journal → AreWithin l c
-    → worker_of e < worker_count l → Legal i a0 l (step i a0 l c e).after.journal
+    → IsAssignment i a0 → Feasible i a0 a0 → Legal i a0 l c.journal → ArePlacesInJournal l c
+    → worker_of_event e < worker_count l → Legal i a0 l (step i a0 l c e).after.journal
 
 -- a step keeps the places within the length of the journal
 abbrev pub StepKeepsPlaces : Type 0
 StepKeepsPlaces =
-    (i : Tables) (a0 : List Machine) (l : Lots) (c : Core) (e : CoreEvent) → AreWithin l c
-    → worker_of e < worker_count l → AreWithin l (step i a0 l c e).after
+    (i : Tables) (a0 : List Machine) (l : Lots) (c : Core) (e : CoreEvent) → ArePlacesInJournal l c
+    → worker_of_event e < worker_count l → ArePlacesInJournal l (step i a0 l c e).after

@@ -1,7 +1,7 @@
 ghost use Rattle.std.specs.Prelude.{◌≡◌, ◌+◌, ◌<◌, ◌≤◌, ◌++◌, true, length};
 ghost use Rattle.ra_journal.specs.Entries.{worker_count};
 ghost use Rattle.ra_journal.specs.Journals.{lots_in};
-ghost use Rattle.ra_worker_core.specs.Core.{AreNamed, event_at, worker_of};
+ghost use Rattle.ra_worker_core.specs.Core.{AreNamed, event_at, worker_of_event};
 ghost use Rattle.ra_worker_core.specs.Turns.{StandIn, core_in, IsOverSame};
 ghost use Rattle.ra_worker_play.specs.Plays.{step_in, run_in};
 
@@ -74,7 +74,7 @@ pub(crate) fn play_event<'a, L: Ledger>(
     requires parts { blank.parts ≡ L.parts }
     requires some { 0 < blank.parts }
     requires at { StandIn journal.old replicas.old.items }
-    requires named { worker_of event < worker_count (lots_in journal.old) }
+    requires named { worker_of_event event < worker_count (lots_in journal.old) }
     ensures step { step_in journal.old replicas.old.items event ≡
         record { after = core_in journal.new replicas.new.items; reply = result } }
     ensures at { StandIn journal.new replicas.new.items }

@@ -3,7 +3,7 @@ ghost use Rattle.ra_journal.specs.Entries.{worker_count, budget};
 ghost use Rattle.ra_journal.specs.Journals.{lots_in, entries_in};
 ghost use Rattle.ra_journal.specs.Legal.{Whole};
 ghost use Rattle.ra_worker.specs.Replicas.{worker_at, place_at};
-ghost use Rattle.ra_worker_core.specs.Turns.{StandsIn, StandIn, turn_in};
+ghost use Rattle.ra_worker_core.specs.Turns.{StandsInJournal, StandIn, turn_in};
 ghost use Rattle.ra_worker_play.specs.Rounds.{HaveAllMade, PlaysOn};
 
 use ra_draws::Lots;
@@ -80,10 +80,10 @@ fn take_turn<'a>(
 
 /// A replica takes in all entries that are new to it.
 fn catch_up_whole<'a>(journal: &Journal<'a>, replica: &mut Replica<'a>, batch: &mut Batch)
-    requires at { StandsIn journal.now replica.old }
+    requires at { StandsInJournal journal.now replica.old }
     ensures place { place_at replica.new ≡ length (entries_in journal.now) }
     ensures worker { worker_at replica.new ≡ worker_at replica.old }
-    ensures at { StandsIn journal.now replica.new }
+    ensures at { StandsInJournal journal.now replica.new }
 {
     let length = journal.len();
     let mut place = replica.place();

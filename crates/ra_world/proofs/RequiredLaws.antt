@@ -7,7 +7,7 @@ use Rattle.ra_model.specs.Numbers.{resource_count, requirement_of}
 use Rattle.ra_model.specs.Limits.{WellFormed}
 use Rattle.ra_moves.specs.declared.steps.Step.{Step}
 use Rattle.ra_moves.specs.Steps.{step_at, process_in}
-use Rattle.ra_world.specs.Required.{AreRequired, ReadTo}
+use Rattle.ra_world.specs.Required.{AreRequiredRows, ReadTo}
 
 -- the process of a step
 pub process_read : (steps : List Step) (j : ℕ) (s : Step) → s ≡ step_at steps j → s.process.0 ≡ process_in steps j
@@ -28,8 +28,8 @@ read_more i p j n x old mid before inside within is = record {
 
 -- the requirements of one more step are read
 pub required_next : (i : Tables) (steps : List Step) (j p : ℕ) (old new : List ℕ) → WellFormed i →
-    AreRequired i steps j old → p ≡ process_in steps j → ReadTo i p j (resource_count i) old new →
-    AreRequired i steps (j + 1) new
+    AreRequiredRows i steps j old → p ≡ process_in steps j → ReadTo i p j (resource_count i) old new →
+    AreRequiredRows i steps (j + 1) new
 required_next i steps j p old new limits before is read = record {
   each = λ k r below inside. ⊎_elim
       (λ (earlier : k < j). read.others k r (omega arith) (omega (arith, limits.few_resources))

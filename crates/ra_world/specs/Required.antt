@@ -7,7 +7,7 @@ use Rattle.ra_moves.specs.declared.steps.Step.{Step}
 use Rattle.ra_moves.specs.Steps.{process_in}
 
 -- row j has what the process of step j requires, for each of the first n steps
-pub record AreRequired (i : Tables) (steps : List Step) (n : ℕ) (table : List ℕ) : Type 0 where
+pub record AreRequiredRows (i : Tables) (steps : List Step) (n : ℕ) (table : List ℕ) : Type 0 where
   pub each : (j r : ℕ) → j < n → r < resource_count i
       → cell 20 table j r ≡ requirement_of i (process_in steps j) r
 

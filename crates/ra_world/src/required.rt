@@ -1,7 +1,7 @@
 ghost use Rattle.std.specs.Prelude.{◌≡◌, ℕ, ◌+◌, ◌*◌, ◌<◌, length};
 ghost use Rattle.ra_model.specs.Numbers.{resource_count, process_count};
 ghost use Rattle.ra_moves.specs.Steps.{process_in};
-ghost use Rattle.ra_world.specs.Required.{AreRequired, ReadTo};
+ghost use Rattle.ra_world.specs.Required.{AreRequiredRows, ReadTo};
 
 use ra_base::{Process, Resource, Steps};
 use ra_model::Instance;
@@ -18,7 +18,7 @@ pub fn requirements<L: Ledger>(
 )
     requires { (j : ℕ) → j < length mv.now.steps →
         process_in mv.now.steps j < process_count inst.now.tables }
-    ensures required { AreRequired inst.now.tables mv.now.steps
+    ensures required { AreRequiredRows inst.now.tables mv.now.steps
         (length mv.now.steps) required.new }
     ensures counted { steps.new ≡
         steps.old + length mv.now.steps * resource_count inst.now.tables }

@@ -19,8 +19,8 @@ module _ {V N O : Type 0} {g : Ghosts V N O} where
   NumberMayTake t n turns p = IsReady t p × (p.number ≡ n) × (turns ≤ p.left) × (grips_of p ≡ [])
 
   -- a pass after one turn, in which it neither locked nor unlocked a guard
-  abbrev pub HasTakenTurn : Turn V N O → Pass V N O g → Pass V N O g → Type 0
-  HasTakenTurn t p q =
+  abbrev pub HasTakenBareTurn : Turn V N O → Pass V N O g → Pass V N O g → Type 0
+  HasTakenBareTurn t p q =
       IsReady t q × (q.number ≡ p.number) × (q.left + 1 ≡ p.left) × (grips_of q ≡ grips_of p)
 
   -- a pass after one turn, with no guard locked

@@ -2,7 +2,7 @@
 ghost use Rattle.std.specs.Prelude.{◌≡◌, ℕ, ◌+◌, ◌<◌, ◌≤◌, ◌==◌, [], ◌∷◌, ◌++◌, length, MatchBool};
 ghost use Rattle.ra_turn.specs.Notes.{IsVersion, grip};
 ghost use Rattle.ra_turn.specs.Passes.{IsReady, guards_of, grips_of, seen_by};
-ghost use Rattle.test_turn.specs.Passing.{HasLetGo, HasTakenTurn, IsFree};
+ghost use Rattle.test_turn.specs.Passing.{HasLetGo, HasTakenBareTurn, IsFree};
 
 use ra_turn::{Hold, Pass, Story, Turn};
 use std::alloc::Global;
@@ -98,7 +98,7 @@ pub fn take_turn<R: Wait>(
     number: Option<u32>,
 ) -> Option<Vec<Line>>
     requires { IsReady turn.now pass.old × (0 < pass.old.left) }
-    ensures { HasTakenTurn turn.now pass.old pass.new }
+    ensures { HasTakenBareTurn turn.now pass.old pass.new }
 {
     let mut held = turn.take(rt, pass);
     let found = Vec::from_slice(alloc, held.value.lines.as_slice()).ok();
@@ -142,7 +142,7 @@ pub fn write_held<R: Wait>(
 pub fn write_line<R: Wait>(rt: &R, turn: &Turn<Pad>, pass: &mut Pass<Pad>, line: Line)
     requires pass { IsReady turn.now pass.old × (0 < pass.old.left) }
     requires line { (line.by ≡ pass.old.number) × (line.touched ≡ 0) }
-    ensures { HasTakenTurn turn.now pass.old pass.new }
+    ensures { HasTakenBareTurn turn.now pass.old pass.new }
 {
     let mut held = turn.take(rt, pass);
     write(&mut held.value, line);

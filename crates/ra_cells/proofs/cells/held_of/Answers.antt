@@ -1,6 +1,6 @@
 -- The part of the service.
 use Rattle.std.proofs.Common.{◌∙◌, ap₂, arith}
-use Rattle.ra_cells.specs.Held.{held}
+use Rattle.ra_cells.specs.Held.{labels_held}
 use Rattle.ra_cells.proofs.HeldLemmas.{held_le}
 use Rattle.ra_cells.proofs.MakingLemmas.{part_ordered, part_there, part_ascends, labels_few}
 use Rattle.ra_cells.proofs.cells.held_of.Goals as goal
@@ -37,7 +37,8 @@ held_in-requires-clause-ascends c = rw (c.start_at-start.ensures.value, c.start_
 
 pub returns-clause-count : goal.returns-clause-count
 returns-clause-count c = c.held_in.ensures.count
-    ∙ ap₂ (λ m n. held c.args.labels.now.items m n c.args.x) c.start_at-start.ensures.value c.start_at-end.ensures.value
+    ∙ ap₂ (λ m n. labels_held c.args.labels.now.items m n c.args.x) c.start_at-start.ensures.value
+    c.start_at-end.ensures.value
 
 pub returns-clause-within : goal.returns-clause-within
 returns-clause-within c =

@@ -2,7 +2,7 @@ use Rattle.std.proofs.Common.{sym, subst, arith}
 use Rattle.ra_model_read.specs.ModelText.{processes}
 use Rattle.ra_model_read.proofs.Steps.{gives_bind, gives_more, gives_start, gives_all, refuses_first, refuses_next}
 use Rattle.ra_model_read.proofs.Steps.{refuses_memory, refuses_step, refused_at_exit}
-use Rattle.ra_model_read.specs.Reading.{Refuses}
+use Rattle.ra_model_read.specs.Reading.{FormatRefuses}
 use Rattle.ra_model_read.proofs.Rows.{no_processes, all_processes}
 use Rattle.ra_model_read.proofs.processes.read_processes.Goals as goal
 
@@ -13,7 +13,8 @@ returns-in_err-count-clause-refuses g c =
 
 pub returns-in_err-tables-clause-refuses : goal.returns-in_err-tables-clause-refuses
 returns-in_err-tables-clause-refuses g c = refused_at_exit _ c.from_residual-in_err-tables.ensures
-    (subst (Refuses _ _ _) (sym c.in_err-tables.ensures.memory) (refuses_memory _ c.in_ok-count.ensures.gives.goes))
+    (subst (FormatRefuses _ _ _) (sym c.in_err-tables.ensures.memory)
+    (refuses_memory _ c.in_ok-count.ensures.gives.goes))
 
 pub loop-p-init : goal.loop-p-init
 loop-p-init g c = (

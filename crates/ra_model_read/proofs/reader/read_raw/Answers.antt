@@ -1,6 +1,6 @@
 use Rattle.std.proofs.Common.{refl, ap, ap₂}
 use Rattle.ra_model_read.proofs.Rows.{counted}
-use Rattle.ra_model_read.specs.Lists.{of_resource, of_service}
+use Rattle.ra_model_read.specs.Lists.{of_resource, service_numbers_of}
 use Rattle.ra_model_read.specs.ModelText.{model, machines, rest}
 use Rattle.ra_model_read.proofs.Steps.{gives_bind, gives_then, gives_same, refuses_first, refuses_next, refuses_same}
 use Rattle.ra_model_read.proofs.Steps.{refused_at_exit}
@@ -38,7 +38,7 @@ returns-in_err-rest-clause-refuses g c = refused_at_exit _ c.from_residual-in_er
     (refuses_next _ c.in_ok-services.ensures.gives
     (refuses_first _
     (refuses_same
-    (ap₂ rest (counted of_service _ _ c.len-service_count.ensures.value)
+    (ap₂ rest (counted service_numbers_of _ _ c.len-service_count.ensures.value)
     (counted of_resource _ _ c.len-resource_count.ensures.value)) c.in_err-rest.ensures.refuses)))))
 
 pub returns-clause-gives : goal.returns-clause-gives
@@ -50,7 +50,7 @@ returns-clause-gives g c =
     c.in_ok-machines.ensures.gives)
     (gives_bind _ c.in_ok-services.ensures.gives
     (gives_then _
-    (gives_same (ap₂ rest (counted of_service _ _ c.len-service_count.ensures.value)
+    (gives_same (ap₂ rest (counted service_numbers_of _ _ c.len-service_count.ensures.value)
     (counted of_resource _ _ c.len-resource_count.ensures.value)) c.in_ok-rest.ensures.gives) refl)))
 
 pub returns-clause-well_formed : goal.returns-clause-well_formed

@@ -1,8 +1,8 @@
 use Rattle.ra_model.specs.Numbers.{requirement_of}
-use Rattle.ra_report_text.specs.Gathering.{Adds}
+use Rattle.ra_report_text.specs.Gathering.{AddsText}
 use Rattle.ra_model_text.specs.ModelLines.{spaced}
 use Rattle.ra_model_text.proofs.lines.add_requirements.Given as goal
 
 abbrev pub invariant-loop-r : goal.invariant-loop-r
 invariant-loop-r g l =
-    Adds g.O.Sink.taken g.O.Sink.faults l.fn.text l.text (spaced l.r (requirement_of l.inst.tables l.p.0))
+    AddsText g.O.Sink.taken g.O.Sink.faults l.fn.text l.text (spaced l.r (requirement_of l.inst.tables l.p.0))

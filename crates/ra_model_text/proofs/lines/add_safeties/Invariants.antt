@@ -1,7 +1,8 @@
 use Rattle.ra_model.specs.Numbers.{safety_of}
-use Rattle.ra_report_text.specs.Gathering.{Adds}
+use Rattle.ra_report_text.specs.Gathering.{AddsText}
 use Rattle.ra_model_text.specs.ModelLines.{spaced}
 use Rattle.ra_model_text.proofs.lines.add_safeties.Given as goal
 
 abbrev pub invariant-loop-r : goal.invariant-loop-r
-invariant-loop-r g l = Adds g.O.Sink.taken g.O.Sink.faults l.fn.text l.text (spaced l.r (safety_of l.inst.tables l.m.0))
+invariant-loop-r g l =
+    AddsText g.O.Sink.taken g.O.Sink.faults l.fn.text l.text (spaced l.r (safety_of l.inst.tables l.m.0))

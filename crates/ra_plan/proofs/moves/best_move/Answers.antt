@@ -6,7 +6,7 @@ use Rattle.ra_model.proofs.BoundLemmas.{objective_under}
 use Rattle.ra_moves.specs.MoveSteps.{step_count}
 use Rattle.ra_moves.specs.Options.{kind_of, option_count}
 use Rattle.ra_weigh_shift.specs.Arriving.{cost_now}
-use Rattle.ra_plan.specs.Choosing.{bound_of}
+use Rattle.ra_plan.specs.Choosing.{cost_to_beat}
 use Rattle.ra_plan.specs.Deciding.{IsMoveBelow}
 use Rattle.ra_plan.proofs.OptionSizes.{option_length}
 use Rattle.ra_plan.proofs.Bests.{option_in}
@@ -28,7 +28,7 @@ loop-option-preserved g c =
     let kept : c.parts.result.total ≡ cost_now world = ap (λ (x : Parts). x.total) c.parts.ensures.value in
     let most : c.parts.result.total + c.from.result + 1 ≡ cost_now world + c.args.allowed + 1 =
     omega (arith, kept, c.from.ensures) in
-    let bound = c.bound.ensures ∙ ap (bound_of c.loop-option.best.cost) most in
+    let bound = c.bound.ensures ∙ ap (cost_to_beat c.loop-option.best.cost) most in
     record {
       best = c.or_below-best.ensures world _ _ c.args.allowed _ c.loop-option.invariant.best
           (option_in world _ _ _ _ _ machines option)

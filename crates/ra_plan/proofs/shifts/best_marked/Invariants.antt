@@ -3,14 +3,14 @@ use Rattle.std.proofs.Common.{◌≡◌, ℕ, ◌+◌, ◌-◌, ◌<◌, ◌≤�
 use Rattle.std.specs.Int.{bit_at}
 use Rattle.ra_base.specs.declared.causes.Drawing.TheVariants.{Two}
 use Rattle.ra_weigh_shift.specs.Arriving.{cost_now}
-use Rattle.ra_plan.specs.Choosing.{IsBest, IsWindowOf, bound_of}
+use Rattle.ra_plan.specs.Choosing.{IsBest, IsWindowOf, cost_to_beat}
 use Rattle.ra_plan.proofs.shifts.best_marked.Given as goal
 
 abbrev pub invariant-loop-option : goal.invariant-loop-option
 invariant-loop-option l = record {
   within : l.option ≤ l.count;
   set : l.option < l.count → bit_at l.all l.option ≡ 1;
-  bound : bound_of l.best.cost l.most ≤ l.most;
+  bound : cost_to_beat l.best.cost l.most ≤ l.most;
   best : (x : List ℕ) (allowed : ℕ) → l.most ≡ cost_now l.world + allowed + 1 →
       IsWindowOf l.world x l.shift.process.0 l.first → IsBest l.world x Two allowed l.option l.best;
 }

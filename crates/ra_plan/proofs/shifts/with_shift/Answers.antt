@@ -1,7 +1,7 @@
 -- The cost below the bound of the best so far.
 use Rattle.std.proofs.Common.{◌∙◌, ap, subst, arith}
 use Rattle.ra_weigh_shift.specs.Arriving.{IsCostBelow}
-use Rattle.ra_plan.specs.Choosing.{bound_of}
+use Rattle.ra_plan.specs.Choosing.{cost_to_beat}
 use Rattle.ra_plan.proofs.shifts.with_shift.Goals as goal
 
 pub cost_below-requires-clause-machine : goal.cost_below-requires-clause-machine
@@ -16,4 +16,4 @@ returns c = λ x d allowed most is same.
     let below = rw c.requires.world at c.cost_below.ensures in
     c.or_found.ensures.best world x d allowed c.args.shift.now.process.0 c.args.to.0 is same
     (subst (λ b. IsCostBelow world c.args.shift.now.process.0 c.args.to.0 b c.cost_below.result)
-    (c.bound.ensures ∙ ap (bound_of c.args.best.cost) most) below)
+    (c.bound.ensures ∙ ap (cost_to_beat c.args.best.cost) most) below)

@@ -2,7 +2,7 @@
 use Rattle.std.proofs.Common.{◌∙◌, ap, subst, arith}
 use Rattle.ra_base.specs.declared.causes.Drawing.TheVariants.{Two}
 use Rattle.ra_weigh_shift.specs.Arriving.{IsCostBelow}
-use Rattle.ra_plan.specs.Choosing.{bound_of}
+use Rattle.ra_plan.specs.Choosing.{cost_to_beat}
 use Rattle.ra_plan.proofs.shifts.with_sum.Goals as goal
 
 pub cost_summed-requires-clause-machine : goal.cost_summed-requires-clause-machine
@@ -20,7 +20,7 @@ returns-clause-best c = λ x allowed most is same.
     let below = rw c.requires.world at c.cost_summed.ensures in
     c.or_found.ensures.best world x Two allowed c.args.shift.now.process.0 c.args.to.0 is same
     (subst (λ b. IsCostBelow world c.args.shift.now.process.0 c.args.to.0 b c.cost_summed.result)
-    (c.bound.ensures ∙ ap (bound_of c.args.best.cost) most) below)
+    (c.bound.ensures ∙ ap (cost_to_beat c.args.best.cost) most) below)
 
 pub returns-clause-bound : goal.returns-clause-bound
 returns-clause-bound c =

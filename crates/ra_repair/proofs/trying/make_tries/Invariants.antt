@@ -1,12 +1,12 @@
 -- The tries so far, and the words that were handed out for them.
 use Rattle.std.proofs.Common.{◌≡◌, length}
-use Rattle.ra_repair.specs.Keeping.{Keeps}
+use Rattle.ra_repair.specs.Keeping.{KeepsPenalty}
 use Rattle.ra_repair.specs.Runs.{repaired_by}
 use Rattle.ra_repair.proofs.trying.make_tries.Given as goal
 
 abbrev pub invariant-loop-k : goal.invariant-loop-k
 invariant-loop-k g l = record {
-  keeps : Keeps l.kept l.inst.tables l.start.items;
+  keeps : KeepsPenalty l.kept l.inst.tables l.start.items;
   run : (record {
     assignment = l.kept.assignment.items;
     tries = l.tries.items;

@@ -1,5 +1,5 @@
 use Rattle.std.proofs.Common.{◌≡◌, length, arith, sym, ◌∙◌, rules}
-use Rattle.ra_report_text.specs.Gathering.{Adds}
+use Rattle.ra_report_text.specs.Gathering.{AddsText}
 use Rattle.ra_report_text.specs.Pieces.{joined}
 use Rattle.ra_report.specs.JournalTexts.{entries_text}
 use Rattle.ra_report_text.proofs.GatheringLemmas.{adds_none, adds_more, adds_failed}

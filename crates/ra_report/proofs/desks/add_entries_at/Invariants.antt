@@ -1,12 +1,12 @@
 use Rattle.std.proofs.Common.{◌≤◌, ◌-◌, length}
-use Rattle.ra_report_text.specs.Gathering.{Adds}
+use Rattle.ra_report_text.specs.Gathering.{AddsText}
 use Rattle.ra_report.specs.JournalTexts.{entries_text}
 use Rattle.ra_report.proofs.desks.add_entries_at.Given as goal
 
 abbrev pub invariant-loop-next : goal.invariant-loop-next
 invariant-loop-next g l = record {
   within : l.next ≤ length l.entries.items;
-  added : Adds g.O.Sink.taken g.O.Sink.faults l.initial.text l.text (entries_text l.entries.items l.next);
+  added : AddsText g.O.Sink.taken g.O.Sink.faults l.initial.text l.text (entries_text l.entries.items l.next);
 }
 
 abbrev pub decreases-loop-next : goal.decreases-loop-next

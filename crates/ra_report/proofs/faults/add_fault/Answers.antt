@@ -1,5 +1,5 @@
 use Rattle.std.proofs.Common.{◌≡◌, ℕ, List, [], ◌∷◌, ◌++◌, append_assoc, refl, ◌∙◌, subst}
-use Rattle.ra_report_text.specs.Gathering.{Adds}
+use Rattle.ra_report_text.specs.Gathering.{AddsText}
 use Rattle.ra_report_text.specs.Pieces.{joined}
 use Rattle.ra_report_text.specs.Texts.{line_end}
 use Rattle.ra_report_text.specs.Notes.{note_text}
@@ -13,7 +13,7 @@ returns g c =
     let front = joined (line.words.now ∷ line.name.now ∷ line.behind.now ∷ []) in
     let note = note_text line.note in
     let same : front ++ (note ++ line_end) ≡ line_said line = simp append_assoc refl in
-    subst (λ (t : List ℕ). Adds g.O.Sink.taken g.O.Sink.faults c.args.text.now c.add.new.self t)
+    subst (λ (t : List ℕ). AddsText g.O.Sink.taken g.O.Sink.faults c.args.text.now c.add.new.self t)
     (same ∙ c.fault_line-line.ensures)
     (adds_more g.O.Sink.taken g.O.Sink.faults c.args.text.now c.add_pieces.new.text c.add.new.self front
     (note ++ line_end) c.add_pieces.ensures

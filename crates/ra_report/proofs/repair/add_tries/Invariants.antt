@@ -1,8 +1,8 @@
 -- The lines of the tries so far.
-use Rattle.ra_report_text.specs.Gathering.{Adds}
+use Rattle.ra_report_text.specs.Gathering.{AddsText}
 use Rattle.ra_report.specs.RepairTexts.{tries_text}
 use Rattle.ra_report.proofs.repair.add_tries.Given as goal
 
 abbrev pub invariant-loop-place : goal.invariant-loop-place
 invariant-loop-place g l =
-    Adds g.O.Sink.taken g.O.Sink.faults l.initial.text l.text (tries_text l.repair.tries.items l.place)
+    AddsText g.O.Sink.taken g.O.Sink.faults l.initial.text l.text (tries_text l.repair.tries.items l.place)

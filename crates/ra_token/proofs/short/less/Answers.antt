@@ -1,5 +1,5 @@
-use Rattle.ra_token.proofs.Lanes.{HasLanes-less}
+use Rattle.ra_token.proofs.Lanes.{HasSixtyFourLanes-less}
 use Rattle.ra_token.proofs.short.less.Goals as goal
 
 pub returns : goal.returns
-returns c = HasLanes-less c.args.left c.args.right c.fits-left.0 c.fits-right.0 c.fits-left.1 c.fits-right.1
+returns c = HasSixtyFourLanes-less c.args.left c.args.right c.fits-left.0 c.fits-right.0 c.fits-left.1 c.fits-right.1

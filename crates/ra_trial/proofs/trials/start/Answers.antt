@@ -1,6 +1,6 @@
 use Rattle.std.proofs.Common.{refl, sym, arith, ap, ◌∙◌, length, length-append}
 use Rattle.ra_base.specs.declared.ids.Machine.{Machine}
-use Rattle.ra_trial.specs.Numbers.{start_of}
+use Rattle.ra_trial.specs.Numbers.{trial_start_of}
 use Rattle.ra_trial.specs.Trials.{start_machine}
 use Rattle.ra_trial.proofs.LineLemmas.{listed_none, listed_pushed}
 use Rattle.ra_trial.proofs.trials.start.Goals as goal
@@ -13,7 +13,7 @@ loop-p-init c = record {
 }
 
 pub loop-p-preserved : goal.loop-p-preserved
-unfolding start_machine start_of
+unfolding start_machine trial_start_of
 loop-p-preserved c = record {
   items = listed_pushed _ _ _ _ _ c.loop-p.invariant.items refl c.push.ensures.items;
   many = omega (arith, ap length c.push.ensures.items, length-append {A = Machine});

@@ -1,5 +1,5 @@
 use Rattle.std.proofs.Common.{◌≡◌, ◌≤◌, length, vec_capacity}
-use Rattle.ra_turn.specs.Passes.{EachAt, IsFresh, IsMaker}
+use Rattle.ra_turn.specs.Passes.{EachAt, IsNewPass, IsMaker}
 use Rattle.ra_turn.proofs.make.cut_all.Given as goal
 
 abbrev pub invariant-loop-number : goal.invariant-loop-number
@@ -7,5 +7,5 @@ invariant-loop-number g l = record {
   maker : IsMaker g.V.Story.opening l.turn l.turns l.number l.maker;
   count : length l.all.items ≡ l.number;
   room : l.passes ≤ vec_capacity l.all;
-  fresh : EachAt (IsFresh l.turn l.turns) l.all.items;
+  fresh : EachAt (IsNewPass l.turn l.turns) l.all.items;
 }

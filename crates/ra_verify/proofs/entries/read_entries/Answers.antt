@@ -1,7 +1,7 @@
 use Rattle.std.proofs.Common.{◌+◌, Ok, true, List, length, refl, ap, ◌∙◌, le_refl, le_trans, arith}
 use Rattle.std.proofs.lemmas.List.{length_push}
 use Rattle.ra_journal.specs.declared.entries.Entry.{Entry}
-use Rattle.ra_verify.specs.Checking.{entries_in}
+use Rattle.ra_verify.specs.Checking.{checker_entries}
 use Rattle.ra_verify.specs.Reading.{AreLines, AreRead}
 use Rattle.ra_verify.proofs.CheckLemmas.{same_journal}
 use Rattle.ra_verify.proofs.EntryLemmas.{told_map, read_head_only}
@@ -51,7 +51,7 @@ loop-preserved g c =
         c.in_ok-read_entry.ensures.near,
         l.invariant.near,
         ap (λ (x : List Entry). length x) more.taken.entries,
-        length_push (entries_in l.checker) more.entry,
+        length_push (checker_entries l.checker) more.entry,
       );
       room = c.in_ok-read_entry.ensures.room ∙ l.invariant.room;
       ready = more.taken.ready;
@@ -63,6 +63,6 @@ loop-preserved g c =
       read = rw (run.instance, run.initial, run.lots)
           (told_map (g.F.Files.held c.args.files.now c.args.reader.now.name) _
           (λ bytes. AreRead j.inst.now.tables j.a0.now.items j.lots.now bytes c.read_entry.new.reader.place
-          (entries_in c.read_entry.new.checker)) (λ bytes said. said (ap Ok c.if-branch.true))
+          (checker_entries c.read_entry.new.checker)) (λ bytes said. said (ap Ok c.if-branch.true))
           (rw told at e.read));
     }

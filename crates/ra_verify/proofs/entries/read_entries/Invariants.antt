@@ -2,7 +2,7 @@
 use Rattle.std.proofs.Common.{◌≡◌, ℕ, ◌+◌, ◌-◌, ◌*◌, ◌≤◌, List, length, IfSome}
 use Rattle.ra_report_lines.specs.Reading.{Reads}
 use Rattle.ra_journal.specs.Entries.{proposal_count}
-use Rattle.ra_verify.specs.Checking.{entries_in, IsOpen, IsSameRun}
+use Rattle.ra_verify.specs.Checking.{checker_entries, IsOpen, IsSameRun}
 use Rattle.ra_verify.specs.Reading.{AreRead}
 use Rattle.ra_verify.proofs.entries.read_entries.Given as goal
 
@@ -12,14 +12,14 @@ invariant-loop g l = record {
   name : l.reader.name ≡ l.fn.reader.name;
   kept : (other : List ℕ) → g.F.Files.held l.files other ≡ g.F.Files.held l.fn.files other;
   never_fell : (other : List ℕ) → g.F.Files.faults l.fn.files other ≤ g.F.Files.faults l.files other;
-  near : l.reader.place ≤ 600586 + 293 * length (entries_in l.checker);
+  near : l.reader.place ≤ 600586 + 293 * length (checker_entries l.checker);
   room : l.line.room ≡ 293;
   ready : IsOpen l.checker;
   same : IsSameRun l.fn.checker l.checker;
   read : IfSome (g.F.Files.held l.fn.files l.fn.reader.name)
       (λ bytes. AreRead l.checker.journal.inst.now.tables l.checker.journal.a0.now.items l.checker.journal.lots.now
-      bytes l.reader.place (entries_in l.checker));
+      bytes l.reader.place (checker_entries l.checker));
 }
 
 abbrev pub decreases-loop : goal.decreases-loop
-decreases-loop g l = proposal_count l.checker.journal.lots.now - length (entries_in l.checker)
+decreases-loop g l = proposal_count l.checker.journal.lots.now - length (checker_entries l.checker)

@@ -2,7 +2,7 @@ use Rattle.std.proofs.Common.{◌≡◌, ◌+◌, Ok, Err, true, false, length, 
 use Rattle.ra_journal.specs.declared.entries.Entry.{Entry}
 use Rattle.ra_journal.specs.Legal.{Legal}
 use Rattle.ra_report.specs.JournalTexts.{entry_line}
-use Rattle.ra_verify.specs.Checking.{entries_in, MayFollow}
+use Rattle.ra_verify.specs.Checking.{checker_entries, MayFollow}
 use Rattle.ra_verify.specs.declared.faults.VerifyFault.{VerifyFault}
 use Rattle.ra_verify.specs.declared.faults.VerifyFault.TheVariants as fault
 use Rattle.ra_verify.proofs.FollowLemmas.{few_entries}
@@ -34,7 +34,7 @@ returns-in-Line-clause-entry g c =
       more = λ is. let has = (taken.right (ok_is c.take_entry.result true is)).1 in
           record { entry = has.entry; taken = has.taken };
       read = told_taken told j.inst.now.tables j.a0.now.items j.lots.now c.args.reader.now.place c.next.new.self.place
-          292 j.book.entries.items (entries_in c.take_entry.new.checker) c.as_slice.result.now c.in_ok-next.field-0
+          292 j.book.entries.items (checker_entries c.take_entry.new.checker) c.as_slice.result.now c.in_ok-next.field-0
           c.in-Line.is (λ is. e.long (ap Ok is))
           (λ is.
           let has = (taken.right (ok_is c.take_entry.result true is)).1 in
@@ -52,11 +52,11 @@ returns-in-Line-clause-entry g c =
           (omega arith)
           (λ n is.
           let why = subst (λ r.
-          IfErr r (λ (w : VerifyFault). (w ≡ fault.Wrong (11 + length (entries_in c.args.checker.now)))
+          IfErr r (λ (w : VerifyFault). (w ≡ fault.Wrong (11 + length (checker_entries c.args.checker.now)))
           × ((x : Entry) → MayFollow c.args.checker.now x →
-          c.as_slice.result.now ≡ entry_line (length (entries_in c.args.checker.now)) x → ⊥))) is
+          c.as_slice.result.now ≡ entry_line (length (checker_entries c.args.checker.now)) x → ⊥))) is
           taken.wrong in (
-            same_fault n (11 + length (entries_in c.args.checker.now)) why.0,
+            same_fault n (11 + length (checker_entries c.args.checker.now)) why.0,
             record { wrong = why.1; short = taken.short },
           ))
           c.requires.read e.next given;
@@ -80,7 +80,8 @@ returns-in-Last-clause-entry g c =
       end = over_all told (λ bytes is. absurd (cc));
       wrong = told_last told j.inst.now.tables j.a0.now.items j.lots.now c.args.reader.now.place c.next.new.self.place
           292 j.book.entries.items c.in_ok-next.field-0 c.in-Last.is
-          (λ n is. sym (same_wrong (11 + length (entries_in c.args.checker.now)) n (sym (ap Err c.wrong_entry.ensures)
+          (λ n is. sym (same_wrong (11 + length (checker_entries c.args.checker.now)) n
+          (sym (ap Err c.wrong_entry.ensures)
           ∙ is)))
           c.requires.read e.next;
       fault = λ is. let at = c.wrong_entry.ensures in absurd (cc);

@@ -2,11 +2,11 @@
 use Rattle.std.proofs.Common.{◌∙◌, ◌+◌, ℕ, ap₂, arith, slice_index}
 use Rattle.std.proofs.lemmas.List.{get_or-take}
 use Rattle.ra_model.proofs.MachineLemmas.{row_load_same, row_balance_same}
-use Rattle.ra_weigh_shift.specs.Sharing.{row_cost}
+use Rattle.ra_weigh_shift.specs.Sharing.{row_cost_with}
 use Rattle.ra_weigh_shift.proofs.costs.cost_of_row.Goals as goal
 
 pub returns-clause-value : goal.returns-clause-value
-unfolding row_cost
+unfolding row_cost_with
 returns-clause-value c =
     let i = c.args.inst.now.tables in
     let row = c.args.row.now in

@@ -1,10 +1,10 @@
 use Rattle.std.proofs.Common.{arith, refl}
-use Rattle.ra_words.specs.Numbers.{worth}
+use Rattle.ra_words.specs.Numbers.{decimal_worth}
 use Rattle.ra_words.proofs.NumberLaws.{one_more}
 use Rattle.ra_words.proofs.numbers.worth.Goals as goal
 
 pub loop-byte-init : goal.loop-byte-init
-unfolding worth
+unfolding decimal_worth
 loop-byte-init c = refl
 
 pub overflow_mul-value : goal.overflow_mul-value

@@ -1,7 +1,7 @@
 use Rattle.std.proofs.Common.{◌≡◌, suc, ◌∷◌, [], ◌++◌, map, length, refl, sym, ap, ◌∙◌, append-nil, arith}
 use Rattle.std.proofs.lemmas.List.Elements.{All-push}
 use Rattle.ra_worker_crew.specs.declared.worker.Worker.{Worker}
-use Rattle.ra_worker_crew.specs.Crews.{IsFresh}
+use Rattle.ra_worker_crew.specs.Crews.{HasNotBegun}
 use Rattle.ra_worker_crew.proofs.Runs.{nothing_left, passed_over, first_out}
 use Rattle.ra_worker_crew.proofs.crew.make_workers.Goals as goal
 
@@ -63,7 +63,7 @@ passes-preserved c =
         c.remove-pass.ensures.capacity,
       );
       fresh = rw c.push_reserved.ensures.items
-          (All-push (IsFresh c.args.inst.now.tables c.args.a0.now.items c.args.lots.now) at.workers.items
+          (All-push (HasNotBegun c.args.inst.now.tables c.args.a0.now.items c.args.lots.now) at.workers.items
           c.in_ok-worker.worker at.invariant.fresh c.in_ok-worker.ensures.fresh);
     }
 

@@ -2,7 +2,7 @@
 use Rattle.std.proofs.Common.{◌≡◌, ◌+◌, ◌<◌, ◌≤◌, ◌++◌, All, length, map, vec_capacity}
 use Rattle.ra_journal.specs.Entries.{worker_count}
 use Rattle.ra_worker_crew.specs.declared.worker.Worker.{Worker}
-use Rattle.ra_worker_crew.specs.Crews.{IsFresh}
+use Rattle.ra_worker_crew.specs.Crews.{HasNotBegun}
 use Rattle.ra_worker_crew.proofs.crew.make_workers.Given as goal
 
 abbrev pub invariant-passes : goal.invariant-passes
@@ -11,7 +11,7 @@ invariant-passes l = record {
   exist : All (λ pass. pass.number < worker_count l.lots) l.passes.items;
   room : length l.workers.items + length l.passes.items ≤ vec_capacity l.workers;
   kept : length l.workers.items + length l.passes.items ≤ vec_capacity l.passes;
-  fresh : All (IsFresh l.inst.tables l.a0.items l.lots) l.workers.items;
+  fresh : All (HasNotBegun l.inst.tables l.a0.items l.lots) l.workers.items;
 }
 
 abbrev pub decreases-passes : goal.decreases-passes

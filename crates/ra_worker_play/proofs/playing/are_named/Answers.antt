@@ -1,6 +1,6 @@
 use Rattle.std.proofs.Common.{◌≡◌, ◌<◌, ◌≤◌, length, ap, ◌∙◌, arith}
 use Rattle.ra_journal.specs.Entries.{worker_count}
-use Rattle.ra_worker_core.specs.Core.{worker_of, event_at}
+use Rattle.ra_worker_core.specs.Core.{worker_of_event, event_at}
 use Rattle.ra_worker_play.proofs.PlayLemmas.{named_more}
 use Rattle.ra_worker_play.proofs.playing.are_named.Goals as goal
 
@@ -11,7 +11,7 @@ returns-then-worker-len-clause-only c =
     (omega (
       arith,
       named.each c.loop-n.n (omega (arith, c.loop-n-test.true, c.len-n-end.ensures.value)),
-      ap worker_of c.event_of-event.ensures,
+      ap worker_of_event c.event_of-event.ensures,
       c.worker.ensures,
       c.len.ensures.value,
       c.if-worker-len.true,

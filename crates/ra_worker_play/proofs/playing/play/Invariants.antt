@@ -1,6 +1,6 @@
 -- The core after the events so far, and the replies to them.
 use Rattle.std.proofs.Common.{◌≡◌, ◌++◌}
-use Rattle.ra_worker_core.specs.Core.{core_after, replies_to}
+use Rattle.ra_worker_core.specs.Core.{core_after, core_replies_to}
 use Rattle.ra_worker_core.specs.Turns.{StandIn, core_in, IsOverSame}
 use Rattle.ra_worker_play.proofs.playing.play.Given as goal
 
@@ -10,7 +10,7 @@ invariant-loop-n l =
     record {
       core : core_in l.journal l.replicas.items ≡ core_after j.inst.now.tables j.a0.now.items j.lots.now
           (core_in j l.fn.replicas.items) l.events.items l.n;
-      replies : l.replies.items ≡ l.fn.replies.items ++ replies_to j.inst.now.tables j.a0.now.items j.lots.now
+      replies : l.replies.items ≡ l.fn.replies.items ++ core_replies_to j.inst.now.tables j.a0.now.items j.lots.now
           (core_in j l.fn.replicas.items) l.events.items l.n;
       room : l.replies.room ≡ l.fn.replies.room;
       at : StandIn l.journal l.replicas.items;

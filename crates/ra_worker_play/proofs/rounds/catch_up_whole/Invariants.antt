@@ -1,13 +1,13 @@
 -- The replica is at a state of the journal, and its place is known.
 use Rattle.std.proofs.Common.{◌≡◌, ◌-◌}
-use Rattle.ra_worker_core.specs.Turns.{StandsIn}
+use Rattle.ra_worker_core.specs.Turns.{StandsInJournal}
 use Rattle.ra_worker_play.proofs.rounds.catch_up_whole.Given as goal
 
 abbrev pub invariant-loop-place : goal.invariant-loop-place
 invariant-loop-place l = record {
   place : l.replica.place ≡ l.place;
   worker : l.replica.proposals.worker ≡ l.fn.replica.proposals.worker;
-  at : StandsIn l.journal l.replica;
+  at : StandsInJournal l.journal l.replica;
 }
 
 abbrev pub decreases-loop-place : goal.decreases-loop-place

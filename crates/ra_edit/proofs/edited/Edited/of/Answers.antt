@@ -4,7 +4,7 @@ use Rattle.ra_model.specs.Numbers.{machine_count, closed_at}
 use Rattle.ra_model.specs.Numbers.{with_processes as processes_replaced}
 use Rattle.ra_model.specs.declared.raw.Tables.{Tables}
 use Rattle.ra_edit.specs.declared.edited.Left.{Left}
-use Rattle.ra_edit.specs.Drafts.{with_processes, instance_of}
+use Rattle.ra_edit.specs.Drafts.{with_process_rows, instance_of}
 use Rattle.ra_edit.specs.Leaving.{left_in}
 use Rattle.ra_edit.specs.SameLists.{AreSameLists}
 use Rattle.ra_edit.proofs.DraftLaws.{same_feasible}
@@ -13,7 +13,7 @@ use Rattle.ra_edit.proofs.edited.Edited.of.Goals as goal
 
 same_lists : (i : Tables) (l : Left) →
     AreSameLists (instance_of (left_in i l)) (processes_replaced i l.rows l.requirements)
-unfolding with_processes closed_at machine_count
+unfolding with_process_rows closed_at machine_count
 same_lists i l = record {
   lists = record {
     resources = refl;

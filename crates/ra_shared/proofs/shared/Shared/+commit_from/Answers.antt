@@ -7,7 +7,7 @@ use Rattle.ra_guards.specs.Order.{IsKnown, guard_at}
 use Rattle.ra_journal.specs.declared.entries.Entry.{Entry}
 use Rattle.ra_turn.specs.declared.sight.Grip.{Grip}
 use Rattle.ra_turn.specs.Notes.{grip, touching, OnlyBy, IsVersion}
-use Rattle.ra_turn.specs.Passes.{seen_by, made_by, grips_of, news_of}
+use Rattle.ra_turn.specs.Passes.{seen_by, notes_made_by, grips_of, news_of}
 use Rattle.ra_shared.specs.Books.{entry_touches, KnowsOwn}
 use Rattle.ra_shared.specs.Holding.{number_at, then_version}
 use Rattle.ra_shared.specs.Shares.{start_of}
@@ -100,8 +100,8 @@ release-requires-clause-grip g t c =
     c.number_of-guard.ensures in
     let holds = holds_next s plan c.args.guards.now c.args.k p c.requires.may c.requires.guards c.requires.held _
     c.in-Held.version q number inside pass.0 pass.1 pass.2 gripped in
-    let own : KnowsOwn q.number (seen_by q) (made_by q) =
-    subst (λ (w : ℕ). KnowsOwn w (seen_by q) (made_by q)) q.numbered q.owned in
+    let own : KnowsOwn q.number (seen_by q) (notes_made_by q) =
+    subst (λ (w : ℕ). KnowsOwn w (seen_by q) (notes_made_by q)) q.numbered q.owned in
     let longer = longer_back s plan p q r r c.commit_from-reply.result
     own holds.may.commit e.some e.none in (
       c.in-Held.version,
@@ -130,8 +130,8 @@ release-requires-clause-version g t c =
     pass.0 pass.1 pass.2 gripped in
     let has = still_held s plan guards c.args.k p c.number_of-guard.result v q r c.commit_from-reply.result
     gripped.grips e.some e.none in
-    let own : KnowsOwn q.number (seen_by q) (made_by q) =
-    subst (λ (w : ℕ). KnowsOwn w (seen_by q) (made_by q)) q.numbered q.owned in
+    let own : KnowsOwn q.number (seen_by q) (notes_made_by q) =
+    subst (λ (w : ℕ). KnowsOwn w (seen_by q) (notes_made_by q)) q.numbered q.owned in
     let before : IsVersion (touching entry_touches o (number_at o.inst.tables guards c.args.k)) (seen_by q) v =
     subst (λ (m : ℕ). IsVersion (touching entry_touches o m) (seen_by q) v) number (gripped.version holds.reached) in
     let there = version_back s plan p q r r (guard_at guards c.args.k) v

@@ -8,7 +8,7 @@ use Rattle.ra_turn.specs.declared.sight.Grip.{Grip}
 use Rattle.ra_turn.specs.Notes.{grip}
 use Rattle.ra_shared.specs.declared.books.Opening.{Opening}
 use Rattle.ra_shared.specs.Books.{opening_of_journal}
-use Rattle.ra_shared.specs.Numbers.{number_of}
+use Rattle.ra_shared.specs.Numbers.{number_of_guard}
 use Rattle.ra_shared.specs.Shares.{start_of}
 use Rattle.ra_shared.proofs.Known.{by_guards, of_given}
 use Rattle.ra_shared.proofs.Turned.{IsTurned, turned_by, turned_commit, turned_held, turned_gives, turned_refused}
@@ -111,13 +111,13 @@ give-requires-clause-notes g c =
     q.seat.me.0.own.seen c.commit_with-reply.new.self.book.entries.items c.args.plan.now q.seat.me.0.grips opened
     took.pass.1.2 c.number-worker.ensures seen j.start j.kept.legal commit refused
     c.commit_with-reply.ensures.journal)
-    (λ newer. let told : Contains q.seat.me.0.news (grip (number_of o.inst.tables newer.guard) newer.version) =
-    subst (λ (ks : List Grip). Contains ks (grip (number_of o.inst.tables newer.guard) newer.version))
+    (λ newer. let told : Contains q.seat.me.0.news (grip (number_of_guard o.inst.tables newer.guard) newer.version) =
+    subst (λ (ks : List Grip). Contains ks (grip (number_of_guard o.inst.tables newer.guard) newer.version))
     (sym took.guards.0.1) newer.told in
     inl (turned_stale o (opening_of_journal j) p.number c.number-worker.result j.book.entries.items q.seat.me.0.own.seen
     c.commit_with-reply.new.self.book.entries.items c.args.plan.now newer.guard newer.version opened
     c.number-worker.ensures seen j.start j.kept.legal commit newer.written newer.above
-    (took.guards.2 (number_of o.inst.tables newer.guard) newer.version told)
+    (took.guards.2 (number_of_guard o.inst.tables newer.guard) newer.version told)
     c.commit_with-reply.ensures.journal))
     free)
 

@@ -1,15 +1,15 @@
 -- The locations of the ends, each once.
 use Rattle.std.proofs.Common.{◌≡◌, ◌+◌, length, arith}
 use Rattle.ra_moves.specs.Values.{end_count}
-use Rattle.ra_weigh_causes.specs.Marks.{held_in, end_location}
+use Rattle.ra_weigh_causes.specs.Marks.{location_holds, end_location}
 use Rattle.ra_weigh_causes.specs.Trials.{tables_of, initial_of, steps_of, before_of, after_of}
 use Rattle.ra_weigh_causes.proofs.LocationLemmas.{held_none, held_more, located_enough, located}
 use Rattle.ra_weigh_causes.proofs.trial.Trial.locations_after.Goals as goal
 
 pub loop-j-init : goal.loop-j-init
 loop-j-init c = held_none (end_location (tables_of c.args.self.now) (steps_of c.args.self.now))
-    (held_in (tables_of c.args.self.now) (before_of c.args.self.now) c.args.s.0)
-    (held_in (tables_of c.args.self.now) (after_of c.args.self.now) c.args.s.0)
+    (location_holds (tables_of c.args.self.now) (before_of c.args.self.now) c.args.s.0)
+    (location_holds (tables_of c.args.self.now) (after_of c.args.self.now) c.args.s.0)
 
 pub held_at-end-requires-clause-end : goal.held_at-end-requires-clause-end
 unfolding end_count
@@ -17,8 +17,9 @@ held_at-end-requires-clause-end c = omega (arith, c.loop-j-test.true, c.steps-j-
 
 pub loop-j-preserved : goal.loop-j-preserved
 loop-j-preserved c = held_more (end_location (tables_of c.args.self.now) (steps_of c.args.self.now))
-    (held_in (tables_of c.args.self.now) (before_of c.args.self.now) c.args.s.0)
-    (held_in (tables_of c.args.self.now) (after_of c.args.self.now) c.args.s.0) c.loop-j.j c.loop-j.came c.loop-j.went
+    (location_holds (tables_of c.args.self.now) (before_of c.args.self.now) c.args.s.0)
+    (location_holds (tables_of c.args.self.now) (after_of c.args.self.now) c.args.s.0) c.loop-j.j c.loop-j.came
+    c.loop-j.went
     c.held_at-end.result.came c.held_at-end.result.went c.loop-j.invariant c.held_at-end.ensures.came
     c.held_at-end.ensures.went c.held_at-end.ensures.came_few c.held_at-end.ensures.went_few
 

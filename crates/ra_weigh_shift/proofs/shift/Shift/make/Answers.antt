@@ -8,7 +8,7 @@ use Rattle.ra_model.specs.Assignments.{machine_at}
 use Rattle.ra_model.specs.declared.raw.Tables.{Tables}
 use Rattle.ra_weigh_shift.specs.Arriving.{cost_now, service_now}
 use Rattle.ra_weigh_shift.specs.Filter.{base_added, base_taken}
-use Rattle.ra_weigh_shift.specs.Sharing.{AreRequired, use_without, row_cost}
+use Rattle.ra_weigh_shift.specs.Sharing.{AreRequired, use_without, row_cost_with}
 use Rattle.ra_weigh_shift.proofs.shift.Shift.make.Goals as goal
 
 pub overflow_add-result-2 : goal.overflow_add-result-2
@@ -61,7 +61,7 @@ invariant_of-result g c =
     let now : c.parts-parts.result.service ≡ service_now w =
     ap (λ (x : Parts). x.service) c.parts-parts.ensures.value in
     let without = c.cost_without-without.ensures.value
-    ∙ ap (λ m. row_cost w.tables m (use_without w.tables a p)) from in
+    ∙ ap (λ m. row_cost_with w.tables m (use_without w.tables a p)) from in
     let saves = rw c.instance-inst.ensures.value at c.saved.ensures.value in
     let kept_under = objective_under w.tables w.start a limits small in
     let now_under = service_under w.tables w.start a limits small in
@@ -81,7 +81,7 @@ invariant_of-result g c =
       wants_is = c.spread_min.ensures ∙ ap (λ (j : Tables). spread_of j c.service_of-service.result.0)
           c.instance-inst.ensures.value ∙ ap (spread_of w.tables) service;
       without_is = c.cost_without-without.ensures.value
-          ∙ ap (λ m. row_cost w.tables m (use_without w.tables a p)) from;
+          ∙ ap (λ m. row_cost_with w.tables m (use_without w.tables a p)) from;
       without_small = c.cost_without-without.ensures.bound;
       before_is = c.cost_before-before.ensures.value;
       before_small = c.cost_before-before.ensures.bound;

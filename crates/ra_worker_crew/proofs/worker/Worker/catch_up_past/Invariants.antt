@@ -1,12 +1,12 @@
 -- What it has seen has the entry, and each turn brought its place on.
 use Rattle.std.proofs.Common.{◌+◌, ◌-◌}
-use Rattle.ra_worker_crew.specs.Working.{IsAtWork, IsBehind, HasTurned}
+use Rattle.ra_worker_crew.specs.Working.{IsAtWork, IsAtOrAfterOwn, HasTurned}
 use Rattle.ra_worker_crew.proofs.worker.Worker.catch_up_past.Given as goal
 
 abbrev pub invariant-behind : goal.invariant-behind
 invariant-behind g l = record {
   work : IsAtWork l.shared l.self;
-  behind : IsBehind l.shown l.self;
+  behind : IsAtOrAfterOwn l.shown l.self;
   turned : HasTurned l.fn.self l.self;
 }
 

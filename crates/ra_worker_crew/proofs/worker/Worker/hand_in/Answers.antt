@@ -1,7 +1,7 @@
 use Rattle.std.proofs.Common.{◌≡◌, ◌<◌, refl, sym, ap, subst, ◌∙◌, arith}
 use Rattle.ra_worker.specs.Replicas.{HasPassed}
 use Rattle.ra_worker_crew.specs.declared.worker.Worker.{Worker}
-use Rattle.ra_worker_crew.specs.Working.{IsBehind, shown_in}
+use Rattle.ra_worker_crew.specs.Working.{IsAtOrAfterOwn, shown_in}
 use Rattle.ra_worker_crew.proofs.Owning.{behind_same, copied_next, handed, shown, quiet_next, own_passed, place_grows}
 use Rattle.ra_worker_crew.proofs.Steps.{next_commit, place_few, moved_taken, moved_then, room_moved}
 use Rattle.ra_worker_crew.proofs.worker.Worker.hand_in.Goals as goal
@@ -97,7 +97,7 @@ catch_up_past-requires-clause-behind g c =
       pass = c.commit_and_copy-reply.new.pass;
       batch = c.commit_and_copy-reply.new.batch;
     } in
-    subst (λ k. IsBehind k c.take_copied.new.self) (sym c.shown_by.ensures)
+    subst (λ k. IsAtOrAfterOwn k c.take_copied.new.self) (sym c.shown_by.ensures)
     (behind_same after c.take_copied.new.self (shown_in c.commit_and_copy-reply.result)
     (shown c.args.shared.now c.args.self.now after c.args.plan.now c.commit_and_copy-reply.result c.requires.work
     c.requires.own c.requires.left c.requires.plan refl c.commit_and_copy-reply.ensures.done)
