@@ -1,5 +1,5 @@
 -- The use of the machines, which is kept while edits change it.
-use Rattle.std.specs.Prelude.{◌≡◌, ℕ, ◌+◌, ◌<◌, if◌then◌else◌, ◌==◌, ◌||◌, true, List, length, slice_index}
+use Rattle.std.specs.Prelude.{◌≡◌, ℕ, ◌+◌, ◌<◌, ◌≤◌, if◌then◌else◌, ◌==◌, ◌||◌, true, List, length, slice_index}
 use Rattle.ra_base.specs.Tables.{cell}
 use Rattle.ra_model.specs.Numbers.{resource_count}
 use Rattle.ra_model.specs.Assignments.{machine_at}
@@ -26,6 +26,10 @@ pub record HasMoreBetween (width home at : ℕ) (amount : ℕ → ℕ) (low high
       → cell width high m r
       ≡ cell width low m r + (if (home == m) || (at == m) then amount r else 0)
   pub same_length : length high ≡ length low
+
+-- a table has at least an amount of each resource at machine `at`
+abbrev pub HasAtLeast : List ℕ → ℕ → List ℕ → Type 0
+HasAtLeast table at amounts = (r : ℕ) → r < length amounts → slice_index amounts r ≤ cell (length amounts) table at r
 
 -- one of two has in addition what a process uses, whose machine was `home` at first and is `at` now
 pub record HasMoreUse (width home at : ℕ) (amount : ℕ → ℕ) (low high : Loads) : Type 0 where

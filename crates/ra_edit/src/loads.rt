@@ -1,6 +1,5 @@
 //! The use of the machines, kept while edits change it.
 ghost use Rattle.std.specs.Prelude.{◌≡◌, ℕ, ◌+◌, ◌*◌, ◌^◌, ◌<◌, ◌≤◌, length, slice_index, None, IfOk};
-ghost use Rattle.ra_base.specs.Tables.{cell};
 ghost use Rattle.ra_check.specs.Stands.{IsBelow};
 ghost use Rattle.ra_check.specs.Made.{IsGrid};
 ghost use Rattle.ra_model.specs.Assignments.{machine_at};
@@ -9,7 +8,7 @@ ghost use Rattle.ra_edit.specs.Drafts.{Drafted};
 ghost use Rattle.ra_edit.specs.Keeping.{drafted, IsSoundDraft};
 ghost use Rattle.ra_edit.specs.Kinds.{Asks, HasCome, HasGone, HasOther, IsEdited};
 ghost use Rattle.ra_edit.specs.Loads.{AreLoadsOf, HasCounted, HasMoreUse, HasMoreAt, IsUseRow, IsTransientRowOfDraft};
-ghost use Rattle.ra_edit.specs.Loads.{IsThere};
+ghost use Rattle.ra_edit.specs.Loads.{HasAtLeast, IsThere};
 ghost use Rattle.ra_edit.specs.OneMore.{OneMore};
 ghost use Rattle.ra_edit.specs.Replies.{barred};
 ghost use Rattle.ra_edit_read.specs.EditLists.{FitsInstance};
@@ -315,12 +314,9 @@ impl Loads {
             length self.old.between.items }
         requires here { here.0 * length amounts.now + length amounts.now ≤
             length self.old.between.items }
-        requires used_enough { (r : ℕ) → r < length amounts.now → slice_index amounts.now r ≤
-            cell (length amounts.now) self.old.used.items here.0 r }
-        requires home_enough { (r : ℕ) → r < length amounts.now → slice_index amounts.now r ≤
-            cell (length amounts.now) self.old.between.items home.0 r }
-        requires here_enough { (r : ℕ) → r < length amounts.now → slice_index amounts.now r ≤
-            cell (length amounts.now) self.old.between.items here.0 r }
+        requires used_enough { HasAtLeast self.old.used.items here.0 amounts.now }
+        requires home_enough { HasAtLeast self.old.between.items home.0 amounts.now }
+        requires here_enough { HasAtLeast self.old.between.items here.0 amounts.now }
         ensures { HasMoreUse (length amounts.now) home.0 here.0 (slice_index amounts.now) self.new
             self.old }
     {
@@ -351,8 +347,7 @@ fn add_amounts(table: &mut Fixed<u64>, at: Machine, amounts: &[u32])
 /// Subtracts an amount of each resource at a machine.
 fn take_amounts(table: &mut Fixed<u64>, at: Machine, amounts: &[u32])
     requires place { at.0 * length amounts.now + length amounts.now ≤ length table.old.items }
-    requires enough { (r : ℕ) → r < length amounts.now → slice_index amounts.now r ≤
-        cell (length amounts.now) table.old.items at.0 r }
+    requires enough { HasAtLeast table.old.items at.0 amounts.now }
     ensures { HasMoreAt (length amounts.now) at.0 (slice_index amounts.now) table.new.items
         table.old.items }
 {

@@ -16,13 +16,13 @@ use Rattle.ra_weigh_changes.specs.Room.{HaveRoom}
 use Rattle.ra_weigh_changes.proofs.RoomLemmas.{room_kept}
 use Rattle.ra_weigh_shift.specs.Arriving.{cost_now}
 use Rattle.ra_plan.specs.Choosing.{IsBest, cost_in, steps_in, cost_to_beat}
-use Rattle.ra_plan.specs.Deciding.{IsMoveBelow, cause_at}
+use Rattle.ra_plan.specs.Deciding.{IsMoveBelow}
 use Rattle.ra_plan.specs.declared.best.Best.{Best}
 use Rattle.ra_plan.proofs.Bests.{worse_at, better_at, best_within, cost_means, cost_comes}
 
 -- no cost, and a cost
 pub none_below : (w : Situation) (steps : List Step) (bound : ℕ) →
-    (cause_at w steps ≡ None → bound ≤ cost_at (after_move w steps)) →
+    (broken_by w steps ≡ None → bound ≤ cost_at (after_move w steps)) →
     IsMoveBelow w steps bound None
 none_below w steps bound high = record {
   free = λ n is. absurd (cc);
@@ -31,7 +31,7 @@ none_below w steps bound high = record {
   none = λ is free. high free;
 }
 
-pub some_below : (w : Situation) (steps : List Step) (bound cost : ℕ) → cause_at w steps ≡ None →
+pub some_below : (w : Situation) (steps : List Step) (bound cost : ℕ) → broken_by w steps ≡ None →
     cost ≡ cost_at (after_move w steps) →
     cost < bound → IsMoveBelow w steps bound (Some cost)
 some_below w steps bound cost free is low = record {
@@ -53,7 +53,7 @@ room_free st steps move none =
 
 -- a test that fails though it holds if nothing is broken
 pub unfit_below : {Fits : Type 0} (w : Situation) (steps : List Step) (bound : ℕ) (fits : Bool) → (fits ≡ true) ↔ Fits →
-    fits ≡ false → (cause_at w steps ≡ None → Fits) → IsMoveBelow w steps bound None
+    fits ≡ false → (broken_by w steps ≡ None → Fits) → IsMoveBelow w steps bound None
 unfit_below w steps bound fits (gives, back) unfit holds =
     none_below w steps bound (λ none. absurd (both_ways fits unfit (back (holds none))))
 

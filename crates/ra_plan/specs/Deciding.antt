@@ -1,6 +1,5 @@
 -- What is computed of one move: its cost if it can still win, and its weighing if it is planned.
 use Rattle.std.specs.Prelude.{◌≡◌, ℕ, ◌<◌, ◌≤◌, List, [], ◌∷◌, Option, Some, None}
-use Rattle.ra_base.specs.declared.causes.Cause.{Cause}
 use Rattle.ra_base.specs.declared.causes.Drawing.{Drawing}
 use Rattle.ra_model.specs.Situations.{Situation, cost_at}
 use Rattle.ra_moves.specs.declared.steps.Step.{Step}
@@ -13,14 +12,6 @@ use Rattle.ra_moves.specs.Steps.{step_at}
 use Rattle.ra_moves.specs.Weighing.{weighed_of}
 use Rattle.ra_moves.specs.Replacing.{after_move}
 
--- the cause other than a rise of the cost for which a move of a world is refused
-abbrev pub cause_at : Situation → List Step → Option Cause
-cause_at st steps = broken_by st steps
-
--- the weighing of a move of a world
-abbrev pub weighed_at : Situation → List Step → Weighed
-weighed_at st steps = weighed_of st steps
-
 -- the steps are one shift of process p from its machine to the machine of the first step
 abbrev pub IsShiftOf : Situation → ℕ → List Step → Type 0
 IsShiftOf st p steps = steps ≡ leaving st.here p (step_at steps 0).to.0 ∷ []
@@ -28,14 +19,14 @@ IsShiftOf st p steps = steps ≡ leaving st.here p (step_at steps 0).to.0 ∷ []
 -- a cost if the move breaks nothing and costs less than a bound, and none if it breaks something or costs no less
 pub record IsMoveBelow (st : Situation) (steps : List Step) (bound : ℕ) (cost : Option ℕ) : Type 0
   where
-    pub free : (n : ℕ) → cost ≡ Some n → cause_at st steps ≡ None
+    pub free : (n : ℕ) → cost ≡ Some n → broken_by st steps ≡ None
     pub found : (n : ℕ) → cost ≡ Some n → n ≡ cost_at (after_move st steps)
     pub below : (n : ℕ) → cost ≡ Some n → n < bound
-    pub none : cost ≡ None → cause_at st steps ≡ None → bound ≤ cost_at (after_move st steps)
+    pub none : cost ≡ None → broken_by st steps ≡ None → bound ≤ cost_at (after_move st steps)
 
 -- the planned move of the words on the assignment of a world, with its weighing there
 pub record IsPlanned (st : Situation) (x : List ℕ) (d : Drawing) (allowed : ℕ) (mv : MoveSteps)
     (weighed : Weighed) : Type 0 where
   pub planned : mv ≡ plan_of st x d allowed
-  pub weighing : weighed ≡ weighed_at st mv.steps
+  pub weighing : weighed ≡ weighed_of st mv.steps
   pub offered : IsOffered st.tables st.here mv.steps

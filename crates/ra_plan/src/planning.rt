@@ -3,9 +3,10 @@ ghost use Rattle.ra_base.specs.declared.causes.Drawing.TheVariants.{One, Two};
 ghost use Rattle.ra_model.specs.Numbers.{resource_count, machine_count};
 ghost use Rattle.ra_moves.specs.declared.steps.MoveKind.TheVariants as kind;
 ghost use Rattle.ra_moves.specs.Options.{kind_of, plan_of, option_at, option_count};
+ghost use Rattle.ra_moves.specs.Judging.{broken_by};
 ghost use Rattle.ra_moves.specs.Moving.{IsOffered};
 ghost use Rattle.ra_moves.specs.Weighing.{weighed_of};
-ghost use Rattle.ra_plan.specs.Deciding.{cause_at, weighed_at, IsPlanned, IsShiftOf};
+ghost use Rattle.ra_plan.specs.Deciding.{IsPlanned, IsShiftOf};
 
 use crate::best::Best;
 use crate::moves::best_move;
@@ -172,8 +173,8 @@ fn shift_weighing<L: Ledger>(
     requires offered { IsOffered world.now.tables world.now.here mv.now.steps }
     requires alone { IsShiftOf world.now shift.now.process.0 mv.now.steps }
     requires best { (cost : ℕ) → best.now.cost ≡ Some cost →
-        cause_at world.now mv.now.steps ≡ None }
-    ensures value { result ≡ weighed_at world.now mv.now.steps }
+        broken_by world.now mv.now.steps ≡ None }
+    ensures value { result ≡ weighed_of world.now mv.now.steps }
     ensures counted { steps.new ≤ steps.old + 6 * resource_count world.now.tables }
 {
     let to = mv.step(0).to;
@@ -190,8 +191,8 @@ fn shift_weighing<L: Ledger>(
 /// Weighs a move. `free` skips the search for a broken constraint.
 fn weighing<L: Ledger>(world: &World<'_>, free: bool, mv: &Move, steps: &mut Steps<L>) -> Weighed
     requires offered { IsOffered world.now.tables world.now.here mv.now.steps }
-    requires free { free ≡ true → cause_at world.now mv.now.steps ≡ None }
-    ensures value { result ≡ weighed_at world.now mv.now.steps }
+    requires free { free ≡ true → broken_by world.now mv.now.steps ≡ None }
+    ensures value { result ≡ weighed_of world.now mv.now.steps }
     ensures counted { steps.new ≤ steps.old + 6 * resource_count world.now.tables }
 {
     if !free {

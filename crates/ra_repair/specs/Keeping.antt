@@ -1,5 +1,5 @@
 -- What is kept for an assignment, and that it is what the definitions give.
-use Rattle.std.specs.Prelude.{◌≡◌, ◌≤◌, List, []}
+use Rattle.std.specs.Prelude.{◌≡◌, ℕ, ◌≤◌, List, [], slice_set}
 use Rattle.ra_base.specs.Listed.{Listed}
 use Rattle.ra_base.specs.declared.ids.Machine.{Machine}
 use Rattle.ra_draws.specs.declared.sources.Lot.{Lot}
@@ -19,6 +19,10 @@ pub record StandsForKept (kept : Kept) (i : Tables) (a0 : List Machine) : Type 0
   pub start : kept.rows.start ≡ a0
   pub rows : rows.StandFor kept.rows kept.assignment.items
   pub cells : cells.StandFor kept.cells i a0 kept.assignment.items
+
+-- the kept assignment, but with one process on this machine
+abbrev pub list_with : Kept → ℕ → Machine → List Machine
+list_with kept p m = slice_set kept.assignment.items p m
 
 -- all that is kept is right, and the kept penalty is that of the kept assignment, reached from a0
 pub record KeepsPenalty (kept : Kept) (i : Tables) (a0 : List Machine) : Type 0 where

@@ -4,7 +4,7 @@ ghost use Rattle.ra_model.specs.Numbers.{machine_count, process_count};
 ghost use Rattle.ra_model.specs.Assignments.{IsAssignment};
 ghost use Rattle.ra_moves.specs.Judging.{repeat_of, same_of};
 ghost use Rattle.ra_topology.specs.Fits.{IsTopologyOf};
-ghost use Rattle.ra_repair.specs.Keeping.{KeepsPenalty};
+ghost use Rattle.ra_repair.specs.Keeping.{KeepsPenalty, list_with};
 ghost use Rattle.ra_repair.specs.Runs.{unless, try_count, try_option, option_penalty, chosen, least_after};
 ghost use Rattle.ra_repair.specs.Shifting.{AskForShifts};
 
@@ -67,16 +67,14 @@ fn try_shift<L: Ledger>(
     requires start { IsAssignment inst.now.tables start.now.items }
     requires topology { IsTopologyOf topo.now inst.now.tables }
     requires keeps { KeepsPenalty kept.old inst.now.tables start.now.items }
-    requires asks { AskForShifts words.now
-        (slice_set kept.old.assignment.items process.0 home) process.0 home.0 }
+    requires asks { AskForShifts words.now (list_with kept.old process.0 home) process.0 home.0 }
     requires named { option < try_count inst.now.tables words.now }
-    ensures option { result.mv ≡ try_option inst.now.tables
-        (slice_set kept.old.assignment.items process.0 home) words.now option }
+    ensures option { result.mv ≡ try_option inst.now.tables (list_with kept.old process.0 home)
+        words.now option }
     ensures after { result.after ≡ option_penalty inst.now.tables start.now.items
-        (slice_set kept.old.assignment.items process.0 home) words.now option }
+        (list_with kept.old process.0 home) words.now option }
     ensures keeps { KeepsPenalty kept.new inst.now.tables start.now.items }
-    ensures home { slice_set kept.new.assignment.items process.0 home ≡
-        slice_set kept.old.assignment.items process.0 home }
+    ensures home { list_with kept.new process.0 home ≡ list_with kept.old process.0 home }
 {
     let here = resolve(
         &kept.assignment,

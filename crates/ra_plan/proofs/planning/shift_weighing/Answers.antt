@@ -3,9 +3,9 @@ use Rattle.std.proofs.Common.{◌∙◌, ap, sym, subst, arith}
 use Rattle.ra_moves.specs.declared.steps.Step.{Step}
 use Rattle.ra_model.specs.Numbers.{machine_count}
 use Rattle.ra_model.specs.Situations.{Situation}
+use Rattle.ra_moves.specs.Judging.{broken_by}
 use Rattle.ra_weigh_settle.proofs.Settles.{bare_is}
 use Rattle.ra_weigh_shift.specs.Finding.{IsFinding}
-use Rattle.ra_plan.specs.Deciding.{cause_at}
 use Rattle.ra_plan.proofs.Weighed.{one_reaches, shift_same, cause_found, unbroken_found}
 use Rattle.ra_plan.proofs.planning.shift_weighing.Goals as goal
 
@@ -46,7 +46,7 @@ pub returns-in-Broken-clause-value : goal.returns-in-Broken-clause-value
 returns-in-Broken-clause-value g c =
     let found = subst (IsFinding c.args.shift.now.world.now c.args.shift.now.process.0 c.step.result.to.0)
     c.in-Broken.is c.find.ensures in
-    c.bare.ensures ∙ sym (bare_is _ _ _ (sym (shift_same cause_at c.args.world.now c.args.shift.now.world.now
+    c.bare.ensures ∙ sym (bare_is _ _ _ (sym (shift_same broken_by c.args.world.now c.args.shift.now.world.now
     c.args.shift.now.process.0 c.step.result.to.0 c.args.mv.now.steps c.requires.world c.requires.alone
     (ap (λ (s : Step). s.to.0) (sym c.step.ensures)))
     ∙ cause_found _ _ _ _ found))
