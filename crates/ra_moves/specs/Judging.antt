@@ -1,6 +1,6 @@
 -- The verdict on a move: the first cause for which it is refused, in the order Repeat, Same, the first constraint that
 -- is broken after it, Rise; or Done with the cost after it.
-use Rattle.std.specs.Prelude.{ℕ, ◌+◌, List, length, Option, Some, None, nat_lt, ◌==◌}
+use Rattle.std.specs.Prelude.{◌≡◌, ℕ, ◌+◌, ◌<◌, ◌≤◌, List, length, Option, Some, None, nat_lt, ◌==◌}
 use Rattle.ra_base.specs.Searches.{or_else, first}
 use Rattle.ra_base.specs.Sums.{is_named}
 use Rattle.ra_base.specs.declared.causes.Cause.{Cause}
@@ -50,3 +50,11 @@ unfoldable pub judge : Situation → List Step → ℕ → Verdict
 judge st steps allowed =
     let after = cost_at (after_move st steps) in
     verdict_of (or_else (broken_by st steps) (rise_test (cost_at st) after allowed)) after
+
+-- a cost if the move breaks nothing and costs less than a bound, and none if it breaks something or costs no less
+pub record IsMoveBelow (st : Situation) (steps : List Step) (bound : ℕ) (cost : Option ℕ) : Type 0
+  where
+    pub free : (n : ℕ) → cost ≡ Some n → broken_by st steps ≡ None
+    pub found : (n : ℕ) → cost ≡ Some n → n ≡ cost_at (after_move st steps)
+    pub below : (n : ℕ) → cost ≡ Some n → n < bound
+    pub none : cost ≡ None → broken_by st steps ≡ None → bound ≤ cost_at (after_move st steps)

@@ -9,14 +9,12 @@ use Rattle.ra_base.proofs.Searches.{right_none}
 use Rattle.ra_model.specs.Situations.{Situation, broken_at, cost_at}
 use Rattle.ra_model.proofs.BrokenLemmas.{fine_from_unbroken}
 use Rattle.ra_moves.specs.declared.steps.Step.{Step}
-use Rattle.ra_moves.specs.Judging.{repeat_of, same_of, broken_by}
+use Rattle.ra_moves.specs.Judging.{repeat_of, same_of, broken_by, IsMoveBelow}
 use Rattle.ra_moves.specs.Replacing.{applied, after_move}
 use Rattle.ra_moves.specs.Moving.{MayMove}
 use Rattle.ra_weigh_changes.specs.Room.{HaveRoom}
 use Rattle.ra_weigh_changes.proofs.RoomLemmas.{room_kept}
-use Rattle.ra_weigh_shift.specs.Arriving.{cost_now}
 use Rattle.ra_plan.specs.Choosing.{IsBest, cost_in, steps_in, cost_to_beat}
-use Rattle.ra_plan.specs.Deciding.{IsMoveBelow}
 use Rattle.ra_plan.specs.declared.best.Best.{Best}
 use Rattle.ra_plan.proofs.Bests.{worse_at, better_at, best_within, cost_means, cost_comes}
 
@@ -60,11 +58,11 @@ unfit_below w steps bound fits (gives, back) unfit holds =
 -- a move without a cost below the bound changes nothing
 pub move_stays : (w : Situation) (x : List ℕ) (d : Drawing) (allowed n : ℕ) (steps : List Step) (best : Best)
     (found : Option ℕ) → IsBest w x d allowed n best → steps_in w x d n ≡ steps →
-    IsMoveBelow w steps (cost_to_beat best.cost (cost_now w + allowed + 1)) found → found ≡ None →
+    IsMoveBelow w steps (cost_to_beat best.cost (cost_at w + allowed + 1)) found → found ≡ None →
     IsBest w x d allowed (n + 1) best
 move_stays w x d allowed n steps best found is same below none =
     let f : ℕ → Option ℕ = cost_in w x d allowed in
-    let most = cost_now w + allowed + 1 in
+    let most = cost_at w + allowed + 1 in
     let above = λ (c : ℕ) (here : f n ≡ Some c).
     let means = cost_means w x d allowed n c steps same here in
     let low = below.none none means.0 in
@@ -78,14 +76,14 @@ move_stays w x d allowed n steps best found is same below none =
 -- and one with such a cost is the best
 pub move_found : (w : Situation) (x : List ℕ) (d : Drawing) (allowed n cost : ℕ) (steps : List Step) (best : Best)
     (found : Option ℕ) → IsBest w x d allowed n best → steps_in w x d n ≡ steps →
-    IsMoveBelow w steps (cost_to_beat best.cost (cost_now w + allowed + 1)) found → found ≡ Some cost →
+    IsMoveBelow w steps (cost_to_beat best.cost (cost_at w + allowed + 1)) found → found ≡ Some cost →
     IsBest w x d allowed (n + 1) (record { cost = found; option = n })
 move_found w x d allowed n cost steps best found is same below some =
     let f : ℕ → Option ℕ = cost_in w x d allowed in
-    let most = cost_now w + allowed + 1 in
+    let most = cost_at w + allowed + 1 in
     let value = below.found cost some in
     let under = below.below cost some in
-    let low : cost_at (after_move w steps) ≤ cost_now w + allowed =
+    let low : cost_at (after_move w steps) ≤ cost_at w + allowed =
     omega (arith, value, under, best_within w x d allowed n best is) in
     let here : f n ≡ Some cost = cost_comes w x d allowed n steps same (below.free cost some) low
     ∙ ap (λ (c : ℕ). Some c) (sym value) in

@@ -8,7 +8,7 @@ use Rattle.ra_base.specs.declared.causes.Cause.{Cause}
 use Rattle.ra_base.specs.declared.causes.Drawing.{Drawing}
 use Rattle.ra_base.specs.declared.causes.Drawing.TheVariants.{Two}
 use Rattle.ra_base.specs.declared.ids.Machine.{Machine}
-use Rattle.ra_base.proofs.Least.{least_none, least_place_none, least_more, least_place_more, least_better, least_kept}
+use Rattle.ra_base.proofs.Least.{least_none, least_place_none, least_more, least_place_more}
 use Rattle.ra_base.proofs.Least.{least_means, is_better_none, is_better_some}
 use Rattle.ra_model.specs.declared.raw.Tables.{Tables}
 use Rattle.ra_model.specs.Numbers.{machine_count}
@@ -22,8 +22,7 @@ use Rattle.ra_model.specs.Broken.{cause_if}
 use Rattle.ra_model.specs.Situations.{Situation, cost_at, IsSound}
 use Rattle.ra_model.proofs.BoundLemmas.{objective_under}
 use Rattle.ra_model.proofs.BrokenLemmas.{cause_free}
-use Rattle.ra_moves.specs.Judging.{judge, broken_by, rise_test, verdict_of}
-use Rattle.ra_weigh_shift.specs.Arriving.{cost_after, cost_now, IsCostBelow}
+use Rattle.ra_moves.specs.Judging.{judge, broken_by, rise_test, verdict_of, IsMoveBelow}
 use Rattle.ra_moves.proofs.Repeats.{distinct_from_none}
 use Rattle.ra_moves.proofs.OptionLemmas.{option_stands, option_reaches}
 use Rattle.ra_moves.specs.Moving.{IsOffered}
@@ -215,34 +214,34 @@ pub cost_means : (w : Situation) (x : List ℕ) (d : Drawing) (allowed n cost : 
     steps_in w x d n ≡ steps → cost_in w x d allowed n ≡ Some cost →
     (broken_by w steps ≡ None)
     × (cost ≡ cost_at (after_move w steps))
-    × (cost ≤ cost_now w + allowed)
+    × (cost ≤ cost_at w + allowed)
 unfolding cost_in option_cost steps_in judge
 cost_means w x d allowed n cost steps same is =
     let here = ap (λ (s : List Step).
     done_cost (judge w s allowed)) (sym same) ∙ is in
-    by_cause (broken_by w steps) (cost_now w)
+    by_cause (broken_by w steps) (cost_at w)
     (cost_at (after_move w steps)) allowed cost here
 
 -- and one that does so has that cost
 pub cost_comes : (w : Situation) (x : List ℕ) (d : Drawing) (allowed n : ℕ) (steps : List Step) →
     steps_in w x d n ≡ steps →
     broken_by w steps ≡ None →
-    cost_at (after_move w steps) ≤ cost_now w + allowed →
+    cost_at (after_move w steps) ≤ cost_at w + allowed →
     cost_in w x d allowed n ≡
     Some (cost_at (after_move w steps))
 unfolding cost_in option_cost steps_in judge
 cost_comes w x d allowed n steps same none low =
     let after = cost_at (after_move w steps) in
     ap (λ (s : List Step). done_cost (judge w s allowed)) same
-    ∙ ap (λ (o : Option Cause). done_cost (verdict_of (or_else o (rise_test (cost_now w) after allowed)) after)) none
-    ∙ done_within (cost_now w) after allowed low
+    ∙ ap (λ (o : Option Cause). done_cost (verdict_of (or_else o (rise_test (cost_at w) after allowed)) after)) none
+    ∙ done_within (cost_at w) after allowed low
 
 -- the best so far is one of them
 pub best_means : (w : Situation) (x : List ℕ) (d : Drawing) (allowed n cost : ℕ) (best : Best) (steps : List Step) →
     IsBest w x d allowed n best → steps_in w x d best.option ≡ steps → best.cost ≡ Some cost →
     (broken_by w steps ≡ None)
     × (cost ≡ cost_at (after_move w steps))
-    × (cost ≤ cost_now w + allowed)
+    × (cost ≤ cost_at w + allowed)
 best_means w x d allowed n cost best steps is same there =
     let found = least_means n cost (cost_in w x d allowed) (sym is.cost ∙ there) in
     cost_means w x d allowed best.option cost steps same
@@ -272,9 +271,9 @@ bound_low (Some b) most low = omega (arith, low b refl)
 
 pub best_within : (w : Situation) (x : List ℕ) (d : Drawing) (allowed n : ℕ) (best : Best) →
     IsBest w x d allowed n best →
-    cost_to_beat best.cost (cost_now w + allowed + 1) ≤ cost_now w + allowed + 1
+    cost_to_beat best.cost (cost_at w + allowed + 1) ≤ cost_at w + allowed + 1
 best_within w x d allowed n best is =
-    bound_low best.cost (cost_now w + allowed + 1)
+    bound_low best.cost (cost_at w + allowed + 1)
     (λ b there. omega (
       arith,
       (best_means w x d allowed n b best (steps_in w x d best.option) is refl
@@ -282,7 +281,7 @@ best_within w x d allowed n best is =
     ))
 
 pub bound_fits : (w : Situation) (x : List ℕ) (d : Drawing) (allowed n most : ℕ) (best : Best) →
-    IsSound w → IsBest w x d allowed n best → most ≡ cost_now w + allowed + 1 → allowed < 2 ^ 64 →
+    IsSound w → IsBest w x d allowed n best → most ≡ cost_at w + allowed + 1 → allowed < 2 ^ 64 →
     cost_to_beat best.cost most ≤ 2 ^ 120
 bound_fits w x d allowed n most best sound is most_is few =
     rw most_is (omega (
@@ -305,48 +304,12 @@ unfolding cost_to_beat is_better
 better_at None c most below = refl
 better_at (Some b) c most below = is_above c b (ltb c b) refl below
 
-pub best_stays : (w : Situation) (x : List ℕ) (d : Drawing) (allowed n p to : ℕ) (best : Best)
-    (found : Option ℕ) →
-    IsBest w x d allowed n best → steps_in w x d n ≡ leaving w.here p to ∷ [] →
-    IsCostBelow w p to (cost_to_beat best.cost (cost_now w + allowed + 1)) found → found ≡ None →
-    IsBest w x d allowed (n + 1) best
-best_stays w x d allowed n p to best found is same below none =
-    let f : ℕ → Option ℕ = cost_in w x d allowed in
-    let most = cost_now w + allowed + 1 in
-    let above = λ (c : ℕ) (here : f n ≡ Some c).
-    let means = cost_means w x d allowed n c (leaving w.here p to ∷ []) same here in
-    let low = below.none none means.0 in
-    let under : cost_to_beat (least n f) most ≤ c = omega
-    (arith, ap (λ o. cost_to_beat o most) is.cost, low, means.1) in
-    let both : (cost_to_beat (least n f) most ≤ c) × (c < most) = (under, omega (arith, means.2)) in
-    both in
-    let kept = least_kept n f (worse_at (f n) (least n f) most above) in
-    record { cost = is.cost ∙ sym kept.0; option = is.option ∙ sym kept.1 }
-
--- and one with such a cost is the best
-pub best_found : (w : Situation) (x : List ℕ) (d : Drawing) (allowed n p to cost : ℕ) (best : Best)
-    (found : Option ℕ) →
-    IsBest w x d allowed n best → steps_in w x d n ≡ leaving w.here p to ∷ [] →
-    IsCostBelow w p to (cost_to_beat best.cost (cost_now w + allowed + 1)) found → found ≡ Some cost →
-    IsBest w x d allowed (n + 1) (record { cost = found; option = n })
-best_found w x d allowed n p to cost best found is same below some =
-    let f : ℕ → Option ℕ = cost_in w x d allowed in
-    let most = cost_now w + allowed + 1 in
-    let value = below.found cost some in
-    let under = below.below cost some in
-    let low : cost_after w p to ≤ cost_now w + allowed =
-    omega (arith, value, under, best_within w x d allowed n best is) in
-    let here : f n ≡ Some cost = cost_comes w x d allowed n (leaving w.here p to ∷ []) same
-    (below.free cost some) low ∙ ap (λ (c : ℕ). Some c) (sym value) in
-    let better = least_better n f (ap₂ is_better here (sym is.cost) ∙ better_at best.cost cost most under) in
-    record { cost = some ∙ sym here ∙ sym better.0; option = sym better.1 }
-
 -- a cost that was found is the next bound, and lower than the one before
-pub bound_falls : (w : Situation) (p to most cost : ℕ) (least found : Option ℕ) →
-    IsCostBelow w p to (cost_to_beat least most) found → found ≡ Some cost →
+pub bound_falls : (w : Situation) (steps : List Step) (most cost : ℕ) (least found : Option ℕ) →
+    IsMoveBelow w steps (cost_to_beat least most) found → found ≡ Some cost →
     cost_to_beat found most ≤ cost_to_beat least most
 unfolding cost_to_beat
-bound_falls w p to most cost least found below some =
+bound_falls w steps most cost least found below some =
     let low = below.below cost some in
     rw some (omega (arith, low))
 

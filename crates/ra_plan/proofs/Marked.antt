@@ -5,8 +5,8 @@ use Rattle.std.specs.Int.{bit_at}
 use Rattle.ra_base.specs.declared.causes.Drawing.TheVariants.{Two}
 use Rattle.ra_model.specs.Numbers.{machine_count}
 use Rattle.ra_model.specs.Assignments.{machine_at}
-use Rattle.ra_model.specs.Situations.{Situation}
-use Rattle.ra_weigh_shift.specs.Arriving.{cost_now, sum_at, IsCostBelow}
+use Rattle.ra_model.specs.Situations.{Situation, cost_at}
+use Rattle.ra_weigh_shift.specs.Arriving.{sum_at, IsCostBelow}
 use Rattle.ra_weigh_shift.specs.Lanes.{machine_in, AreCheapMarked}
 use Rattle.ra_plan.specs.Choosing.{IsBest, IsWindowOf, cost_to_beat}
 use Rattle.ra_plan.specs.declared.best.Best.{Best}
@@ -14,7 +14,8 @@ use Rattle.std.specs.Prelude.{slice_index}
 use Rattle.ra_moves.specs.declared.steps.MoveKind.TheVariants.{Shift}
 use Rattle.ra_moves.specs.Options.{kind_of, drawn}
 use Rattle.ra_plan.proofs.OptionSizes.{window_target}
-use Rattle.ra_plan.proofs.Bests.{best_stays, shift_in}
+use Rattle.ra_plan.proofs.Bests.{shift_in}
+use Rattle.ra_plan.proofs.Below.{move_stays}
 
 -- what costs a bound costs a lower one
 lower_none : (w : Situation) (p to most bound : ℕ) → IsCostBelow w p to most None → bound ≤ most →
@@ -28,7 +29,7 @@ lower_none w p to most bound below low = record {
 
 -- options that cost too much are passed over
 skips_by : (d : ℕ) (w : Situation) (x : List ℕ) (allowed p first most from : ℕ) (best : Best) →
-    most ≡ cost_now w + allowed + 1 → IsWindowOf w x p first → cost_to_beat best.cost most ≤ most →
+    most ≡ cost_at w + allowed + 1 → IsWindowOf w x p first → cost_to_beat best.cost most ≤ most →
     ((k : ℕ) → from ≤ k → k < from + d → IsCostBelow w p (machine_in w first k) most None) →
     IsBest w x Two allowed from best → IsBest w x Two allowed (from + d) best
 skips_by zero w x allowed p first most from best is window low dear best_is =
@@ -40,10 +41,10 @@ skips_by (suc d) w x allowed p first most from best is window low dear best_is =
     let none = lower_none w p to most (cost_to_beat best.cost most) (dear (from + d) (omega arith) (omega arith)) low in
     let here = subst (λ m. IsCostBelow w p to (cost_to_beat best.cost m) None) is none in
     subst (λ n. IsBest w x Two allowed n best) (omega arith)
-    (best_stays w x Two allowed (from + d) p to best None so_far (window.each (from + d)) here refl)
+    (move_stays w x Two allowed (from + d) _ best None so_far (window.each (from + d)) here refl)
 
 pub skips : (w : Situation) (x : List ℕ) (allowed p first most from end : ℕ) (best : Best) →
-    most ≡ cost_now w + allowed + 1 → IsWindowOf w x p first → cost_to_beat best.cost most ≤ most → from ≤ end →
+    most ≡ cost_at w + allowed + 1 → IsWindowOf w x p first → cost_to_beat best.cost most ≤ most → from ≤ end →
     ((k : ℕ) → from ≤ k → k < end → IsCostBelow w p (machine_in w first k) most None) →
     IsBest w x Two allowed from best → IsBest w x Two allowed end best
 skips w x allowed p first most from end best is window low within dear best_is =

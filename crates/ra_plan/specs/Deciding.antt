@@ -1,28 +1,18 @@
 -- What is computed of one move: its cost if it can still win, and its weighing if it is planned.
-use Rattle.std.specs.Prelude.{◌≡◌, ℕ, ◌<◌, ◌≤◌, List, [], ◌∷◌, Option, Some, None}
+use Rattle.std.specs.Prelude.{◌≡◌, ℕ, List, [], ◌∷◌}
 use Rattle.ra_base.specs.declared.causes.Drawing.{Drawing}
-use Rattle.ra_model.specs.Situations.{Situation, cost_at}
+use Rattle.ra_model.specs.Situations.{Situation}
 use Rattle.ra_moves.specs.declared.steps.Step.{Step}
 use Rattle.ra_moves.specs.declared.verdicts.Weighed.{Weighed}
-use Rattle.ra_moves.specs.Judging.{broken_by}
 use Rattle.ra_moves.specs.MoveSteps.{MoveSteps}
 use Rattle.ra_moves.specs.Moving.{IsOffered}
 use Rattle.ra_moves.specs.Options.{leaving, plan_of}
 use Rattle.ra_moves.specs.Steps.{step_at}
 use Rattle.ra_moves.specs.Weighing.{weighed_of}
-use Rattle.ra_moves.specs.Replacing.{after_move}
 
 -- the steps are one shift of process p from its machine to the machine of the first step
 abbrev pub IsShiftOf : Situation → ℕ → List Step → Type 0
 IsShiftOf st p steps = steps ≡ leaving st.here p (step_at steps 0).to.0 ∷ []
-
--- a cost if the move breaks nothing and costs less than a bound, and none if it breaks something or costs no less
-pub record IsMoveBelow (st : Situation) (steps : List Step) (bound : ℕ) (cost : Option ℕ) : Type 0
-  where
-    pub free : (n : ℕ) → cost ≡ Some n → broken_by st steps ≡ None
-    pub found : (n : ℕ) → cost ≡ Some n → n ≡ cost_at (after_move st steps)
-    pub below : (n : ℕ) → cost ≡ Some n → n < bound
-    pub none : cost ≡ None → broken_by st steps ≡ None → bound ≤ cost_at (after_move st steps)
 
 -- the planned move of the words on the assignment of a world, with its weighing there
 pub record IsPlanned (st : Situation) (x : List ℕ) (d : Drawing) (allowed : ℕ) (mv : MoveSteps)

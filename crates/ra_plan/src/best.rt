@@ -1,10 +1,9 @@
-ghost use Rattle.std.specs.Prelude.{◌≡◌, ℕ, ◌+◌, ◌≤◌, List, [], ◌∷◌, Option, Some, None, if◌then◌else◌};
+ghost use Rattle.std.specs.Prelude.{◌≡◌, ℕ, ◌+◌, ◌≤◌, List, Option, Some, None, if◌then◌else◌};
 ghost use Rattle.ra_base.specs.Searches.{is_better};
 ghost use Rattle.ra_base.specs.declared.causes.Drawing.{Drawing};
-ghost use Rattle.ra_model.specs.Situations.{Situation};
-ghost use Rattle.ra_moves.specs.Judging.{judge};
-ghost use Rattle.ra_moves.specs.Options.{leaving};
-ghost use Rattle.ra_weigh_shift.specs.Arriving.{cost_now, IsCostBelow};
+ghost use Rattle.ra_model.specs.Situations.{Situation, cost_at};
+ghost use Rattle.ra_moves.specs.Judging.{judge, IsMoveBelow};
+ghost use Rattle.ra_moves.specs.declared.steps.Step.{Step};
 ghost use Rattle.ra_plan.specs.Choosing.{IsBest, steps_in, cost_to_beat};
 
 use ra_moves::Verdict;
@@ -46,13 +45,13 @@ impl Best {
     /// Takes the next option, if a cost below the bound was found for it.
     #[inline(always)]
     pub(crate) fn or_found(self, option: u32, found: Option<u128>) -> Best
-        ensures best { (st : Situation) (x : List ℕ) (d : Drawing) (allowed p to : ℕ)
+        ensures best { (st : Situation) (x : List ℕ) (d : Drawing) (allowed : ℕ) (steps : List Step)
             → IsBest st x d allowed option self
-            → steps_in st x d option ≡ leaving st.here p to ∷ []
-            → IsCostBelow st p to (cost_to_beat self.cost (cost_now st + allowed + 1)) found
+            → steps_in st x d option ≡ steps
+            → IsMoveBelow st steps (cost_to_beat self.cost (cost_at st + allowed + 1)) found
             → IsBest st x d allowed (option + 1) result }
-        ensures bound { (st : Situation) (p to most : ℕ)
-            → IsCostBelow st p to (cost_to_beat self.cost most) found
+        ensures bound { (st : Situation) (steps : List Step) (most : ℕ)
+            → IsMoveBelow st steps (cost_to_beat self.cost most) found
             → cost_to_beat result.cost most ≤ cost_to_beat self.cost most }
     {
         match found {

@@ -1,14 +1,10 @@
-ghost use Rattle.std.specs.Prelude.{◌≡◌, ℕ, ◌+◌, ◌*◌, ◌≤◌, List, length};
-ghost use Rattle.ra_base.specs.declared.causes.Drawing.{Drawing};
+ghost use Rattle.std.specs.Prelude.{◌+◌, ◌*◌, ◌≤◌, length};
 ghost use Rattle.ra_model.specs.Numbers.{resource_count, machine_count};
-ghost use Rattle.ra_model.specs.Situations.{Situation};
 ghost use Rattle.ra_moves.specs.MoveSteps.{step_count};
-ghost use Rattle.ra_moves.specs.declared.steps.Step.{Step};
 ghost use Rattle.ra_moves.specs.Options.{kind_of, option_count};
 ghost use Rattle.ra_moves.specs.Moving.{IsOffered};
-ghost use Rattle.ra_weigh_shift.specs.Arriving.{cost_now};
-ghost use Rattle.ra_plan.specs.Choosing.{IsBest, steps_in, cost_to_beat};
-ghost use Rattle.ra_plan.specs.Deciding.{IsMoveBelow};
+ghost use Rattle.ra_plan.specs.Choosing.{IsBest};
+ghost use Rattle.ra_moves.specs.Judging.{IsMoveBelow};
 
 use crate::best::Best;
 use crate::flaws::flaw_of;
@@ -43,7 +39,7 @@ pub(crate) fn best_move<L: Ledger>(
     for option in 1..count {
         let mv = resolve(world.assignment(), words, machines, drawing, option);
         let found = cost_below(world, &mv, best.bound(most), steps);
-        best = or_below(best, option, found);
+        best = best.or_found(option, found);
     }
     best
 }
@@ -76,22 +72,4 @@ fn cost_below<L: Ledger>(
         return None;
     }
     Some(cost)
-}
-
-/// The best with one more option, if a cost below the bound was found for it.
-#[inline(always)]
-fn or_below(best: Best, option: u32, found: Option<u128>) -> Best
-    ensures { (st : Situation) (x : List ℕ) (d : Drawing) (allowed : ℕ) (steps : List Step)
-        → IsBest st x d allowed option best
-        → steps_in st x d option ≡ steps
-        → IsMoveBelow st steps (cost_to_beat best.cost (cost_now st + allowed + 1)) found
-        → IsBest st x d allowed (option + 1) result }
-{
-    match found {
-        Some(_) => Best {
-            cost: found,
-            option,
-        },
-        None => best,
-    }
 }

@@ -6,9 +6,10 @@ ghost use Rattle.ra_base.specs.declared.causes.Drawing.{Drawing};
 ghost use Rattle.ra_moves.specs.Options.{leaving};
 ghost use Rattle.ra_base.specs.declared.causes.Drawing.TheVariants.{Two};
 ghost use Rattle.ra_model.specs.Assignments.{machine_at};
-ghost use Rattle.ra_weigh_shift.specs.Arriving.{cost_now, sum_at};
+ghost use Rattle.ra_weigh_shift.specs.Arriving.{sum_at};
 ghost use Rattle.ra_weigh_shift.specs.Lanes.{AreCheapMarked};
 ghost use Rattle.ra_plan.specs.Choosing.{IsBest, IsWindowOf, steps_in, cost_to_beat};
+ghost use Rattle.ra_model.specs.Situations.{cost_at};
 
 use crate::best::Best;
 use crate::marks::{next_mark, with_mark};
@@ -96,7 +97,7 @@ fn best_marked(
     requires first { first < machine_count world.now.tables }
     requires most { most ≤ 2 ^ 120 }
     requires marked { AreCheapMarked world.now shift.now.process.0 first most marks sums.now }
-    ensures { (x : List ℕ) (allowed : ℕ) → most ≡ cost_now world.now + allowed + 1
+    ensures { (x : List ℕ) (allowed : ℕ) → most ≡ cost_at world.now + allowed + 1
         → IsWindowOf world.now x shift.now.process.0 first
         → IsBest world.now x Two allowed (min 64 (machine_count world.now.tables)) result }
 {
@@ -130,7 +131,7 @@ fn with_sum(
     requires bound { cost_to_beat best.cost most ≤ most }
     requires sum { machine_at world.now.start shift.now.process.0 ≢ to.0 →
         sum ≡ sum_at world.now shift.now.process.0 to.0 }
-    ensures best { (x : List ℕ) (allowed : ℕ) → most ≡ cost_now world.now + allowed + 1
+    ensures best { (x : List ℕ) (allowed : ℕ) → most ≡ cost_at world.now + allowed + 1
         → IsBest world.now x Two allowed option best
         → steps_in world.now x Two option ≡ leaving world.now.here shift.now.process.0 to.0 ∷ []
         → IsBest world.now x Two allowed (option + 1) result }
@@ -153,7 +154,7 @@ fn with_shift(
     requires machine { to.0 < machine_count world.now.tables }
     requires bound { cost_to_beat best.cost most ≤ 2 ^ 120 }
     ensures { (x : List ℕ) (d : Drawing) (allowed : ℕ) →
-        most ≡ cost_now world.now + allowed + 1 → IsBest world.now x d allowed option best →
+        most ≡ cost_at world.now + allowed + 1 → IsBest world.now x d allowed option best →
         steps_in world.now x d option ≡ leaving world.now.here shift.now.process.0 to.0 ∷ [] →
         IsBest world.now x d allowed (option + 1) result }
 {

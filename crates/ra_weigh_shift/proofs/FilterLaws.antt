@@ -24,7 +24,7 @@ use Rattle.ra_model.proofs.BoundLemmas.{moved_within}
 use Rattle.ra_cells.specs.Marks.{away}
 use Rattle.ra_moves.specs.Weighing.{local_cost}
 use Rattle.ra_rows.specs.FilterRows.{load_asked, load_row, first_asked, first_row, second_asked, second_row}
-use Rattle.ra_weigh_shift.specs.Arriving.{BreaksNothing, cost_after, cost_now, service_now, cost_added, cost_taken}
+use Rattle.ra_weigh_shift.specs.Arriving.{BreaksNothing, cost_after, service_now, cost_added, cost_taken}
 use Rattle.ra_weigh_shift.specs.Arriving.{sum_at, IsCostBelow, IsSumBelow}
 use Rattle.ra_weigh_shift.specs.Conditions.{shifted, HasRoom}
 use Rattle.ra_weigh_shift.specs.Sharing.{use_without, use_with, row_cost_with, cost_of, way_cost}
@@ -222,7 +222,7 @@ home_change st p to h = omega (
 
 pub home_at : (w : Situation) (p to kept without before now with way here service : ℕ) → IsSound w →
     p < process_count w.tables → to < machine_count w.tables → BreaksNothing w p to →
-    kept ≡ cost_now w → without ≡ row_cost_with w.tables (machine_at w.here p)
+    kept ≡ cost_at w → without ≡ row_cost_with w.tables (machine_at w.here p)
     (use_without w.tables w.here p) →
     before ≡ cost_of w.tables w.here (machine_at w.here p)
     + way_cost w.tables w.start p (machine_at w.here p) → now ≡ service_now w →

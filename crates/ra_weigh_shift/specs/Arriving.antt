@@ -4,7 +4,7 @@ use Rattle.ra_model.specs.Numbers.{service_of}
 use Rattle.ra_model.specs.Services.{in_neighbourhood}
 use Rattle.ra_model.specs.Situations.{Situation, cost_at, moved_at, service_cost_at}
 use Rattle.ra_moves.specs.declared.steps.Step.{Step}
-use Rattle.ra_moves.specs.Judging.{broken_by}
+use Rattle.ra_moves.specs.Judging.{broken_by, IsMoveBelow}
 use Rattle.ra_moves.specs.Options.{leaving}
 use Rattle.ra_moves.specs.Replacing.{after_move}
 use Rattle.ra_weigh_shift.specs.Conditions.{shifted}
@@ -31,16 +31,13 @@ moved_after st p to =
 abbrev pub members_near : Situation → ℕ → ℕ → ℕ
 members_near st s label = in_neighbourhood st.tables st.here s label
 
--- the cost now, and the service cost in it
-abbrev pub cost_now : Situation → ℕ
-cost_now st = cost_at st
-
+-- the service cost now
 abbrev pub service_now : Situation → ℕ
 service_now st = service_cost_at st
 
 -- for every machine but the initial one: the cost now plus what is added, and what is taken away
 abbrev pub cost_added : Situation → ℕ → ℕ
-cost_added st p = cost_now st + base_added st p
+cost_added st p = cost_at st + base_added st p
 
 abbrev pub cost_taken : Situation → ℕ → ℕ
 cost_taken st p = base_taken st p
@@ -50,11 +47,8 @@ abbrev pub sum_at : Situation → ℕ → ℕ → ℕ
 sum_at st p to = filter_sum st p to
 
 -- a cost if the shift breaks nothing and costs less than a bound, and none if it breaks something or costs more
-pub record IsCostBelow (st : Situation) (p to bound : ℕ) (cost : Option ℕ) : Type 0 where
-  pub free : (n : ℕ) → cost ≡ Some n → BreaksNothing st p to
-  pub found : (n : ℕ) → cost ≡ Some n → n ≡ cost_after st p to
-  pub below : (n : ℕ) → cost ≡ Some n → n < bound
-  pub none : cost ≡ None → BreaksNothing st p to → bound ≤ cost_after st p to
+abbrev pub IsCostBelow : Situation → ℕ → ℕ → ℕ → Option ℕ → Type 0
+IsCostBelow st p to bound cost = IsMoveBelow st (steps_to st p to) bound cost
 
 -- the sum of a machine, if it is below a bound
 pub record IsSumBelow (st : Situation) (p to bound : ℕ) (sum : Option ℕ) : Type 0 where

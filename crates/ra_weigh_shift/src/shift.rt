@@ -4,7 +4,7 @@ ghost use Rattle.ra_weigh_shift.specs.Filter.{service_away};
 ghost use Rattle.ra_model.specs.Assignments.{machine_at};
 ghost use Rattle.ra_model.specs.Services.{on_machine, in_neighbourhood};
 ghost use Rattle.ra_model.specs.Situations.{cost_at, IsSound};
-ghost use Rattle.ra_weigh_shift.specs.Arriving.{BreaksNothing, cost_after, moved_after, members_near, cost_now, service_now, cost_added, cost_taken, IsCostBelow, IsSumBelow, sum_at};
+ghost use Rattle.ra_weigh_shift.specs.Arriving.{BreaksNothing, cost_after, moved_after, members_near, service_now, cost_added, cost_taken, IsCostBelow, IsSumBelow, sum_at};
 ghost use Rattle.ra_weigh_shift.specs.Lanes.{AreCheapMarked};
 ghost use Rattle.ra_weigh_shift.specs.Conditions.{HasRoom, HasRoomBetween, IsAlone, locations_after, KeepsSpread, FindsOtherNeeds, KeepsDependants, IsAdmitted};
 ghost use Rattle.ra_weigh_shift.specs.Leaving.{machine_left, location_left, neighbourhood_left, spread_wanted, cost_left, cost_before};
@@ -60,7 +60,7 @@ pub struct Shift<'w, 'a> {
     ghost without_small: { without ≤ 30 * 2 ^ 96 },
     ghost before_is: { before ≡ cost_before world.now process.0 },
     ghost before_small: { before ≤ 2 ^ 102 },
-    ghost kept_is: { kept ≡ cost_now world.now },
+    ghost kept_is: { kept ≡ cost_at world.now },
     ghost kept_small: { kept < 2 ^ 114 },
     ghost service_cost_is: { service_cost ≡ service_now world.now },
     ghost service_cost_small: { service_cost < 2 ^ 48 },

@@ -5,12 +5,12 @@ use Rattle.ra_model.specs.Costs.{parts_of}
 use Rattle.ra_model.proofs.BoundLemmas.{objective_under}
 use Rattle.ra_moves.specs.MoveSteps.{step_count}
 use Rattle.ra_moves.specs.Options.{kind_of, option_count}
-use Rattle.ra_weigh_shift.specs.Arriving.{cost_now}
 use Rattle.ra_plan.specs.Choosing.{cost_to_beat}
-use Rattle.ra_plan.specs.Deciding.{IsMoveBelow}
+use Rattle.ra_moves.specs.Judging.{IsMoveBelow}
 use Rattle.ra_plan.proofs.OptionSizes.{option_length}
 use Rattle.ra_plan.proofs.Bests.{option_in}
 use Rattle.ra_plan.proofs.moves.best_move.Goals as goal
+use Rattle.ra_model.specs.Situations.{cost_at}
 
 pub loop-option-init : goal.loop-option-init
 loop-option-init g c = record { best = c.requires.first; counted = omega arith }
@@ -25,12 +25,12 @@ loop-option-preserved g c =
     let size : length c.resolve-mv.result.steps ≡ step_count (kind_of c.args.words.now) =
     rw option (option_length _ _ _ _ _) in
     let reads = rw size at c.cost_below-found.ensures.counted in
-    let kept : c.parts.result.total ≡ cost_now world = ap (λ (x : Parts). x.total) c.parts.ensures.value in
-    let most : c.parts.result.total + c.from.result + 1 ≡ cost_now world + c.args.allowed + 1 =
+    let kept : c.parts.result.total ≡ cost_at world = ap (λ (x : Parts). x.total) c.parts.ensures.value in
+    let most : c.parts.result.total + c.from.result + 1 ≡ cost_at world + c.args.allowed + 1 =
     omega (arith, kept, c.from.ensures) in
     let bound = c.bound.ensures ∙ ap (cost_to_beat c.loop-option.best.cost) most in
     record {
-      best = c.or_below-best.ensures world _ _ c.args.allowed _ c.loop-option.invariant.best
+      best = c.or_found-best.ensures.best world _ _ c.args.allowed _ c.loop-option.invariant.best
           (option_in world _ _ _ _ _ machines option)
           (subst (λ b. IsMoveBelow world c.resolve-mv.result.steps b c.cost_below-found.result) bound
           c.cost_below-found.ensures.below);
@@ -53,7 +53,7 @@ pub overflow_add-most : goal.overflow_add-most
 unfolding parts_of
 overflow_add-most g c =
     let world = c.args.world.now in
-    let kept : c.parts.result.total ≡ cost_now world = ap (λ (x : Parts). x.total) c.parts.ensures.value in
+    let kept : c.parts.result.total ≡ cost_at world = ap (λ (x : Parts). x.total) c.parts.ensures.value in
     omega (
       arith,
       kept,
@@ -66,7 +66,7 @@ pub overflow_add-most-2 : goal.overflow_add-most-2
 unfolding parts_of
 overflow_add-most-2 g c =
     let world = c.args.world.now in
-    let kept : c.parts.result.total ≡ cost_now world = ap (λ (x : Parts). x.total) c.parts.ensures.value in
+    let kept : c.parts.result.total ≡ cost_at world = ap (λ (x : Parts). x.total) c.parts.ensures.value in
     omega (
       arith,
       kept,

@@ -5,9 +5,9 @@ use Rattle.ra_moves.proofs.OptionLemmas.{shift_named}
 use Rattle.ra_base.specs.declared.costs.Parts.{Parts}
 use Rattle.ra_model.specs.Costs.{parts_of}
 use Rattle.ra_model.proofs.BoundLemmas.{objective_under}
-use Rattle.ra_weigh_shift.specs.Arriving.{cost_now}
 use Rattle.ra_plan.proofs.Bests.{shift_in, bound_fits}
 use Rattle.ra_plan.proofs.shifts.best_in_order.Goals as goal
+use Rattle.ra_model.specs.Situations.{cost_at}
 
 pub loop-option-init : goal.loop-option-init
 loop-option-init c = c.none-best.ensures _ _ _ _
@@ -66,7 +66,7 @@ pub overflow_add-most : goal.overflow_add-most
 unfolding parts_of
 overflow_add-most c =
     let world = c.args.world.now in
-    let kept : c.parts.result.total ≡ cost_now world = ap (λ (x : Parts). x.total) c.parts.ensures.value in
+    let kept : c.parts.result.total ≡ cost_at world = ap (λ (x : Parts). x.total) c.parts.ensures.value in
     omega (
       arith,
       kept,
@@ -79,7 +79,7 @@ pub overflow_add-most-2 : goal.overflow_add-most-2
 unfolding parts_of
 overflow_add-most-2 c =
     let world = c.args.world.now in
-    let kept : c.parts.result.total ≡ cost_now world = ap (λ (x : Parts). x.total) c.parts.ensures.value in
+    let kept : c.parts.result.total ≡ cost_at world = ap (λ (x : Parts). x.total) c.parts.ensures.value in
     omega (
       arith,
       kept,
@@ -92,7 +92,7 @@ pub with_shift-best-requires-clause-bound : goal.with_shift-best-requires-clause
 unfolding parts_of
 with_shift-best-requires-clause-bound c =
     let world = c.args.world.now in
-    let kept : c.parts.result.total ≡ cost_now world = ap (λ (x : Parts). x.total) c.parts.ensures.value in
+    let kept : c.parts.result.total ≡ cost_at world = ap (λ (x : Parts). x.total) c.parts.ensures.value in
     bound_fits world c.args.words.now c.args.drawing c.args.allowed c.loop-option.option
     (c.parts.result.total + c.from.result + 1) c.loop-option.best c.instance.ensures.sound
     c.loop-option.invariant
@@ -104,6 +104,6 @@ loop-option-preserved c =
     let world = c.args.world.now in
     let machines : c.machines-machines.result ≡ machine_count world.tables =
     rw c.instance.ensures.value at c.machines-machines.ensures in
-    let kept : c.parts.result.total ≡ cost_now world = ap (λ (x : Parts). x.total) c.parts.ensures.value in
+    let kept : c.parts.result.total ≡ cost_at world = ap (λ (x : Parts). x.total) c.parts.ensures.value in
     c.with_shift-best.ensures _ _ c.args.allowed (omega (arith, kept, c.from.ensures)) c.loop-option.invariant
     (shift_in world _ _ _ _ _ _ machines c.requires.shift c.requires.named c.target-to.ensures.value)

@@ -6,11 +6,11 @@ use Rattle.ra_model.specs.Costs.{parts_of}
 use Rattle.ra_model.specs.Numbers.{machine_count}
 use Rattle.ra_model.specs.declared.raw.Tables.{Tables}
 use Rattle.ra_model.proofs.BoundLemmas.{objective_under}
-use Rattle.ra_weigh_shift.specs.Arriving.{cost_now}
 use Rattle.ra_plan.specs.Choosing.{IsBest}
 use Rattle.ra_plan.proofs.OptionSizes.{window_count}
 use Rattle.ra_plan.proofs.Marked.{window_of}
 use Rattle.ra_plan.proofs.shifts.best_in_window.Goals as goal
+use Rattle.ra_model.specs.Situations.{cost_at}
 
 pub nonzero_rem-first : goal.nonzero_rem-first
 nonzero_rem-first c =
@@ -21,7 +21,7 @@ pub overflow_add-most : goal.overflow_add-most
 unfolding parts_of
 overflow_add-most c =
     let world = c.args.world.now in
-    let kept : c.parts.result.total ≡ cost_now world = ap (λ (x : Parts). x.total) c.parts.ensures.value in
+    let kept : c.parts.result.total ≡ cost_at world = ap (λ (x : Parts). x.total) c.parts.ensures.value in
     omega (
       arith,
       kept,
@@ -34,7 +34,7 @@ pub overflow_add-most-2 : goal.overflow_add-most-2
 unfolding parts_of
 overflow_add-most-2 c =
     let world = c.args.world.now in
-    let kept : c.parts.result.total ≡ cost_now world = ap (λ (x : Parts). x.total) c.parts.ensures.value in
+    let kept : c.parts.result.total ≡ cost_at world = ap (λ (x : Parts). x.total) c.parts.ensures.value in
     omega (
       arith,
       kept,
@@ -58,7 +58,7 @@ pub marks-requires-clause-bound : goal.marks-requires-clause-bound
 unfolding parts_of
 marks-requires-clause-bound c =
     let world = c.args.world.now in
-    let kept : c.parts.result.total ≡ cost_now world = ap (λ (x : Parts). x.total) c.parts.ensures.value in
+    let kept : c.parts.result.total ≡ cost_at world = ap (λ (x : Parts). x.total) c.parts.ensures.value in
     omega (
       arith,
       kept,
@@ -81,7 +81,7 @@ pub best_marked-requires-clause-most : goal.best_marked-requires-clause-most
 unfolding parts_of
 best_marked-requires-clause-most c =
     let world = c.args.world.now in
-    let kept : c.parts.result.total ≡ cost_now world = ap (λ (x : Parts). x.total) c.parts.ensures.value in
+    let kept : c.parts.result.total ≡ cost_at world = ap (λ (x : Parts). x.total) c.parts.ensures.value in
     omega (
       arith,
       kept,
@@ -98,7 +98,7 @@ unfolding parts_of
 returns-in-Some c =
     let world = c.args.world.now in
     let machines = c.machines-machines.ensures ∙ ap (λ (j : Tables). machine_count j) c.instance.ensures.value in
-    let kept : c.parts.result.total ≡ cost_now world = ap (λ (x : Parts). x.total) c.parts.ensures.value in
+    let kept : c.parts.result.total ≡ cost_at world = ap (λ (x : Parts). x.total) c.parts.ensures.value in
     let count = window_count c.args.words.now (machine_count world.tables) c.requires.shift in
     subst (λ n. IsBest world c.args.words.now Two c.args.allowed n c.best_marked.result) (sym count)
     (c.best_marked.ensures c.args.words.now c.args.allowed (omega (arith, kept, c.from.ensures))

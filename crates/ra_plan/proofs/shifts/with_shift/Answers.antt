@@ -14,6 +14,6 @@ pub returns : goal.returns
 returns c = λ x d allowed most is same.
     let world = c.args.world.now in
     let below = rw c.requires.world at c.cost_below.ensures in
-    c.or_found.ensures.best world x d allowed c.args.shift.now.process.0 c.args.to.0 is same
+    c.or_found.ensures.best world x d allowed _ is same
     (subst (λ b. IsCostBelow world c.args.shift.now.process.0 c.args.to.0 b c.cost_below.result)
     (c.bound.ensures ∙ ap (cost_to_beat c.args.best.cost) most) below)

@@ -18,7 +18,7 @@ pub returns-clause-best : goal.returns-clause-best
 returns-clause-best c = λ x allowed most is same.
     let world = c.args.world.now in
     let below = rw c.requires.world at c.cost_summed.ensures in
-    c.or_found.ensures.best world x Two allowed c.args.shift.now.process.0 c.args.to.0 is same
+    c.or_found.ensures.best world x Two allowed _ is same
     (subst (λ b. IsCostBelow world c.args.shift.now.process.0 c.args.to.0 b c.cost_summed.result)
     (c.bound.ensures ∙ ap (cost_to_beat c.args.best.cost) most) below)
 
@@ -28,7 +28,6 @@ returns-clause-bound c =
     c.cost_summed.result) c.bound.ensures c.cost_summed.ensures in
     omega (
       arith,
-      c.or_found.ensures.bound c.args.shift.now.world.now c.args.shift.now.process.0 c.args.to.0 c.args.most
-          below,
+      c.or_found.ensures.bound c.args.shift.now.world.now _ c.args.most below,
       c.requires.bound,
     )

@@ -6,16 +6,17 @@ use Rattle.ra_model.proofs.BoundLemmas.{objective_under, service_under}
 use Rattle.ra_model.specs.Numbers.{service_of, location_of, neighbourhood_of, spread_of}
 use Rattle.ra_model.specs.Assignments.{machine_at}
 use Rattle.ra_model.specs.declared.raw.Tables.{Tables}
-use Rattle.ra_weigh_shift.specs.Arriving.{cost_now, service_now}
+use Rattle.ra_weigh_shift.specs.Arriving.{service_now}
 use Rattle.ra_weigh_shift.specs.Filter.{base_added, base_taken}
 use Rattle.ra_weigh_shift.specs.Sharing.{AreRequired, use_without, row_cost_with}
 use Rattle.ra_weigh_shift.proofs.shift.Shift.make.Goals as goal
+use Rattle.ra_model.specs.Situations.{cost_at}
 
 pub overflow_add-result-2 : goal.overflow_add-result-2
 unfolding parts_of
 overflow_add-result-2 g c =
     let w = c.args.world.now in
-    let kept : c.parts-parts.result.total ≡ cost_now w = ap (λ (x : Parts). x.total) c.parts-parts.ensures.value in
+    let kept : c.parts-parts.result.total ≡ cost_at w = ap (λ (x : Parts). x.total) c.parts-parts.ensures.value in
     omega (
       arith,
       kept,
@@ -57,7 +58,7 @@ invariant_of-result g c =
     let are = subst (λ (j : Tables). AreRequired j p c.required_of-required.result)
     c.instance-inst.ensures.value
     c.required_of-required.ensures.value in
-    let kept : c.parts-parts.result.total ≡ cost_now w = ap (λ (x : Parts). x.total) c.parts-parts.ensures.value in
+    let kept : c.parts-parts.result.total ≡ cost_at w = ap (λ (x : Parts). x.total) c.parts-parts.ensures.value in
     let now : c.parts-parts.result.service ≡ service_now w =
     ap (λ (x : Parts). x.service) c.parts-parts.ensures.value in
     let without = c.cost_without-without.ensures.value
