@@ -1,3 +1,6 @@
+ghost use Rattle.std.specs.Prelude.{◌≡◌, ◌+◌};
+ghost use Rattle.ra_base.specs.SmallParts.{AreSmall};
+
 use crate::ids::Service;
 
 /// The five parts of the cost of an assignment, each multiplied by its weight, and their sum.
@@ -15,6 +18,31 @@ pub struct Parts {
     pub machine: u128,
     /// The sum of the five.
     pub total: u128,
+}
+
+impl Parts {
+    /// Five parts with their sum.
+    pub fn summed(load: u128, balance: u128, process: u128, service: u128, machine: u128) -> Parts
+        requires { AreSmall load balance process service machine }
+        ensures { result ≡
+            record {
+              load = load;
+              balance = balance;
+              process = process;
+              service = service;
+              machine = machine;
+              total = load + balance + process + service + machine;
+            } }
+    {
+        Parts {
+            load,
+            balance,
+            process,
+            service,
+            machine,
+            total: load + balance + process + service + machine,
+        }
+    }
 }
 
 /// How many processes of a service aren't on their initial machine, before and after a move.

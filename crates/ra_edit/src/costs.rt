@@ -99,36 +99,3 @@ fn replaced(sum: u128, before: u128, after: u128) -> u128
 {
     sum - before + after
 }
-
-/// The five parts with their sum.
-pub(crate) fn summed(
-    load: u128,
-    balance: u128,
-    process: u128,
-    service: u128,
-    machine: u128,
-) -> Parts
-    requires load { load < 2 ^ 120 }
-    requires balance { balance < 2 ^ 120 }
-    requires process { process < 2 ^ 120 }
-    requires service { service < 2 ^ 120 }
-    requires machine { machine < 2 ^ 120 }
-    ensures { result ≡
-        record {
-          load = load;
-          balance = balance;
-          process = process;
-          service = service;
-          machine = machine;
-          total = load + balance + process + service + machine;
-        } }
-{
-    Parts {
-        load,
-        balance,
-        process,
-        service,
-        machine,
-        total: load + balance + process + service + machine,
-    }
-}

@@ -10,7 +10,7 @@ ghost use Rattle.ra_edit.specs.Replies.{barred};
 ghost use Rattle.ra_edit.specs.Kinds.{Asks, HasCome, HasGone, HasOther, IsEdited};
 ghost use Rattle.ra_edit.specs.Loads.{IsHeld, draft_in};
 
-use crate::costs::{costs_with, moved_share, summed, way_share};
+use crate::costs::{costs_with, moved_share, way_share};
 use crate::judging::{added_breaks, resized_breaks, retired_breaks};
 use crate::keeping::Kept;
 use crate::lists::machine_of;
@@ -87,7 +87,7 @@ fn judge_added(
     }
     let costs = costs_with(inst, lists, loads, kept.parts, m, used.as_slice());
     let way = u128::from(inst.machine_weight()) * u128::from(inst.move_cost(m, m));
-    let cost = summed(
+    let cost = Parts::summed(
         costs.load,
         costs.balance,
         kept.parts.process,
@@ -131,7 +131,7 @@ fn judge_resized(
         return Ok(Judged::Refused(cause));
     }
     let costs = costs_with(inst, lists, loads, kept.parts, here, used.as_slice());
-    let cost = summed(
+    let cost = Parts::summed(
         costs.load,
         costs.balance,
         kept.parts.process,
@@ -182,5 +182,5 @@ fn parts_without(
     let process = kept.parts.process - moved_share(inst, lists, p);
     let service = service_cost_without(&kept.moved, inst, lists, p);
     let machine = kept.parts.machine - way_share(inst, lists, p);
-    Ok(summed(costs.load, costs.balance, process, service, machine))
+    Ok(Parts::summed(costs.load, costs.balance, process, service, machine))
 }

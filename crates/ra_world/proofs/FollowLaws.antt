@@ -17,7 +17,8 @@ use Rattle.ra_rows.specs.Rows as rows
 use Rattle.ra_cells.specs.Stands as cells
 use Rattle.ra_world.specs.declared.kept.Kept.{Kept}
 use Rattle.ra_world.specs.FilterTables.{IsRowTable}
-use Rattle.ra_world.specs.Costs.{AreCosts, AreSmall}
+use Rattle.ra_base.specs.SmallParts.{AreSmall}
+use Rattle.ra_world.specs.Costs.{AreCosts}
 use Rattle.ra_world.specs.Keeping.{Keeps}
 use Rattle.ra_world.proofs.CostLaws.{process_set, machine_set, process_counted, machine_counted}
 use Rattle.ra_world.proofs.RenewalLaws.{load_stays, balance_stays, renewed, summed_costs, load_summed, balance_summed}

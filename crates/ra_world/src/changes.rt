@@ -4,9 +4,8 @@ ghost use Rattle.ra_model.specs.Numbers.{machine_count, process_count, process_w
 ghost use Rattle.ra_model.specs.Assignments.{IsAssignment, machine_at};
 ghost use Rattle.ra_model.specs.Costs.{process_share, way_share, service_cost};
 ghost use Rattle.ra_cells.specs.Stands.{StandFor};
-ghost use Rattle.ra_world.specs.Costs.{AreSmall};
 
-use ra_base::{Assignment, Machine, Parts, Process};
+use ra_base::{Assignment, Machine, Process};
 use ra_cells::Cells;
 use ra_model::Instance;
 use ra_moves::Step;
@@ -95,33 +94,4 @@ pub(crate) fn service_cost(inst: &Instance, cells: &Cells<'_>) -> u128
 {
     let most = cells.greatest().greatest();
     u128::from(inst.service_weight()) * u128::from(most)
-}
-
-/// The five parts with their sum.
-pub(crate) fn summed(
-    load: u128,
-    balance: u128,
-    process: u128,
-    service: u128,
-    machine: u128,
-) -> Parts
-    requires { AreSmall load balance process service machine }
-    ensures { result ≡
-        record {
-          load = load;
-          balance = balance;
-          process = process;
-          service = service;
-          machine = machine;
-          total = load + balance + process + service + machine;
-        } }
-{
-    Parts {
-        load,
-        balance,
-        process,
-        service,
-        machine,
-        total: load + balance + process + service + machine,
-    }
 }

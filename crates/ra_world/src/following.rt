@@ -5,11 +5,11 @@ ghost use Rattle.ra_moves.specs.Replacing.{applied};
 ghost use Rattle.ra_world.specs.Keeping.{Keeps};
 ghost use Rattle.ra_world.specs.Following.{AreSteps};
 
-use crate::changes::{machine_after, process_after, service_cost, summed};
+use crate::changes::{machine_after, process_after, service_cost};
 use crate::filters::renew_filters;
 use crate::kept::Kept;
 use crate::renewal::{renew_balances, renew_loads};
-use ra_base::{Assignment, Steps};
+use ra_base::{Assignment, Parts, Steps};
 use ra_model::Instance;
 use ra_moves::{Move, Step};
 use std::sync::ledger::Ledger;
@@ -70,5 +70,5 @@ fn follow_step<L: Ledger>(
     let process = process_after(inst, start, step, kept.parts.process);
     let service = service_cost(inst, &kept.cells);
     let machine = machine_after(inst, start, step, kept.parts.machine);
-    kept.parts = summed(load, balance, process, service, machine);
+    kept.parts = Parts::summed(load, balance, process, service, machine);
 }

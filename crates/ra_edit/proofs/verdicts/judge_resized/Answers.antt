@@ -114,11 +114,11 @@ summed-cost-requires c =
     let has : HasParts d c.args.kept.now.parts = parts_told d c.args.kept.now.parts c.requires.held.kept
     c.small.ensures in
     record {
-      load = c.costs_with-costs.ensures.load_small;
-      balance = c.costs_with-costs.ensures.balance_small;
-      process = omega (arith, has.process_small);
-      service = omega (arith, has.service_small);
-      machine = omega (arith, has.machine_small);
+      load_small = c.costs_with-costs.ensures.load_small;
+      balance_small = c.costs_with-costs.ensures.balance_small;
+      process_small = omega (arith, has.process_small);
+      service_small = omega (arith, has.service_small);
+      machine_small = omega (arith, has.machine_small);
     }
 
 pub returns : goal.returns
