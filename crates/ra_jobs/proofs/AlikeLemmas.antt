@@ -5,29 +5,13 @@ use Rattle.ra_base.specs.declared.ids.Machine.{Machine}
 use Rattle.ra_draws.specs.declared.sources.Lot.{Lot}
 use Rattle.ra_model.specs.declared.raw.RawInstance.{RawInstance}
 use Rattle.ra_model.specs.declared.raw.Tables.{Tables}
-use Rattle.ra_model.specs.Broken.{capacity_test, row_capacity, broken_capacity, transient_test, row_transient}
-use Rattle.ra_model.specs.Broken.{broken_transient, conflict_test, service_conflict, broken_conflict, spread_test}
-use Rattle.ra_model.specs.Broken.{broken_spread, near_of, far_test, dependency_test, pair_dependency}
-use Rattle.ra_model.specs.Broken.{service_dependency, broken_dependency, closed_test, broken_closed, first_broken}
-use Rattle.ra_model.specs.Costs.{excess_on, load_part, load_cost, available, shortfall, balance_part, balance_cost}
-use Rattle.ra_model.specs.Costs.{process_share, process_cost, service_cost, way_share, machine_cost, objective}
-use Rattle.ra_model.specs.Costs.{parts_of}
-use Rattle.ra_model.specs.Numbers.{resource_row, machine_row, service_row, process_row, balance_row, resource_count}
-use Rattle.ra_model.specs.Numbers.{machine_count, service_count, process_count, balance_count, transient_at}
-use Rattle.ra_model.specs.Numbers.{load_weight_of, neighbourhood_of, location_of, capacity_of, safety_of, way_cost_of}
-use Rattle.ra_model.specs.Numbers.{spread_of, dependency_end, dependency_start, dependency_count, need_at, need_of}
-use Rattle.ra_model.specs.Numbers.{service_of, requirement_of, process_cost_of, first_of, second_of, target_of}
-use Rattle.ra_model.specs.Numbers.{balance_weight_of, process_weight_of, service_weight_of, machine_weight_of, flag_in}
-use Rattle.ra_model.specs.Numbers.{closed_at}
-use Rattle.ra_model.specs.Services.{is_of, of_service, members_at, on_machine, in_neighbourhood, in_location}
-use Rattle.ra_model.specs.Services.{locations_of, moved_of}
+use Rattle.ra_model.specs.Broken.{capacity_test, row_capacity, broken_capacity, transient_test, row_transient, broken_transient, conflict_test, service_conflict, broken_conflict, spread_test, broken_spread, near_of, far_test, dependency_test, pair_dependency, service_dependency, broken_dependency, closed_test, broken_closed, first_broken}
+use Rattle.ra_model.specs.Costs.{excess_on, load_part, load_cost, available, shortfall, balance_part, balance_cost, process_share, process_cost, service_cost, way_share, machine_cost, objective, parts_of}
+use Rattle.ra_model.specs.Numbers.{resource_row, machine_row, service_row, process_row, balance_row, resource_count, machine_count, service_count, process_count, balance_count, transient_at, load_weight_of, neighbourhood_of, location_of, capacity_of, safety_of, way_cost_of, spread_of, dependency_end, dependency_start, dependency_count, need_at, need_of, service_of, requirement_of, process_cost_of, first_of, second_of, target_of, balance_weight_of, process_weight_of, service_weight_of, machine_weight_of, flag_in, closed_at}
+use Rattle.ra_model.specs.Services.{is_of, of_service, members_at, on_machine, in_neighbourhood, in_location, locations_of, moved_of}
 use Rattle.ra_model.specs.Usage.{use_share, use_of, transient_share, transient_of}
-use Rattle.ra_repair.specs.Penalty.{use_above, row_above, capacity_penalty, transient_above, row_transient_above}
-use Rattle.ra_repair.specs.Penalty.{transient_penalty, crowd_on, service_crowd, conflict_penalty, spread_lack}
-use Rattle.ra_repair.specs.Penalty.{spread_penalty, far_share, pair_far, service_far, dependency_penalty, closed_share}
-use Rattle.ra_repair.specs.Penalty.{closed_penalty, penalty}
-use Rattle.ra_repair.specs.Runs.{try_count, try_option, penalty_by, option_penalty, least_after, chosen, try_with}
-use Rattle.ra_repair.specs.Runs.{try_at, next_try, repaired_by, repair_run}
+use Rattle.ra_repair.specs.Penalty.{use_above, row_above, capacity_penalty, transient_above, row_transient_above, transient_penalty, crowd_on, service_crowd, conflict_penalty, spread_lack, spread_penalty, far_share, pair_far, service_far, dependency_penalty, closed_share, closed_penalty, penalty}
+use Rattle.ra_repair.specs.Runs.{try_count, try_option, penalty_by, option_penalty, least_after, chosen, try_with, try_at, next_try, repaired_by, repair_run}
 use Rattle.ra_jobs.proofs.RowLemmas.{raw_of, bare_raw}
 use Rattle.ra_jobs.proofs.BareLemmas.{bare, bare_closed}
 

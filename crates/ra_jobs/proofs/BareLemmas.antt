@@ -5,21 +5,14 @@ use Rattle.ra_base.specs.Tables.{cell}
 use Rattle.ra_base.specs.declared.ids.Machine.{Machine}
 use Rattle.ra_model.specs.declared.raw.RawInstance.{RawInstance}
 use Rattle.ra_model.specs.declared.raw.Tables.{Tables}
-use Rattle.ra_model.specs.Numbers.{resource_row, machine_row, service_row, process_row, resource_count, machine_count}
-use Rattle.ra_model.specs.Numbers.{service_count, process_count, transient_at, neighbourhood_of, location_of}
-use Rattle.ra_model.specs.Numbers.{capacity_of, spread_of, dependency_end, dependency_start, need_at, need_of}
-use Rattle.ra_model.specs.Numbers.{dependency_count, service_of, requirement_of, flag_in, closed_at}
+use Rattle.ra_model.specs.Numbers.{resource_row, machine_row, service_row, process_row, resource_count, machine_count, service_count, process_count, transient_at, neighbourhood_of, location_of, capacity_of, spread_of, dependency_end, dependency_start, need_at, need_of, dependency_count, service_of, requirement_of, flag_in, closed_at}
 use Rattle.ra_jobs.proofs.RowLemmas.{plain, raw_of, bare_raw}
 use Rattle.ra_assign.specs.ClosedLists.{closed_refusal, token_test, machine_test as closed_machine_test}
 use Rattle.ra_assign.specs.Lists.{assign_refusal, process_test, machine_test as assign_machine_test, end_test}
 use Rattle.ra_model.specs.Assignments.{tally}
 use Rattle.ra_model.specs.Usage.{use_share, use_of, transient_share, transient_of}
-use Rattle.ra_model.specs.Services.{is_of, of_service, members_at, on_machine, in_neighbourhood, in_location}
-use Rattle.ra_model.specs.Services.{locations_of}
-use Rattle.ra_model.specs.Broken.{capacity_test, row_capacity, broken_capacity, transient_test, row_transient}
-use Rattle.ra_model.specs.Broken.{broken_transient, conflict_test, service_conflict, broken_conflict, spread_test}
-use Rattle.ra_model.specs.Broken.{broken_spread, near_of, far_test, dependency_test, pair_dependency}
-use Rattle.ra_model.specs.Broken.{service_dependency, broken_dependency, closed_test, broken_closed, first_broken}
+use Rattle.ra_model.specs.Services.{is_of, of_service, members_at, on_machine, in_neighbourhood, in_location, locations_of}
+use Rattle.ra_model.specs.Broken.{capacity_test, row_capacity, broken_capacity, transient_test, row_transient, broken_transient, conflict_test, service_conflict, broken_conflict, spread_test, broken_spread, near_of, far_test, dependency_test, pair_dependency, service_dependency, broken_dependency, closed_test, broken_closed, first_broken}
 
 unfoldable pub bare_closed : Option (Listed Bool) → Option (Listed Bool)
 bare_closed None = None

@@ -1,7 +1,6 @@
 -- When each status comes, from how a job ends.
 use Rattle.std.specs.Prelude.{unwrap_or}
-use Rattle.std.proofs.Common.{◌≡◌, ◌≢◌, ◌⊎◌, ℕ, true, false, List, [], Option, Some, None, IsSome, inl, inr, ⊎_elim}
-use Rattle.std.proofs.Common.{refl, sym, ◌∙◌, subst, le_trans}
+use Rattle.std.proofs.Common.{◌≡◌, ◌≢◌, ◌⊎◌, ℕ, true, false, List, [], Option, Some, None, IsSome, inl, inr, ⊎_elim, refl, sym, ◌∙◌, subst, le_trans}
 use Rattle.std.proofs.lemmas.Bool.{cases_Bool, leb-true, le-leb}
 use Rattle.ra_base.specs.declared.causes.Cause.{Cause}
 use Rattle.ra_base.specs.declared.ids.Machine.{Machine}
@@ -15,20 +14,16 @@ use Rattle.ra_assign.specs.declared.faults.ClosedFault.{ClosedFault}
 use Rattle.ra_jobs.specs.declared.refusals.File.{File}
 use Rattle.ra_jobs.specs.declared.refusals.File.TheVariants as file
 use Rattle.ra_jobs.specs.declared.refusals.Refusal.{Refusal}
-use Rattle.ra_jobs.specs.declared.refusals.Refusal.TheVariants.{Read, Model, Closed, Assign, Broken}
-use Rattle.ra_jobs.specs.declared.refusals.Refusal.TheVariants.{Unrepaired as Repaired, Write, Memory}
+use Rattle.ra_jobs.specs.declared.refusals.Refusal.TheVariants.{Read, Model, Closed, Assign, Broken, Unrepaired as Repaired, Write, Memory}
 use Rattle.ra_jobs.specs.declared.refusals.Role.{Role}
 use Rattle.ra_jobs.specs.declared.refusals.Role.TheVariants as role
 use Rattle.ra_jobs.specs.declared.status.Status.{Status}
-use Rattle.ra_jobs.specs.declared.status.Status.TheVariants.{Done, ReadFault, BadModel, BadAssignment, Infeasible}
-use Rattle.ra_jobs.specs.declared.status.Status.TheVariants.{WriteFault, NoMemory, BadClosed, Unrepaired}
+use Rattle.ra_jobs.specs.declared.status.Status.TheVariants.{Done, ReadFault, BadModel, BadAssignment, Infeasible, WriteFault, NoMemory, BadClosed, Unrepaired}
 use Rattle.ra_jobs.specs.Comes.{KnownTo, Comes, InfeasibleComes}
 use Rattle.ra_jobs.specs.Ends.{puts_first}
-use Rattle.ra_jobs.specs.Files.{Held, Faults, Names, name_of, file_of, rank_of, is_up_to, IsNamed, EndsAt, ModelIs}
-use Rattle.ra_jobs.specs.Files.{InstanceIs, NamedListIs, Accepts, Passes}
+use Rattle.ra_jobs.specs.Files.{Held, Faults, Names, name_of, file_of, rank_of, is_up_to, IsNamed, EndsAt, ModelIs, InstanceIs, NamedListIs, Accepts, Passes}
 use Rattle.ra_jobs.specs.Outputs.{CheckPrinted, BoundIs, BoundPrinted}
-use Rattle.ra_jobs.specs.Refusals.{Reason, Judges, OnlyWrites, ReadBefore, FileReadFailed, ModelRefused, ClosedRefused}
-use Rattle.ra_jobs.specs.Refusals.{RoleRefused, RoleBreaks}
+use Rattle.ra_jobs.specs.Refusals.{Reason, Judges, OnlyWrites, ReadBefore, FileReadFailed, ModelRefused, ClosedRefused, RoleRefused, RoleBreaks}
 use Rattle.ra_jobs.specs.Statuses.{status_of}
 use Rattle.ra_jobs.proofs.CompleteLemmas.{is_done}
 use Rattle.ra_jobs.proofs.EndLemmas.{Ends}

@@ -1,14 +1,12 @@
 -- What a command does, from how it ends.
-use Rattle.std.proofs.Common.{◌≡◌, ◌≢◌, ◌≤◌, List, ℕ, false, Option, Result, Ok, Err, OnOk, IfErr, IsErr, IsErrAnd}
-use Rattle.std.proofs.Common.{refl, sym, subst, ◌∙◌, arith, inr}
+use Rattle.std.proofs.Common.{◌≡◌, ◌≢◌, ◌≤◌, List, ℕ, false, Option, Result, Ok, Err, OnOk, IfErr, IsErr, IsErrAnd, refl, sym, subst, ◌∙◌, arith, inr}
 use Rattle.ra_io.specs.Outside.{Reading, LeavesFiles, Took, WriteFailed}
 use Rattle.ra_token.proofs.ToldLemmas.{at_exit}
 use Rattle.ra_jobs.specs.declared.refusals.File.TheVariants as file
 use Rattle.ra_jobs.specs.declared.refusals.Refusal.{Refusal}
 use Rattle.ra_jobs.specs.declared.refusals.Refusal.TheVariants.{Memory, Write}
 use Rattle.ra_jobs.specs.declared.status.Status.{Status}
-use Rattle.ra_jobs.specs.declared.status.Status.TheVariants.{ReadFault, BadModel, BadAssignment, Infeasible, WriteFault}
-use Rattle.ra_jobs.specs.declared.status.Status.TheVariants.{NoMemory, BadClosed}
+use Rattle.ra_jobs.specs.declared.status.Status.TheVariants.{ReadFault, BadModel, BadAssignment, Infeasible, WriteFault, NoMemory, BadClosed}
 use Rattle.ra_jobs.specs.Comes.{Comes, InfeasibleComes}
 use Rattle.ra_jobs.specs.Commands.{Command, OverFiles, over, judged}
 use Rattle.ra_jobs.specs.Complete.{NoFault}
@@ -19,8 +17,7 @@ use Rattle.ra_jobs.specs.Output.{Output, BrokeOff, Put}
 use Rattle.ra_jobs.specs.Outputs.{CheckPrinted, BoundPrinted, checked, bounded}
 use Rattle.ra_jobs.specs.Refusals.{Reason}
 use Rattle.ra_jobs.proofs.CompleteLemmas.{complete, judges_none, writes_none}
-use Rattle.ra_jobs.proofs.ComesLemmas.{Listed, Went, comes, infeasible_comes, judges_listed, printed_went, bound_listed}
-use Rattle.ra_jobs.proofs.ComesLemmas.{writes_listed, never_infeasible}
+use Rattle.ra_jobs.proofs.ComesLemmas.{Listed, Went, comes, infeasible_comes, judges_listed, printed_went, bound_listed, writes_listed, never_infeasible}
 use Rattle.ra_jobs.proofs.EndLemmas.{EndsOver, ends_memory, ends_otherwise, finished, left_so}
 use Rattle.ra_jobs.proofs.StageLemmas.{reason_more}
 

@@ -10,3 +10,5 @@ pub mod CompleteLemmas
 pub mod ComesLemmas
 pub mod DoesLemmas
 pub mod RepairLemmas
+pub mod EditedTexts
+pub mod EditLemmas

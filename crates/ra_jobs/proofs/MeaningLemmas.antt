@@ -1,7 +1,6 @@
 -- Over told bytes the files of a job mean one instance, but for the room of its lists, and one assignment each: so no
 -- file is accepted and refused at once.
-use Rattle.std.proofs.Common.{◌≡◌, ℕ, ◌<◌, Bool, false, List, Option, Some, None, Result, Ok, IfSome, IsSome, refl, sym}
-use Rattle.std.proofs.Common.{◌∙◌, ap, subst, []}
+use Rattle.std.proofs.Common.{◌≡◌, ℕ, ◌<◌, Bool, false, List, Option, Some, None, Result, Ok, IfSome, IsSome, refl, sym, ◌∙◌, ap, subst, []}
 use Rattle.std.specs.Prelude.{unwrap_or}
 use Rattle.std.proofs.lemmas.List.{ext_get_or}
 use Rattle.ra_base.specs.declared.causes.Cause.{Cause}
@@ -20,8 +19,7 @@ use Rattle.ra_assign.specs.Lists.{assign_refusal, IsAssignmentOf}
 use Rattle.ra_assign.specs.ClosedLists.{closed_refusal, IsClosedOf}
 use Rattle.ra_assign.proofs.AssignLemmas.{assign_accepts}
 use Rattle.ra_assign.proofs.ClosedLemmas.{closed_accepts}
-use Rattle.ra_jobs.specs.Files.{Held, Names, name_of, file_of, IsNamed, ModelIs, CloseIs, InstanceIs, NamedListIs}
-use Rattle.ra_jobs.specs.Files.{Accepts}
+use Rattle.ra_jobs.specs.Files.{Held, Names, name_of, file_of, IsNamed, ModelIs, CloseIs, InstanceIs, NamedListIs, Accepts}
 use Rattle.ra_jobs.specs.declared.refusals.Role.{Role}
 use Rattle.ra_jobs.specs.declared.refusals.Role.TheVariants as role
 use Rattle.ra_jobs.specs.Refusals.{ModelRefused, ListRefused, ClosedRefused, RoleRefused, Breaks, RoleBreaks}

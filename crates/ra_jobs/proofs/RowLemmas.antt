@@ -10,9 +10,7 @@ use Rattle.ra_model.specs.declared.raw.ProcessRow.{ProcessRow}
 use Rattle.ra_model.specs.declared.raw.RawInstance.{RawInstance}
 use Rattle.ra_model.specs.declared.raw.ResourceRow.{ResourceRow}
 use Rattle.ra_model.specs.declared.raw.ServiceRow.{ServiceRow}
-use Rattle.ra_model_read.specs.Lists.{ResourceNumbers, MachineNumbers, ServiceNumbers, ProcessNumbers, BalanceNumbers}
-use Rattle.ra_model_read.specs.Lists.{Lists, of_resource, of_machine, service_numbers_of, of_process, of_balance}
-use Rattle.ra_model_read.specs.Lists.{lists_of}
+use Rattle.ra_model_read.specs.Lists.{ResourceNumbers, MachineNumbers, ServiceNumbers, ProcessNumbers, BalanceNumbers, Lists, of_resource, of_machine, service_numbers_of, of_process, of_balance, lists_of}
 
 -- a number of the model file
 abbrev pub Word : Type 0

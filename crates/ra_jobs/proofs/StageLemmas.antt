@@ -1,6 +1,5 @@
 -- Why the stages of a job refuse, from what the readers answer.
-use Rattle.std.proofs.Common.{◌≡◌, ℕ, ◌<◌, ◌≤◌, ◌-◌, ◌^◌, List, [], Option, Some, None, IfSome, IsSome, refl, sym}
-use Rattle.std.proofs.Common.{subst, inl, inr, ⊎_elim, arith, ◌∙◌, le_trans}
+use Rattle.std.proofs.Common.{◌≡◌, ℕ, ◌<◌, ◌≤◌, ◌-◌, ◌^◌, List, [], Option, Some, None, IfSome, IsSome, refl, sym, subst, inl, inr, ⊎_elim, arith, ◌∙◌, le_trans}
 use Rattle.std.specs.Prelude.{IsTrue, unwrap_or}
 use Rattle.ra_base.specs.declared.causes.Cause.{Cause}
 use Rattle.ra_base.specs.declared.costs.Parts.{Parts}
@@ -25,15 +24,10 @@ use Rattle.ra_jobs.specs.declared.refusals.Refusal.{Refusal}
 use Rattle.ra_jobs.specs.declared.refusals.Refusal.TheVariants.{Read, Model, Closed, Assign, Broken, Write, Memory}
 use Rattle.ra_jobs.specs.declared.refusals.Role.{Role}
 use Rattle.ra_jobs.specs.declared.refusals.Role.TheVariants as role
-use Rattle.ra_jobs.specs.Files.{Held, Faults, Names, name_of, file_of, IsNamed, ModelIs, InstanceIs, ListIs}
-use Rattle.ra_jobs.specs.Files.{NamedListIs, Accepts, bound_names}
+use Rattle.ra_jobs.specs.Files.{Held, Faults, Names, name_of, file_of, IsNamed, ModelIs, InstanceIs, ListIs, NamedListIs, Accepts, bound_names}
 use Rattle.ra_jobs.specs.Outputs.{CheckPrinted, BoundIs, BoundRead}
-use Rattle.ra_jobs.specs.Refusals.{Reason, Judges, OnlyWrites, Nothing, CanTell, ReadBefore, FileReadFailed}
-use Rattle.ra_jobs.specs.Refusals.{RoleRefused}
-use Rattle.ra_jobs.specs.Refusals.{Breaks, RoleBreaks}
-use Rattle.ra_jobs.specs.Stages.{model_as, closed_as, list_as, ClosedReason, SourceReason, ListReason, ListsReason}
-use Rattle.ra_jobs.specs.Stages.{JudgeReason, StartReason, IsClosing, IsList, IsAcceptedStart, ReadsLists, Passed}
-use Rattle.ra_jobs.specs.Stages.{Judged}
+use Rattle.ra_jobs.specs.Refusals.{Reason, Judges, OnlyWrites, Nothing, CanTell, ReadBefore, FileReadFailed, RoleRefused, Breaks, RoleBreaks}
+use Rattle.ra_jobs.specs.Stages.{model_as, closed_as, list_as, ClosedReason, SourceReason, ListReason, ListsReason, JudgeReason, StartReason, IsClosing, IsList, IsAcceptedStart, ReadsLists, Passed, Judged}
 use Rattle.ra_jobs.proofs.ComesLemmas.{list_none}
 use Rattle.ra_jobs.proofs.MeaningLemmas.{list_in}
 

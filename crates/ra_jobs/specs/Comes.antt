@@ -11,8 +11,7 @@ use Rattle.ra_jobs.specs.declared.refusals.Refusal.{Refusal}
 use Rattle.ra_jobs.specs.declared.refusals.Refusal.TheVariants.{Write}
 use Rattle.ra_jobs.specs.declared.refusals.Role.{Role}
 use Rattle.ra_jobs.specs.declared.status.Status.{Status}
-use Rattle.ra_jobs.specs.declared.status.Status.TheVariants.{Done, ReadFault, BadModel, BadAssignment, Infeasible}
-use Rattle.ra_jobs.specs.declared.status.Status.TheVariants.{WriteFault, NoMemory, BadClosed, Unrepaired}
+use Rattle.ra_jobs.specs.declared.status.Status.TheVariants.{Done, ReadFault, BadModel, BadAssignment, Infeasible, WriteFault, NoMemory, BadClosed, Unrepaired}
 use Rattle.ra_jobs.specs.Files.{Held, Faults, Names, name_of, file_of, is_up_to, IsNamed}
 use Rattle.ra_jobs.specs.Refusals.{FileReadFailed, ModelRefused, ClosedRefused, RoleRefused, RoleBreaks}
 

@@ -10,3 +10,6 @@ pub mod Refusals
 pub mod Repairing
 pub mod Stages
 pub mod Statuses
+pub mod EditedTexts
+pub mod Editing
+pub mod Outcomes

@@ -6,8 +6,7 @@ use Rattle.ra_report.specs.declared.faults.Fault.TheVariants as fault
 use Rattle.ra_report.specs.FaultTexts.{fault_text}
 use Rattle.ra_jobs.specs.declared.refusals.File.TheVariants as file
 use Rattle.ra_jobs.specs.declared.refusals.Refusal.{Refusal}
-use Rattle.ra_jobs.specs.declared.refusals.Refusal.TheVariants.{Read, Model, Closed, Assign, Edits, Broken, Unrepaired}
-use Rattle.ra_jobs.specs.declared.refusals.Refusal.TheVariants.{Wrong, Write, Memory}
+use Rattle.ra_jobs.specs.declared.refusals.Refusal.TheVariants.{Read, Model, Closed, Assign, Edits, Broken, Unrepaired, Wrong, Write, Memory}
 use Rattle.ra_jobs.specs.Files.{Names, name_of, file_of}
 
 -- a borrowed name; its owner doesn't matter for the line

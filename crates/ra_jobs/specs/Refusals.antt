@@ -16,12 +16,10 @@ use Rattle.ra_report.specs.FaultTexts.{IsInModel, IsInClosed, IsInList, IsInEdit
 use Rattle.ra_jobs.specs.declared.refusals.File.{File}
 use Rattle.ra_jobs.specs.declared.refusals.File.TheVariants as file
 use Rattle.ra_jobs.specs.declared.refusals.Refusal.{Refusal}
-use Rattle.ra_jobs.specs.declared.refusals.Refusal.TheVariants.{Read, Model, Closed, Assign, Edits, Broken, Unrepaired}
-use Rattle.ra_jobs.specs.declared.refusals.Refusal.TheVariants.{Write, Memory}
+use Rattle.ra_jobs.specs.declared.refusals.Refusal.TheVariants.{Read, Model, Closed, Assign, Edits, Broken, Unrepaired, Write, Memory}
 use Rattle.ra_jobs.specs.declared.refusals.Role.{Role}
 use Rattle.ra_jobs.specs.declared.refusals.Role.TheVariants as role
-use Rattle.ra_jobs.specs.Files.{Held, Faults, Names, name_of, file_of, IsNamed, ModelIs, InstanceIs, NamedListIs}
-use Rattle.ra_jobs.specs.Files.{Accepts, Passes}
+use Rattle.ra_jobs.specs.Files.{Held, Faults, Names, name_of, file_of, IsNamed, ModelIs, InstanceIs, NamedListIs, Accepts, Passes}
 
 -- what was done before a file of the job is read: the model, then the closed list, then the initial list, then the new
 -- or current one, then the edits; a report is read after the initial list is known to be feasible

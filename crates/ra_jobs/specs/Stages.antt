@@ -20,8 +20,7 @@ use Rattle.ra_jobs.specs.declared.refusals.Refusal.{Refusal}
 use Rattle.ra_jobs.specs.declared.refusals.Refusal.TheVariants.{Read, Model, Closed, Assign, Broken, Write, Memory}
 use Rattle.ra_jobs.specs.declared.refusals.Role.{Role}
 use Rattle.ra_jobs.specs.declared.refusals.Role.TheVariants as role
-use Rattle.ra_jobs.specs.Files.{Held, Faults, Names, bound_names, name_of, file_of, IsNamed, CloseIs}
-use Rattle.ra_jobs.specs.Files.{ListIs, Accepts, Passes}
+use Rattle.ra_jobs.specs.Files.{Held, Faults, Names, bound_names, name_of, file_of, IsNamed, CloseIs, ListIs, Accepts, Passes}
 use Rattle.ra_jobs.specs.Refusals.{Reason, Nothing, ListRefused, Breaks}
 
 -- the instance with the machines of a told closed list closed

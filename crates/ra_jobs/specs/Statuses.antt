@@ -3,9 +3,7 @@ use Rattle.std.specs.Prelude.{ℕ}
 use Rattle.ra_jobs.specs.declared.refusals.Refusal.{Refusal}
 use Rattle.ra_jobs.specs.declared.refusals.Refusal.TheVariants as refusal
 use Rattle.ra_jobs.specs.declared.status.Status.{Status}
-use Rattle.ra_jobs.specs.declared.status.Status.TheVariants.{Done, Usage, ReadFault, BadModel, BadAssignment}
-use Rattle.ra_jobs.specs.declared.status.Status.TheVariants.{Infeasible, WriteFault, NoMemory, BadClosed, Wrong}
-use Rattle.ra_jobs.specs.declared.status.Status.TheVariants.{Unrepaired, BadEdits}
+use Rattle.ra_jobs.specs.declared.status.Status.TheVariants.{Done, Usage, ReadFault, BadModel, BadAssignment, Infeasible, WriteFault, NoMemory, BadClosed, Wrong, Unrepaired, BadEdits}
 
 unfoldable pub status_of : Refusal → Status
 status_of (refusal.Read f) = ReadFault

@@ -1,11 +1,12 @@
-//! The jobs that need neither solver nor edits: `check_run`, `bound_run` and `repair_run`, over files and sinks that
-//! the caller gives; and what every job uses: its files and what they mean, its refusals, and how it ends. The crates
-//! of a run of workers don't depend on this crate, nor it on them; `ra_run` uses both. The job `edit` is in
-//! `ra_edit_job`.
+//! The jobs without a solver, over files and sinks that the caller hands in: `check_run`, `bound_run`, `repair_run` and
+//! `edit_run`; and what every job needs: its files and what they mean, its refusals, and how it ends. It stands beside
+//! the crates of a run of workers; `ra_run` stands on both.
 #![tactic(auto)]
 
 mod bound;
 mod check;
+mod edit;
+mod edited;
 mod judging;
 mod lists;
 mod outside;
@@ -19,6 +20,8 @@ mod steady;
 
 pub use bound::{bound_from, bound_job, bound_run};
 pub use check::{check_job, check_run};
+pub use edit::{edit_job, edit_run};
+pub use edited::write_edited;
 pub use judging::{judge, judge_start};
 pub use lists::{Lists, read_lists};
 pub use outside::Outside;

@@ -1,7 +1,6 @@
 ghost use Rattle.std.specs.Prelude.{◌≡◌};
 ghost use Rattle.std.specs.Option.{option_copied};
-ghost use Rattle.ra_jobs.specs.Files.{file_of, name_of, names_of, IsNamed, EndsAt};
-ghost use Rattle.ra_jobs.specs.Files.{bound_names, solve_names, check_names, verify_names, edit_names};
+ghost use Rattle.ra_jobs.specs.Files.{file_of, name_of, names_of, IsNamed, EndsAt, bound_names, solve_names, check_names, verify_names, edit_names};
 
 use ra_assign::{AssignFault, ClosedFault};
 use ra_base::{Cause, Name, NoMemory};

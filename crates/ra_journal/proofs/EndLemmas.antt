@@ -20,7 +20,7 @@ use Rattle.ra_moves.specs.Options.{option_at, plan_of, plan_place}
 use Rattle.ra_moves.proofs.OptionLemmas.{option_stands, option_reaches}
 use Rattle.ra_moves.specs.Moving.{IsOffered}
 use Rattle.ra_moves.specs.Weighing.{weighed_of}
-use Rattle.ra_weigh_settle.specs.Settling.{IsSettling, HasSettling}
+use Rattle.ra_moves.specs.SettledNow.{IsSettling, HasSettling}
 use Rattle.ra_guards.specs.Guards.{AreWithin}
 use Rattle.ra_guards.specs.Versions.{Untouched}
 use Rattle.ra_guards.specs.Made.{AreSound}

@@ -1,6 +1,5 @@
 -- A book that records a next entry keeps what it is to keep.
-use Rattle.std.proofs.Common.{◌≡◌, ◌≢◌, ℕ, suc, ◌+◌, ◌<◌, ◌≤◌, Bool, true, false, cond, eqb, ltb, List, [], ◌∷◌, ◌++◌}
-use Rattle.std.proofs.Common.{length, get_or, set, sym, refl, ap, ap₂, ◌∙◌, subst, ⊎_elim, arith, eq-eqb, ne_eqb}
+use Rattle.std.proofs.Common.{◌≡◌, ◌≢◌, ℕ, suc, ◌+◌, ◌<◌, ◌≤◌, Bool, true, false, cond, eqb, ltb, List, [], ◌∷◌, ◌++◌, length, get_or, set, sym, refl, ap, ap₂, ◌∙◌, subst, ⊎_elim, arith, eq-eqb, ne_eqb}
 use Rattle.std.proofs.lemmas.List.{length_push, length-set, get_or-set_other, get_or-set_same}
 use Rattle.std.proofs.lemmas.Bool.{cases_eq}
 use Rattle.ra_base.specs.Listed.{Listed}
@@ -18,7 +17,7 @@ use Rattle.ra_moves.specs.Replacing.{applied}
 use Rattle.ra_cells.specs.MovedCounts.{MovedCounts}
 use Rattle.ra_moves.specs.Moving.{IsOffered}
 use Rattle.ra_moves.specs.Weighing.{weighed_of}
-use Rattle.ra_weigh_settle.specs.Settling.{AreMovedOf}
+use Rattle.ra_moves.specs.SettledNow.{AreMovedOf}
 use Rattle.ra_guards.specs.VersionTable.{VersionTable}
 use Rattle.ra_guards.specs.Kept.{version_in, IsTableOf, AreVersions}
 use Rattle.ra_guards.specs.Versions.{touches}

@@ -17,8 +17,8 @@ use Rattle.ra_moves.specs.Judging.{judge}
 use Rattle.ra_cells.specs.MovedCounts.{MovedCounts}
 use Rattle.ra_moves.specs.Moving.{IsOffered}
 use Rattle.ra_moves.specs.Weighing.{weighed_of}
-use Rattle.ra_weigh_settle.specs.Settling.{IsSettling}
-use Rattle.ra_weigh_settle.proofs.Settles.{changes}
+use Rattle.ra_moves.specs.SettledNow.{IsSettling}
+use Rattle.ra_moves.proofs.Settles.{changes}
 use Rattle.ra_guards.specs.Guards.{AreWithin}
 use Rattle.ra_guards.specs.Kept.{IsTableOf}
 use Rattle.ra_journal.specs.declared.book.Book.{Book}
@@ -33,8 +33,7 @@ use Rattle.ra_journal.specs.SmallSteps.{AreSmallSteps}
 use Rattle.ra_journal.specs.Recording.{AreChangesOf, AreChangedBy, AreTouchedVersions, IsTakenIn}
 use Rattle.ra_journal.proofs.EndLemmas.{planned_within, planned_at_end, next_is_legal}
 use Rattle.ra_journal.proofs.KeepingLemmas.{IsNext}
-use Rattle.ra_journal.proofs.RoomLemmas.{AreNumbered, entries_within, entries_few, entries_fewer, proposals_few}
-use Rattle.ra_journal.proofs.RoomLemmas.{budgets_few}
+use Rattle.ra_journal.proofs.RoomLemmas.{AreNumbered, entries_within, entries_few, entries_fewer, proposals_few, budgets_few}
 use Rattle.ra_journal.proofs.TouchedLemmas.{touched_nothing}
 
 -- there is room for one entry more

@@ -1,7 +1,5 @@
 -- A plan that is too dear is refused wherever its guards are untouched.
-use Rattle.std.proofs.Common.{◌≡◌, ◌⊎◌, ℕ, zero, suc, ◌+◌, ◌*◌, ◌<◌, ◌≤◌, ℤ, pos, negsuc, ◌<ℤ◌, ◌-ℤ◌, true, false}
-use Rattle.std.proofs.Common.{List, length, get_or, Option, Some, None, IfSome, refl, sym, ap, ◌∙◌, subst, ⊎_elim}
-use Rattle.std.proofs.Common.{lt-ltb, arith}
+use Rattle.std.proofs.Common.{◌≡◌, ◌⊎◌, ℕ, zero, suc, ◌+◌, ◌*◌, ◌<◌, ◌≤◌, ℤ, pos, negsuc, ◌<ℤ◌, ◌-ℤ◌, true, false, List, length, get_or, Option, Some, None, IfSome, refl, sym, ap, ◌∙◌, subst, ⊎_elim, lt-ltb, arith}
 use Rattle.std.specs.Prelude.{unsigned_abs}
 use Rattle.std.proofs.Math.Nat.{mul-le-mul_left}
 use Rattle.std.proofs.lemmas.Bool.{cases_Bool}
@@ -31,8 +29,8 @@ use Rattle.ra_moves.specs.Replacing.{applied}
 use Rattle.ra_moves.specs.Touched.{service_in, moves_service}
 use Rattle.ra_moves.specs.Weighing.{local_cost, local_change, moved_count, services_moved, changed_count, weighed_of}
 use Rattle.ra_moves.proofs.MovedServices.{services_few, services_placed, count_there}
-use Rattle.ra_weigh_settle.proofs.MovedAfter.{moved_stays}
-use Rattle.ra_weigh_settle.proofs.Settles.{whole_is}
+use Rattle.ra_moves.proofs.MovedAfter.{moved_stays}
+use Rattle.ra_moves.proofs.Settles.{whole_is}
 use Rattle.ra_journal.specs.declared.entries.Entry.{Entry}
 use Rattle.ra_journal.specs.Committing.{next_entry, newer_since, IsCommit}
 use Rattle.ra_journal.specs.Entries.{allowed}

@@ -9,7 +9,7 @@ use Rattle.ra_model.specs.declared.raw.Tables.{Tables}
 use Rattle.ra_model.specs.Costs.{objective}
 use Rattle.ra_model.specs.Numbers.{machine_count, service_count, process_count}
 use Rattle.ra_model.specs.Situations.{situation}
-use Rattle.ra_weigh_settle.specs.Settling.{AreMovedOf}
+use Rattle.ra_moves.specs.SettledNow.{AreMovedOf}
 use Rattle.ra_guards.specs.Kept.{AreZero}
 use Rattle.ra_journal.specs.declared.book.Book.{Book}
 use Rattle.ra_journal.specs.declared.entries.Entry.{Entry}

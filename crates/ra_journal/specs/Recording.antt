@@ -1,6 +1,5 @@
 -- What recording does to a book, as a whole and by its parts.
-use Rattle.std.specs.Prelude.{◌≡◌, ℕ, ◌+◌, List, [], ◌∷◌, ◌++◌, length, Option, None, slice_index, slice_set}
-use Rattle.std.specs.Prelude.{if◌then◌else◌, nat_lt, IfSome}
+use Rattle.std.specs.Prelude.{◌≡◌, ℕ, ◌+◌, List, [], ◌∷◌, ◌++◌, length, Option, None, slice_index, slice_set, if◌then◌else◌, nat_lt, IfSome}
 use Rattle.ra_base.specs.declared.causes.Cause.{Cause}
 use Rattle.ra_base.specs.declared.ids.Guard.{Guard}
 use Rattle.ra_base.specs.declared.ids.Machine.{Machine}
@@ -18,7 +17,7 @@ use Rattle.ra_cells.specs.MovedCounts.{MovedCounts}
 use Rattle.ra_cells.specs.Replaced.{IsChange}
 use Rattle.ra_moves.specs.Moving.{IsMove}
 use Rattle.ra_moves.specs.Weighing.{weighed_of}
-use Rattle.ra_weigh_settle.specs.Settling.{AreMovedOf}
+use Rattle.ra_moves.specs.SettledNow.{AreMovedOf}
 use Rattle.ra_guards.specs.Kept.{version_in, IsTableOf}
 use Rattle.ra_guards.specs.VersionTable.{VersionTable}
 use Rattle.ra_guards.specs.Versions.{touches}

@@ -19,9 +19,8 @@ use ra_base::Assignment;
 use ra_draws::Lots;
 use ra_guards::{Versions, WriteGuards, writes};
 use ra_model::Instance;
-use ra_moves::{Move, Plan, Verdict};
+use ra_moves::{Move, Plan, Verdict, change_counts, settle_now};
 use ra_topology::Topology;
-use ra_weigh_settle::{change_counts, settle_now};
 
 /// Records a worker's next proposal, if no guard of its move was touched since it was planned. Guards that are given
 /// are its write guards.

@@ -1,10 +1,9 @@
 -- Each line of bytes is whole.
-use Rattle.std.proofs.Common.{◌≡◌, ℕ, zero, suc, ◌<◌, Bool, true, false, cond, eqb, List, [], ◌∷◌, length, slice_get}
-use Rattle.std.proofs.Common.{Option, Some, None, refl, sym, ◌∙◌, ap, arith, subst}
+use Rattle.std.proofs.Common.{◌≡◌, ℕ, zero, suc, ◌<◌, Bool, true, false, cond, eqb, List, [], ◌∷◌, length, slice_get, Option, Some, None, refl, sym, ◌∙◌, ap, arith, subst}
 use Rattle.std.proofs.lemmas.Option.{none-some}
-use Rattle.ra_report_lines.specs.Lines.{onto_first, lines_of, line_at, ends_line}
+use Rattle.ra_token.specs.Lines.{onto_first, lines_of, line_at, ends_line}
 use Rattle.ra_laws.specs.LineLaws.{IsWhole}
-use Rattle.ra_report_lines.proofs.SplitLaws.{lines_end, lines_onto}
+use Rattle.ra_token.proofs.SplitLaws.{lines_end, lines_onto}
 
 -- each line is whole
 whole_first : (b : ℕ) (bytes : List ℕ) → eqb b 10 ≡ true → IsWhole (b ∷ bytes) 0 (b ∷ [])

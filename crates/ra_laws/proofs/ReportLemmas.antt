@@ -1,11 +1,10 @@
 -- The lines of what comes after the first lines of a text are the others.
-use Rattle.std.proofs.Common.{◌≡◌, ℕ, zero, suc, Bool, true, false, cond, eqb, List, [], ◌∷◌, ◌++◌, drop, Option, Some}
-use Rattle.std.proofs.Common.{None, refl, sym, ◌∙◌, ap, eqb-true}
+use Rattle.std.proofs.Common.{◌≡◌, ℕ, zero, suc, Bool, true, false, cond, eqb, List, [], ◌∷◌, ◌++◌, drop, Option, Some, None, refl, sym, ◌∙◌, ap, eqb-true}
 use Rattle.std.proofs.lemmas.Option.{none-some}
-use Rattle.ra_report_lines.specs.Lines.{lines_of, HasNoEnd}
+use Rattle.ra_token.specs.Lines.{lines_of, HasNoEnd}
 use Rattle.ra_report.specs.JournalTexts.{after_line, lines_left}
-use Rattle.ra_report_lines.proofs.BodyLaws.{no_end_none, no_end_cons}
-use Rattle.ra_report_lines.proofs.SplitLaws.{line_first}
+use Rattle.ra_token.proofs.BodyLaws.{no_end_none, no_end_cons}
+use Rattle.ra_token.proofs.SplitLaws.{line_first}
 
 -- the first line of bytes, which ends with LF, and what follows
 pub record Cut (bytes rest : List ℕ) : Type 0 where

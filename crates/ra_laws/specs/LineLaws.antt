@@ -1,6 +1,6 @@
 -- What holds of the lines of any bytes, each proved by a function of `lines`.
 use Rattle.std.specs.Prelude.{◌≡◌, ℕ, suc, ◌<◌, true, List, [], ◌∷◌, ◌++◌, length, Some}
-use Rattle.ra_report_lines.specs.Lines.{lines_of, line_at, joined_lines, ends_line}
+use Rattle.ra_token.specs.Lines.{lines_of, line_at, joined_lines, ends_line}
 
 -- the lines of bytes, one after another, are the bytes
 abbrev pub LinesAreTheBytes : Type 0

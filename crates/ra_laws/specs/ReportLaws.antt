@@ -7,10 +7,9 @@ use Rattle.ra_base.specs.declared.ids.Machine.{Machine}
 use Rattle.ra_draws.specs.declared.budgets.Lots.{Lots}
 use Rattle.ra_model.specs.declared.raw.Tables.{Tables}
 use Rattle.ra_journal.specs.declared.entries.Entry.{Entry}
-use Rattle.ra_report_lines.specs.Lines.{lines_of}
-use Rattle.ra_report_text.specs.Texts.{number_text}
-use Rattle.ra_report.specs.JournalTexts.{entry_line, entries_text, entry_lines, report_lines, report_text, report_head}
-use Rattle.ra_report.specs.JournalTexts.{lines_left, IsJournalOf}
+use Rattle.ra_token.specs.Lines.{lines_of}
+use Rattle.ra_report.specs.Texts.{number_text}
+use Rattle.ra_report.specs.JournalTexts.{entry_line, entries_text, entry_lines, report_lines, report_text, report_head, lines_left, IsJournalOf}
 
 -- a program's number is written as std writes it
 abbrev pub NumbersAreDecimal : Type 0

@@ -1,19 +1,18 @@
 -- A row of numbers, a chunk at a time, and a chunk from its last number to its first.
-use Rattle.std.proofs.Common.{◌≡◌, ℕ, zero, suc, ◌+◌, ◌-◌, ◌*◌, ◌^◌, ◌<◌, ◌≤◌, List, [], ◌∷◌, ◌++◌, length, take, drop}
-use Rattle.std.proofs.Common.{get_or, Option, refl, sym, ap, subst, ◌∙◌, arith, add-one, append_assoc}
+use Rattle.std.proofs.Common.{◌≡◌, ℕ, zero, suc, ◌+◌, ◌-◌, ◌*◌, ◌^◌, ◌<◌, ◌≤◌, List, [], ◌∷◌, ◌++◌, length, take, drop, get_or, Option, refl, sym, ap, subst, ◌∙◌, arith, add-one, append_assoc}
 use Rattle.std.proofs.Math.Seq.{drop-cons, drop-length}
 use Rattle.std.proofs.lemmas.Grind.{flat_map-append}
 use Rattle.std.proofs.lemmas.List.{append-nil, take_all}
 use Rattle.std.specs.List.{flat_map}
-use Rattle.ra_report_text.specs.declared.gathered.Gathered.{Gathered}
-use Rattle.ra_report_text.specs.Gathering.{AddsText}
-use Rattle.ra_report_text.specs.Lines.{Prepends}
-use Rattle.ra_report_text.specs.Texts.{number_text}
+use Rattle.ra_report.specs.declared.gathered.Gathered.{Gathered}
+use Rattle.ra_report.specs.Gathering.{AddsText}
+use Rattle.ra_report.specs.Lines.{Prepends}
+use Rattle.ra_report.specs.Texts.{number_text}
 use Rattle.ra_model_text.specs.ModelLines.{spaced, number_word, numbers_text}
-use Rattle.ra_report_text.proofs.GatheringLemmas.{adds_none, adds_more}
-use Rattle.ra_report_text.proofs.LineLemmas.{in_front, at_most, alone, before_is}
-use Rattle.ra_report_text.proofs.NumberTexts.{number_std}
-use Rattle.ra_report_text.proofs.PieceLemmas.{words_take}
+use Rattle.ra_report.proofs.GatheringLemmas.{adds_none, adds_more}
+use Rattle.ra_report.proofs.LineLemmas.{in_front, at_most, alone, before_is}
+use Rattle.ra_report.proofs.NumberTexts.{number_std}
+use Rattle.ra_report.proofs.PieceLemmas.{words_take}
 
 -- no number of a list is written yet
 pub no_number : (line numbers : List ℕ) (n : ℕ) → line ≡ [] → n ≡ length numbers →

@@ -1,19 +1,16 @@
 -- Lines and groups of a model's text, one number and one item after another.
-use Rattle.std.proofs.Common.{◌≡◌, ℕ, zero, suc, ◌+◌, List, Option, [], ◌∷◌, ◌++◌, refl, sym, ap, subst, ◌∙◌, add-one}
-use Rattle.std.proofs.Common.{append_assoc}
+use Rattle.std.proofs.Common.{◌≡◌, ℕ, zero, suc, ◌+◌, List, Option, [], ◌∷◌, ◌++◌, refl, sym, ap, subst, ◌∙◌, add-one, append_assoc}
 use Rattle.std.proofs.lemmas.List.{append-nil}
 use Rattle.std.specs.Fmt.{decimal}
 use Rattle.ra_model.specs.declared.raw.Tables.{Tables}
-use Rattle.ra_model.specs.Numbers.{resource_count, machine_count, neighbourhood_of, location_of, capacity_of, safety_of}
-use Rattle.ra_model.specs.Numbers.{way_cost_of, spread_of, dependency_count, need_of, service_of, requirement_of}
-use Rattle.ra_model.specs.Numbers.{process_cost_of}
+use Rattle.ra_model.specs.Numbers.{resource_count, machine_count, neighbourhood_of, location_of, capacity_of, safety_of, way_cost_of, spread_of, dependency_count, need_of, service_of, requirement_of, process_cost_of}
 use Rattle.ra_model_read.specs.FieldOrder.{end_to_end, row_numbers, machine_numbers, service_numbers, process_numbers}
 use Rattle.ra_model_text.specs.Lines.{more_text, line_text}
 use Rattle.ra_model_text.specs.ModelTexts.{group_text, machine_text, service_text, process_text}
-use Rattle.ra_report_text.specs.declared.gathered.Gathered.{Gathered}
-use Rattle.ra_report_text.specs.Gathering.{AddsText}
+use Rattle.ra_report.specs.declared.gathered.Gathered.{Gathered}
+use Rattle.ra_report.specs.Gathering.{AddsText}
 use Rattle.ra_model_text.specs.ModelLines.{spaced, group_to}
-use Rattle.ra_report_text.proofs.GatheringLemmas.{adds_none, adds_more}
+use Rattle.ra_report.proofs.GatheringLemmas.{adds_none, adds_more}
 
 -- a row inside a line
 more_spaced : (n : ℕ) (f : ℕ → ℕ) (rest : List ℕ) → more_text (row_numbers n f ++ rest) ≡ spaced n f ++ more_text rest

@@ -3,14 +3,14 @@ ghost use Rattle.ra_base.specs.Sums.{one_if};
 ghost use Rattle.ra_model.specs.Numbers.{resource_count, machine_count, service_count, process_count, balance_count, transient_at, capacity_of, safety_of, way_cost_of, dependency_count, need_of, requirement_of};
 ghost use Rattle.ra_model_text.specs.Lines.{line_text};
 ghost use Rattle.ra_model_text.specs.ModelTexts.{resource_text, machine_text, service_text, process_text, balance_text};
-ghost use Rattle.ra_report_text.specs.Gathering.{AddsText};
+ghost use Rattle.ra_report.specs.Gathering.{AddsText};
 ghost use Rattle.ra_model_text.specs.ModelLines.{spaced, numbers_text};
 
 use itoa::Buffer;
 use ra_base::{Machine, Process, Resource, Service, Steps};
 use ra_io::Sink;
 use ra_model::Instance;
-use ra_report_text::{Gathered, Line};
+use ra_report::{Gathered, Line};
 use std::sync::ledger::Ledger;
 
 /// How many numbers are written into a line at a time: this many fit, with a space and up to twenty digits each.

@@ -2,8 +2,8 @@ ghost use Rattle.std.specs.Prelude.{◌≡◌, ◌<◌, ◌≤◌, OnOk, OnErr};
 ghost use Rattle.std.specs.Io.KnownBytes.{Appends};
 ghost use Rattle.ra_model.specs.Numbers.{resource_count, machine_count, service_count, process_count, balance_count};
 ghost use Rattle.ra_model_text.specs.ModelTexts.{group_text, resource_text, machine_text, service_text, process_text, balance_text, model_text};
-ghost use Rattle.ra_report_text.specs.Gathering.{AddsText};
-ghost use Rattle.ra_report_text.specs.Pieces.{BreaksOff};
+ghost use Rattle.ra_report.specs.Gathering.{AddsText};
+ghost use Rattle.ra_report.specs.Pieces.{BreaksOff};
 
 use crate::lines::{
     add_balance, add_machine, add_one, add_process, add_resource, add_service, add_three,
@@ -11,7 +11,7 @@ use crate::lines::{
 use ra_base::{Machine, Process, Resource, Service, Steps};
 use ra_io::Sink;
 use ra_model::Instance;
-use ra_report_text::{Gathered, WriteFault};
+use ra_report::{Gathered, WriteFault};
 use std::marker::Brand;
 use std::sync::ledger::{Blank, Ledger};
 

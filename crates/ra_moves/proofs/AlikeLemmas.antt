@@ -10,8 +10,7 @@ use Rattle.ra_model.specs.declared.raw.Tables.{Tables}
 use Rattle.ra_model.specs.Numbers.{process_count, service_of, requirement_of, neighbourhood_of, location_of}
 use Rattle.ra_model.specs.Assignments.{machine_at}
 use Rattle.ra_model.specs.Usage.{use_share, use_of, transient_share, transient_of}
-use Rattle.ra_model.specs.Services.{of_service, members_at, on_machine, in_neighbourhood, in_location, locations_of}
-use Rattle.ra_model.specs.Services.{moved_of}
+use Rattle.ra_model.specs.Services.{of_service, members_at, on_machine, in_neighbourhood, in_location, locations_of, moved_of}
 use Rattle.ra_model.proofs.TallyLemmas.{tally_same}
 use Rattle.ra_moves.specs.declared.steps.Step.{Step}
 use Rattle.ra_moves.specs.Steps.{process_in}

@@ -6,12 +6,8 @@ use Rattle.ra_base.specs.Sums.{is_named}
 use Rattle.ra_base.specs.declared.ids.Machine.{Machine}
 use Rattle.ra_base.proofs.Searches.{first_same}
 use Rattle.ra_model.specs.declared.raw.Tables.{Tables}
-use Rattle.ra_model.specs.Numbers.{resource_count, machine_count, service_count, process_count, dependency_count}
-use Rattle.ra_model.specs.Numbers.{need_of}
-use Rattle.ra_model.specs.Broken.{capacity_test, row_capacity, broken_capacity, transient_test, row_transient}
-use Rattle.ra_model.specs.Broken.{broken_transient, conflict_test, service_conflict, broken_conflict, spread_test}
-use Rattle.ra_model.specs.Broken.{broken_spread, pair_dependency, service_dependency, broken_dependency, closed_test}
-use Rattle.ra_model.specs.Broken.{broken_closed, first_broken}
+use Rattle.ra_model.specs.Numbers.{resource_count, machine_count, service_count, process_count, dependency_count, need_of}
+use Rattle.ra_model.specs.Broken.{capacity_test, row_capacity, broken_capacity, transient_test, row_transient, broken_transient, conflict_test, service_conflict, broken_conflict, spread_test, broken_spread, pair_dependency, service_dependency, broken_dependency, closed_test, broken_closed, first_broken}
 use Rattle.ra_model.proofs.BrokenLemmas.{Fine}
 use Rattle.ra_moves.specs.declared.steps.Step.{Step}
 use Rattle.ra_moves.specs.Steps.{process_in}
@@ -21,11 +17,8 @@ use Rattle.ra_moves.specs.Moving.{IsMove}
 use Rattle.ra_moves.specs.Alike.{SameOn, SameOf, HeldAlike}
 use Rattle.ra_moves.proofs.SearchLemmas.{first_agrees}
 use Rattle.ra_moves.proofs.EndLemmas.{moved_guarded, need_guarded, needing_guarded}
-use Rattle.ra_moves.proofs.Local.{capacity_told, transient_told, conflict_told, spread_told, pair_told, closed_told}
-use Rattle.ra_moves.proofs.Local.{capacity_local, transient_local, conflict_local, spread_local, pair_local}
-use Rattle.ra_moves.proofs.Local.{closed_local}
-use Rattle.ra_moves.proofs.AlikeLemmas.{named_same, same_on_after, same_of_after, use_alike, transient_alike}
-use Rattle.ra_moves.proofs.AlikeLemmas.{on_machine_alike, in_neighbourhood_alike, locations_alike}
+use Rattle.ra_moves.proofs.Local.{capacity_told, transient_told, conflict_told, spread_told, pair_told, closed_told, capacity_local, transient_local, conflict_local, spread_local, pair_local, closed_local}
+use Rattle.ra_moves.proofs.AlikeLemmas.{named_same, same_on_after, same_of_after, use_alike, transient_alike, on_machine_alike, in_neighbourhood_alike, locations_alike}
 
 -- one list of steps moves two assignments that break nothing and are alike for them
 pub record BothMove (i : Tables) (a0 a b : List Machine) (steps : List Step) : Type 0 where

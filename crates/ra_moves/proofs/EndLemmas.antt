@@ -1,8 +1,6 @@
 -- The machines and services that a move touches, step by step.
-use Rattle.std.proofs.Common.{◌≡◌, ◌≢◌, ℕ, ◌+◌, ◌-◌, ◌<◌, ◌≤◌, true, false, List, length, sym, refl, ap, ◌∙◌, ⊎_elim}
-use Rattle.std.proofs.Common.{arith, lt-ltb}
-use Rattle.std.proofs.lemmas.Bool.{cases_Bool, cases_lt, or_left, or_right, or_cases, or_parts, both_ways}
-use Rattle.std.proofs.lemmas.Bool.{false_from_ne_true}
+use Rattle.std.proofs.Common.{◌≡◌, ◌≢◌, ℕ, ◌+◌, ◌-◌, ◌<◌, ◌≤◌, true, false, List, length, sym, refl, ap, ◌∙◌, ⊎_elim, arith, lt-ltb}
+use Rattle.std.proofs.lemmas.Bool.{cases_Bool, cases_lt, or_left, or_right, or_cases, or_parts, both_ways, false_from_ne_true}
 use Rattle.ra_base.specs.Sums.{is_named}
 use Rattle.ra_base.proofs.Counts.{count_some}
 use Rattle.ra_base.proofs.Named.{is_named_at, is_named_from, is_named_not}

@@ -15,3 +15,6 @@ pub mod ChangeLemmas
 pub mod CountLemmas
 pub mod Determined
 pub mod FollowLemmas
+pub mod MovedAfter
+pub mod Settles
+pub mod ChangedCounts

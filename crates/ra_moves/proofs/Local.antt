@@ -1,22 +1,16 @@
 -- A move of an assignment that breaks nothing breaks only what it touches, constraint by constraint.
-use Rattle.std.proofs.Common.{◌≡◌, ℕ, ◌<◌, true, false, cond, not, eqb, ltb, ◌&&◌, List, None, length, sym, ap, ◌∙◌}
-use Rattle.std.proofs.Common.{⊎_elim}
+use Rattle.std.proofs.Common.{◌≡◌, ℕ, ◌<◌, true, false, cond, not, eqb, ltb, ◌&&◌, List, None, length, sym, ap, ◌∙◌, ⊎_elim}
 use Rattle.std.proofs.lemmas.Bool.{cases_Bool, cond-false, eqb-true}
 use Rattle.ra_base.specs.Sums.{is_named}
 use Rattle.ra_base.specs.declared.ids.Machine.{Machine}
 use Rattle.ra_base.specs.declared.causes.Cause.TheVariants.{Capacity, Transient, Conflict, Spread, Dependency, Closed}
 use Rattle.ra_base.proofs.Searches.{first_same, first_none_at, first_none_from}
 use Rattle.ra_model.specs.declared.raw.Tables.{Tables}
-use Rattle.ra_model.specs.Numbers.{resource_count, machine_count, service_count, process_count, transient_at}
-use Rattle.ra_model.specs.Numbers.{capacity_of, spread_of, dependency_count, need_of, service_of, neighbourhood_of}
-use Rattle.ra_model.specs.Numbers.{closed_at}
+use Rattle.ra_model.specs.Numbers.{resource_count, machine_count, service_count, process_count, transient_at, capacity_of, spread_of, dependency_count, need_of, service_of, neighbourhood_of, closed_at}
 use Rattle.ra_model.specs.Assignments.{machine_at}
 use Rattle.ra_model.specs.Usage.{use_of, transient_of}
 use Rattle.ra_model.specs.Services.{is_of, on_machine, in_neighbourhood, locations_of}
-use Rattle.ra_model.specs.Broken.{cause_if, capacity_test, row_capacity, broken_capacity, transient_test, row_transient}
-use Rattle.ra_model.specs.Broken.{broken_transient, conflict_test, service_conflict, broken_conflict, spread_test}
-use Rattle.ra_model.specs.Broken.{broken_spread, near_of, far_test, dependency_test, pair_dependency}
-use Rattle.ra_model.specs.Broken.{service_dependency, broken_dependency, closed_test, broken_closed}
+use Rattle.ra_model.specs.Broken.{cause_if, capacity_test, row_capacity, broken_capacity, transient_test, row_transient, broken_transient, conflict_test, service_conflict, broken_conflict, spread_test, broken_spread, near_of, far_test, dependency_test, pair_dependency, service_dependency, broken_dependency, closed_test, broken_closed}
 use Rattle.ra_model.proofs.BrokenLemmas.{Fine, fine_from_unbroken}
 use Rattle.ra_moves.specs.declared.steps.Step.{Step}
 use Rattle.ra_moves.specs.Steps.{process_in}
@@ -25,8 +19,7 @@ use Rattle.ra_moves.specs.Touched.{touches_machine, moves_service, guards_servic
 use Rattle.ra_moves.specs.Moving.{IsMove}
 use Rattle.ra_moves.specs.Laws.{OnlyWhere, AreLocal, FailuresAreLocal}
 use Rattle.ra_moves.proofs.EndLemmas.{unguarded_stays, unguarded_needs}
-use Rattle.ra_moves.proofs.StayLemmas.{use_same, transient_same, on_machine_same, on_machine_stays, locations_same}
-use Rattle.ra_moves.proofs.StayLemmas.{in_neighbourhood_same, process_stays, member_stays}
+use Rattle.ra_moves.proofs.StayLemmas.{use_same, transient_same, on_machine_same, on_machine_stays, locations_same, in_neighbourhood_same, process_stays, member_stays}
 
 -- what is told of equal values is equal
 

@@ -9,8 +9,7 @@ use Rattle.ra_moves.specs.declared.steps.MoveKind.{MoveKind}
 use Rattle.ra_moves.specs.declared.steps.Step.{Step}
 use Rattle.ra_moves.specs.Steps.{step_at, process_in, from_in, to_in, StandsAt}
 use Rattle.ra_moves.specs.declared.steps.MoveKind.TheVariants.{Shift, Swap, Chain}
-use Rattle.ra_moves.specs.Options.{kind_of, count_of, option_count, drawn, target, leaving, shift_of, swap_of, chain_of}
-use Rattle.ra_moves.specs.Options.{option_of, option_at}
+use Rattle.ra_moves.specs.Options.{kind_of, count_of, option_count, drawn, target, leaving, shift_of, swap_of, chain_of, option_of, option_at}
 
 pub shift_named : (x : List ℕ) (m : ℕ) (d : Drawing) (i : ℕ) → kind_of x ≡ Shift → i < option_count x m d →
     i < count_of Shift d m

@@ -1,7 +1,6 @@
 -- What a move doesn't touch stays: sums of which it takes as much as it adds, the use of machines that it neither
 -- leaves nor enters, and counts of services that it doesn't move.
-use Rattle.std.proofs.Common.{◌≡◌, ◌≢◌, ℕ, ◌+◌, ◌^◌, ◌<◌, Bool, false, cond, eqb, ltb, ◌||◌, List, length, sym, ap, ◌∙◌}
-use Rattle.std.proofs.Common.{arith, ne_eqb}
+use Rattle.std.proofs.Common.{◌≡◌, ◌≢◌, ℕ, ◌+◌, ◌^◌, ◌<◌, Bool, false, cond, eqb, ltb, ◌||◌, List, length, sym, ap, ◌∙◌, arith, ne_eqb}
 use Rattle.std.proofs.lemmas.Bool.{and_left, and_right, both_ways}
 use Rattle.ra_base.specs.Sums.{total, one_if, is_named}
 use Rattle.ra_base.specs.declared.ids.Machine.{Machine}
@@ -12,8 +11,7 @@ use Rattle.ra_model.specs.declared.raw.Tables.{Tables}
 use Rattle.ra_model.specs.Numbers.{process_count, service_of, requirement_of, neighbourhood_of, location_of}
 use Rattle.ra_model.specs.Assignments.{machine_at, tally}
 use Rattle.ra_model.specs.Usage.{use_share, use_of, transient_share, transient_of}
-use Rattle.ra_model.specs.Services.{is_of, of_service, members_at, on_machine, in_neighbourhood, in_location}
-use Rattle.ra_model.specs.Services.{locations_of}
+use Rattle.ra_model.specs.Services.{is_of, of_service, members_at, on_machine, in_neighbourhood, in_location, locations_of}
 use Rattle.ra_moves.specs.declared.steps.Step.{Step}
 use Rattle.ra_moves.specs.Steps.{process_in, from_in, to_in}
 use Rattle.ra_moves.specs.Replacing.{Applied, applied}

@@ -6,8 +6,7 @@ use Rattle.ra_base.specs.declared.ids.Machine.{Machine}
 use Rattle.ra_model.specs.declared.raw.Tables.{Tables}
 use Rattle.ra_model.specs.Numbers.{machine_count, service_count, process_count, dependency_count, need_of}
 use Rattle.ra_model.specs.Limits.{WellFormed}
-use Rattle.ra_model.specs.Broken.{first_broken, row_capacity, row_transient, conflict_test, service_conflict}
-use Rattle.ra_model.specs.Broken.{spread_test, pair_dependency, service_dependency, closed_test}
+use Rattle.ra_model.specs.Broken.{first_broken, row_capacity, row_transient, conflict_test, service_conflict, spread_test, pair_dependency, service_dependency, closed_test}
 use Rattle.ra_model.specs.Situations.{situation}
 use Rattle.ra_moves.specs.declared.steps.Step.{Step}
 use Rattle.ra_moves.specs.Steps.{process_in}

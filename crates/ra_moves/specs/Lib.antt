@@ -11,3 +11,4 @@ pub mod Moving
 pub mod Weighing
 pub mod Alike
 pub mod Laws
+pub mod SettledNow

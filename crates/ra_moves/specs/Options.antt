@@ -1,6 +1,5 @@
 -- The options that the eight words x of a proposal name, and the one that is planned.
-use Rattle.std.specs.Prelude.{ℕ, ◌+◌, ◌%◌, min, List, [], ◌∷◌, length, Option, Some, None, if◌then◌else◌, nat_lt}
-use Rattle.std.specs.Prelude.{slice_index}
+use Rattle.std.specs.Prelude.{ℕ, ◌+◌, ◌%◌, min, List, [], ◌∷◌, length, Option, Some, None, if◌then◌else◌, nat_lt, slice_index}
 use Rattle.ra_base.specs.Searches.{least_place}
 use Rattle.ra_base.specs.declared.ids.Machine.{Machine}
 use Rattle.ra_base.specs.declared.causes.Drawing.{Drawing}

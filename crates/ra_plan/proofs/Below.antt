@@ -1,6 +1,5 @@
 -- The best option with one more move, of which a cost below the bound was found or none.
-use Rattle.std.proofs.Common.{◌≡◌, ◌↔◌, ℕ, ◌+◌, ◌<◌, ◌≤◌, arith, Bool, true, false, List, length, Option, Some, None}
-use Rattle.std.proofs.Common.{sym, ap, ap₂, ◌∙◌}
+use Rattle.std.proofs.Common.{◌≡◌, ◌↔◌, ℕ, ◌+◌, ◌<◌, ◌≤◌, arith, Bool, true, false, List, length, Option, Some, None, sym, ap, ap₂, ◌∙◌}
 use Rattle.std.proofs.lemmas.Bool.{both_ways}
 use Rattle.ra_base.specs.Searches.{is_better, least, or_else}
 use Rattle.ra_base.specs.declared.causes.Drawing.{Drawing}
@@ -12,8 +11,8 @@ use Rattle.ra_moves.specs.declared.steps.Step.{Step}
 use Rattle.ra_moves.specs.Judging.{repeat_of, same_of, broken_by, IsMoveBelow}
 use Rattle.ra_moves.specs.Replacing.{applied, after_move}
 use Rattle.ra_moves.specs.Moving.{MayMove}
-use Rattle.ra_weigh_changes.specs.Room.{HaveRoom}
-use Rattle.ra_weigh_changes.proofs.RoomLemmas.{room_kept}
+use Rattle.ra_weigh.specs.Room.{HaveRoom}
+use Rattle.ra_weigh.proofs.RoomLemmas.{room_kept}
 use Rattle.ra_plan.specs.Choosing.{IsBest, cost_in, steps_in, cost_to_beat}
 use Rattle.ra_plan.specs.declared.best.Best.{Best}
 use Rattle.ra_plan.proofs.Bests.{worse_at, better_at, best_within, cost_means, cost_comes}

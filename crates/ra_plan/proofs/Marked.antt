@@ -1,13 +1,12 @@
 -- The best option of a window in which only some machines are marked.
-use Rattle.std.proofs.Common.{◌≡◌, ◌≢◌, ℕ, zero, suc, ◌+◌, ◌-◌, ◌%◌, ◌<◌, ◌≤◌, min, List, get_or, None, refl, sym, ap}
-use Rattle.std.proofs.Common.{subst, ◌∙◌, arith}
+use Rattle.std.proofs.Common.{◌≡◌, ◌≢◌, ℕ, zero, suc, ◌+◌, ◌-◌, ◌%◌, ◌<◌, ◌≤◌, min, List, get_or, None, refl, sym, ap, subst, ◌∙◌, arith}
 use Rattle.std.specs.Int.{bit_at}
 use Rattle.ra_base.specs.declared.causes.Drawing.TheVariants.{Two}
 use Rattle.ra_model.specs.Numbers.{machine_count}
 use Rattle.ra_model.specs.Assignments.{machine_at}
 use Rattle.ra_model.specs.Situations.{Situation, cost_at}
-use Rattle.ra_weigh_shift.specs.Arriving.{sum_at, IsCostBelow}
-use Rattle.ra_weigh_shift.specs.Lanes.{machine_in, AreCheapMarked}
+use Rattle.ra_shift.specs.Arriving.{sum_at, IsCostBelow}
+use Rattle.ra_shift.specs.Lanes.{machine_in, AreCheapMarked}
 use Rattle.ra_plan.specs.Choosing.{IsBest, IsWindowOf, cost_to_beat}
 use Rattle.ra_plan.specs.declared.best.Best.{Best}
 use Rattle.std.specs.Prelude.{slice_index}

@@ -1,6 +1,5 @@
 -- What a world has for settling, and the two forms of a weighing.
-use Rattle.std.proofs.Common.{◌≡◌, ℕ, ◌*◌, ◌<◌, ◌≤◌, List, [], ◌∷◌, length, Some, None, sym, ap, ◌∙◌, arith}
-use Rattle.std.proofs.Common.{mul-le-mul_right}
+use Rattle.std.proofs.Common.{◌≡◌, ℕ, ◌*◌, ◌<◌, ◌≤◌, List, [], ◌∷◌, length, Some, None, sym, ap, ◌∙◌, arith, mul-le-mul_right}
 use Rattle.ra_base.specs.Searches.{or_else}
 use Rattle.ra_base.specs.declared.causes.Cause.{Cause}
 use Rattle.ra_base.specs.declared.costs.Parts.{Parts}
@@ -22,10 +21,10 @@ use Rattle.ra_moves.specs.Steps.{process_in, step_at, to_in}
 use Rattle.ra_moves.specs.Moving.{IsMove, IsOffered, MayMove}
 use Rattle.ra_moves.specs.Weighing.{weighed_of}
 use Rattle.ra_moves.specs.Replacing.{after_move}
-use Rattle.ra_weigh_shift.specs.Finding.{IsFinding, cause_of}
-use Rattle.ra_weigh_shift.specs.declared.finding.Finding.TheVariants.{Broken, Unbroken}
-use Rattle.ra_weigh_shift.proofs.AllowLaws.{no_repeat}
-use Rattle.ra_weigh_settle.specs.Settling.{AreMovedOf, IsSettling, HasSettling}
+use Rattle.ra_shift.specs.Finding.{IsFinding, cause_of}
+use Rattle.ra_shift.specs.declared.finding.Finding.TheVariants.{Broken, Unbroken}
+use Rattle.ra_shift.proofs.AllowLaws.{no_repeat}
+use Rattle.ra_moves.specs.SettledNow.{AreMovedOf, IsSettling, HasSettling}
 use Rattle.ra_plan.specs.Deciding.{IsShiftOf}
 use Rattle.ra_plan.specs.Weighings.{IsWeighing}
 

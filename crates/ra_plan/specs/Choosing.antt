@@ -7,7 +7,7 @@ use Rattle.ra_model.specs.Numbers.{machine_count}
 use Rattle.ra_model.specs.Situations.{Situation}
 use Rattle.ra_moves.specs.Options.{leaving, option_at, option_cost}
 use Rattle.ra_moves.specs.declared.steps.Step.{Step}
-use Rattle.ra_weigh_shift.specs.Lanes.{machine_in}
+use Rattle.ra_shift.specs.Lanes.{machine_in}
 use Rattle.ra_plan.specs.declared.best.Best.{Best}
 
 -- the cost of option k, if it is judged Done on the assignment of a world

@@ -10,8 +10,7 @@ use crate::best::Best;
 use crate::flaws::flaw_of;
 use ra_base::{Drawing, Steps};
 use ra_moves::{Move, options, resolve};
-use ra_weigh_causes::is_unbroken;
-use ra_weigh_changes::{cost_after_move, has_room};
+use ra_weigh::{cost_after_move, has_room, is_unbroken};
 use ra_world::{World, requirements};
 use std::sync::ledger::Ledger;
 

@@ -15,8 +15,8 @@ use crate::verdicts::verdict;
 use crate::weighing::{bare, weigh};
 use ra_base::{Drawing, Steps};
 use ra_moves::{Move, MoveKind, Plan, Weighed, resolve};
-use ra_weigh_changes::changed_by;
-use ra_weigh_shift::{Finding, Shift};
+use ra_shift::{Finding, Shift};
+use ra_weigh::changed_by;
 use ra_world::{World, requirements};
 use std::sync::ledger::Ledger;
 

@@ -1,13 +1,12 @@
 ghost use Rattle.std.specs.Prelude.{◌≡◌, ◌≢◌, ◌+◌, ℕ, ◌%◌, ◌^◌, ◌<◌, ◌≤◌, min, List, [], ◌∷◌, slice_index};
 ghost use Rattle.ra_model.specs.Numbers.{machine_count};
 ghost use Rattle.ra_moves.specs.declared.steps.MoveKind.TheVariants as kind;
-ghost use Rattle.ra_moves.specs.Options.{kind_of, drawn, target, count_of, option_count};
+ghost use Rattle.ra_moves.specs.Options.{kind_of, drawn, target, count_of, option_count, leaving};
 ghost use Rattle.ra_base.specs.declared.causes.Drawing.{Drawing};
-ghost use Rattle.ra_moves.specs.Options.{leaving};
 ghost use Rattle.ra_base.specs.declared.causes.Drawing.TheVariants.{Two};
 ghost use Rattle.ra_model.specs.Assignments.{machine_at};
-ghost use Rattle.ra_weigh_shift.specs.Arriving.{sum_at};
-ghost use Rattle.ra_weigh_shift.specs.Lanes.{AreCheapMarked};
+ghost use Rattle.ra_shift.specs.Arriving.{sum_at};
+ghost use Rattle.ra_shift.specs.Lanes.{AreCheapMarked};
 ghost use Rattle.ra_plan.specs.Choosing.{IsBest, IsWindowOf, steps_in, cost_to_beat};
 ghost use Rattle.ra_model.specs.Situations.{cost_at};
 
@@ -15,7 +14,7 @@ use crate::best::Best;
 use crate::marks::{next_mark, with_mark};
 use ra_base::{Drawing, Machine};
 use ra_moves::options;
-use ra_weigh_shift::Shift;
+use ra_shift::Shift;
 use ra_world::World;
 
 /// The best of all options of a shift.

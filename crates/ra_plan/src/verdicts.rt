@@ -5,8 +5,7 @@ ghost use Rattle.ra_moves.specs.Moving.{IsOffered};
 ghost use Rattle.ra_moves.specs.Weighing.{weighed_of};
 ghost use Rattle.ra_plan.specs.Weighings.{IsWeighing};
 
-use ra_moves::{Verdict, Weighed};
-use ra_weigh_settle::settle_now;
+use ra_moves::{Verdict, Weighed, settle_now};
 use ra_world::World;
 
 /// The verdict on a move that was weighed at this world: its broken cause, or else Rise or Done by the cost after it.

@@ -6,8 +6,7 @@ ghost use Rattle.ra_moves.specs.Weighing.{weighed_of};
 use crate::flaws::flaw_of;
 use ra_base::{Cause, Steps};
 use ra_moves::{Move, Weighed};
-use ra_weigh_causes::first_broken;
-use ra_weigh_changes::changed_by;
+use ra_weigh::{changed_by, first_broken};
 use ra_world::{World, requirements};
 use std::sync::ledger::Ledger;
 

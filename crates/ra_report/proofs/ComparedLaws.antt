@@ -1,10 +1,9 @@
 -- A text that was written to a sink that compares.
-use Rattle.std.proofs.Common.{◌≡◌, ℕ, ◌<◌, ◌≤◌, List, ◌++◌, length, take, Option, None, Some, IfNone, IfSome, Result}
-use Rattle.std.proofs.Common.{Ok, Err, OnOk, OnErr, inl, inr, arith, sym, ap, ◌∙◌, ⊎_elim}
+use Rattle.std.proofs.Common.{◌≡◌, ℕ, ◌<◌, ◌≤◌, List, ◌++◌, length, take, Option, None, Some, IfNone, IfSome, Result, Ok, Err, OnOk, OnErr, inl, inr, arith, sym, ap, ◌∙◌, ⊎_elim}
 use Rattle.std.specs.Io.KnownBytes.{Appends}
-use Rattle.ra_report_lines.specs.Comparing.{opened, WasGiven}
-use Rattle.ra_report_lines.specs.Lines.{lines_of, FirstUnlike}
-use Rattle.ra_report_text.specs.Pieces.{BreaksOff}
+use Rattle.ra_token.specs.Comparing.{opened, WasGiven}
+use Rattle.ra_token.specs.Lines.{lines_of, FirstUnlike}
+use Rattle.ra_report.specs.Pieces.{BreaksOff}
 use Rattle.ra_report.proofs.LineEnds.{unlike_within}
 
 pub was_given : {T E : Type 0} (r : Result T E) (expected old taken text : List ℕ) (before after : ℕ) →

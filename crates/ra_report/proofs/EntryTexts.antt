@@ -1,20 +1,18 @@
 -- The texts of a journal's entries tell them: each word tells what it says and where it ends.
-use Rattle.std.proofs.Common.{◌≡◌, ℕ, ◌+◌, ◌*◌, ◌<◌, List, [], ◌∷◌, ◌++◌, length, get_or, drop, refl, sym, ◌∙◌, ap}
-use Rattle.std.proofs.Common.{arith, append_assoc, codes}
+use Rattle.std.proofs.Common.{◌≡◌, ℕ, ◌+◌, ◌*◌, ◌<◌, List, [], ◌∷◌, ◌++◌, length, get_or, drop, refl, sym, ◌∙◌, ap, arith, append_assoc, codes}
 use Rattle.std.proofs.lemmas.List.{append_cancel_left}
 use Rattle.ra_base.specs.declared.causes.Cause.{Cause}
-use Rattle.ra_base.specs.declared.causes.Cause.TheVariants.{Repeat, Same, Capacity, Transient, Conflict, Spread}
-use Rattle.ra_base.specs.declared.causes.Cause.TheVariants.{Dependency, Rise, Closed}
+use Rattle.ra_base.specs.declared.causes.Cause.TheVariants.{Repeat, Same, Capacity, Transient, Conflict, Spread, Dependency, Rise, Closed}
 use Rattle.ra_moves.specs.declared.steps.MoveKind.{MoveKind}
 use Rattle.ra_moves.specs.declared.steps.MoveKind.TheVariants.{Shift, Swap, Chain}
 use Rattle.ra_moves.specs.declared.steps.Step.{Step}
 use Rattle.ra_moves.specs.declared.verdicts.Verdict.{Verdict}
 use Rattle.ra_moves.specs.declared.verdicts.Verdict.TheVariants.{Done, Refused}
 use Rattle.ra_journal.specs.declared.entries.Entry.{Entry}
-use Rattle.ra_report_text.specs.Texts.{space, number_text, with_one, with_two, with_three, with_four, cause_text}
+use Rattle.ra_report.specs.Texts.{space, number_text, with_one, with_two, with_three, with_four, cause_text}
 use Rattle.ra_report.specs.JournalTexts.{verdict_text, kind_text, step_text, steps_text, entry_front, entry_line}
-use Rattle.ra_report_text.proofs.NumberTexts.{Ends, Starts, number_then, number_starts}
-use Rattle.ra_report_text.specs.Numbers.{is_digit}
+use Rattle.ra_report.proofs.NumberTexts.{Ends, Starts, number_then, number_starts}
+use Rattle.ra_report.specs.Numbers.{is_digit}
 
 -- what one list begins with, the other does
 behind : (word x y : List ℕ) → word ++ x ≡ word ++ y → x ≡ y

@@ -1,7 +1,5 @@
 -- Numbers that are read from the front of a line, and the front of an entry's line.
-use Rattle.std.proofs.Common.{◌≡◌, ℕ, suc, ◌+◌, ◌-◌, ◌*◌, ◌^◌, ◌<◌, ◌≤◌, Bool, true, false, cond, nat_lt, if◌then◌else◌}
-use Rattle.std.proofs.Common.{List, [], ◌∷◌, ◌++◌, length, take, drop, get_or, Option, Some, None, refl, sym, ◌∙◌, ap}
-use Rattle.std.proofs.Common.{arith, subst, append_assoc, length-append, lt-ltb}
+use Rattle.std.proofs.Common.{◌≡◌, ℕ, suc, ◌+◌, ◌-◌, ◌*◌, ◌^◌, ◌<◌, ◌≤◌, Bool, true, false, cond, nat_lt, if◌then◌else◌, List, [], ◌∷◌, ◌++◌, length, take, drop, get_or, Option, Some, None, refl, sym, ◌∙◌, ap, arith, subst, append_assoc, length-append, lt-ltb}
 use Rattle.std.proofs.lemmas.Bool.Decides.{nat_tests}
 use Rattle.std.proofs.lemmas.List.{append-nil, take-append-drop, take-append-le, take-append-drop, drop-drop, drop_all}
 use Rattle.std.proofs.lemmas.Option.{none-some}
@@ -9,11 +7,11 @@ use Rattle.std.proofs.Math.Seq.{drop-cons, take-append_seam}
 use Rattle.std.specs.Char.{is_ascii_digit}
 use Rattle.ra_journal.specs.declared.entries.Entry.{Entry}
 use Rattle.ra_report.specs.declared.front.Front.{Front}
-use Rattle.ra_report_text.specs.Numbers.{is_digit, told, past}
-use Rattle.ra_report_text.specs.Texts.{number_text}
+use Rattle.ra_report.specs.Numbers.{is_digit, told, past}
+use Rattle.ra_report.specs.Texts.{number_text}
 use Rattle.ra_report.specs.JournalTexts.{entry_line, kind_text, steps_text, verdict_text}
 use Rattle.ra_report.specs.Fronts.{IsSmallFront, FindsRest, four_numbers}
-use Rattle.ra_report_text.proofs.NumberTexts.{number_told, number_past}
+use Rattle.ra_report.proofs.NumberTexts.{number_told, number_past}
 use Rattle.ra_report.proofs.EntryTexts.{blank, entry_parts}
 use Rattle.ra_report.proofs.LengthLaws.{label_length, number_length}
 

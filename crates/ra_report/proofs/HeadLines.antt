@@ -1,6 +1,5 @@
 -- The ten lines before the entries of a report.
-use Rattle.std.proofs.Common.{◌≡◌, ℕ, suc, ◌+◌, ◌%◌, Bool, false, cond, eqb, List, [], ◌∷◌, ◌++◌, length, Some, refl}
-use Rattle.std.proofs.Common.{◌∙◌, ap, arith, append_assoc, codes, ne_eqb}
+use Rattle.std.proofs.Common.{◌≡◌, ℕ, suc, ◌+◌, ◌%◌, Bool, false, cond, eqb, List, [], ◌∷◌, ◌++◌, length, Some, refl, ◌∙◌, ap, arith, append_assoc, codes, ne_eqb}
 use Rattle.std.specs.Fmt.{digit_glyph}
 use Rattle.ra_base.specs.declared.causes.Drawing.{Drawing}
 use Rattle.ra_base.specs.declared.costs.Parts.{Parts}
@@ -9,10 +8,9 @@ use Rattle.ra_draws.specs.declared.budgets.Lots.{Lots}
 use Rattle.ra_bounds.specs.PinnedBounds.{pinned_bound_of}
 use Rattle.ra_model.specs.declared.raw.Tables.{Tables}
 use Rattle.ra_journal.specs.declared.entries.Entry.{Entry}
-use Rattle.ra_report_text.specs.Texts.{space, number_text, number_line, parts_text}
-use Rattle.ra_report.specs.JournalTexts.{entries_text, machines_text, assignment_line, drawing_number, drawing_line}
-use Rattle.ra_report.specs.JournalTexts.{head_text, report_lines, report_text, after_line, lines_left, IsJournalOf}
-use Rattle.ra_report_text.proofs.NumberTexts.{number_skipped, glyph_of}
+use Rattle.ra_report.specs.Texts.{space, number_text, number_line, parts_text}
+use Rattle.ra_report.specs.JournalTexts.{entries_text, machines_text, assignment_line, drawing_number, drawing_line, head_text, report_lines, report_text, after_line, lines_left, IsJournalOf}
+use Rattle.ra_report.proofs.NumberTexts.{number_skipped, glyph_of}
 
 -- a digit ends no line
 past_digit : (n : ℕ) (x : List ℕ) → after_line (digit_glyph false (n % 10) ∷ x) ≡ after_line x

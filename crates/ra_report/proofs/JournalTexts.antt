@@ -1,13 +1,12 @@
 -- The lines of a journal tell it, and a report tells the lines of its journal.
-use Rattle.std.proofs.Common.{◌≡◌, ℕ, zero, suc, ◌+◌, ◌<◌, ⊎_elim, List, [], ◌++◌, length, Option, refl, sym, ◌∙◌, ap}
-use Rattle.std.proofs.Common.{arith, append_assoc, length-append, subst, add-one, eq-or-lt_of_le, le_of_suc-le-suc}
+use Rattle.std.proofs.Common.{◌≡◌, ℕ, zero, suc, ◌+◌, ◌<◌, ⊎_elim, List, [], ◌++◌, length, Option, refl, sym, ◌∙◌, ap, arith, append_assoc, length-append, subst, add-one, eq-or-lt_of_le, le_of_suc-le-suc}
 use Rattle.std.proofs.lemmas.List.{append-nil, ext_get_or}
 use Rattle.ra_journal.specs.declared.entries.Entry.{Entry}
 use Rattle.ra_journal.specs.Entries.{entry_at}
 use Rattle.ra_report.specs.JournalTexts.{entry_line, entries_text, IsJournalOf}
-use Rattle.ra_report_text.specs.declared.gathered.Gathered.{Gathered}
-use Rattle.ra_report_text.specs.Gathering.{AddsText}
-use Rattle.ra_report_text.proofs.GatheringLemmas.{adds_more}
+use Rattle.ra_report.specs.declared.gathered.Gathered.{Gathered}
+use Rattle.ra_report.specs.Gathering.{AddsText}
+use Rattle.ra_report.proofs.GatheringLemmas.{adds_more}
 use Rattle.ra_report.proofs.EntryTexts.{entry_then, line_some}
 
 -- the first n entries are the same

@@ -1,7 +1,5 @@
 -- How long the texts of numbers are, and those of the words of an entry.
-use Rattle.std.proofs.Common.{◌≡◌, ℕ, zero, suc, ◌+◌, ◌*◌, ◌/◌, ◌%◌, ◌^◌, ◌<◌, ◌≤◌, Bool, true, false, cond, eqb, List}
-use Rattle.std.proofs.Common.{[], ◌∷◌, ◌++◌, length, take, get_or, codes, refl, sym, ◌∙◌, ap, arith, subst}
-use Rattle.std.proofs.Common.{length-append, lt_trans}
+use Rattle.std.proofs.Common.{◌≡◌, ℕ, zero, suc, ◌+◌, ◌*◌, ◌/◌, ◌%◌, ◌^◌, ◌<◌, ◌≤◌, Bool, true, false, cond, eqb, List, [], ◌∷◌, ◌++◌, length, take, get_or, codes, refl, sym, ◌∙◌, ap, arith, subst, length-append, lt_trans}
 use Rattle.std.proofs.Math.Nat.{pow-succ', div-eq_of_lt}
 use Rattle.std.proofs.Math.Seq.{take-length}
 use Rattle.std.specs.Fmt.{digits_onto, digit_glyph}
@@ -11,10 +9,9 @@ use Rattle.ra_moves.specs.declared.steps.Step.{Step}
 use Rattle.ra_moves.specs.declared.verdicts.Verdict.TheVariants.{Done, Refused}
 use Rattle.ra_base.specs.declared.causes.Cause.{Cause}
 use Rattle.ra_journal.specs.declared.entries.Entry.{Entry}
-use Rattle.ra_report_text.specs.Texts.{space, number_text, with_one, with_two, with_three, with_four, cause_text}
-use Rattle.ra_report.specs.JournalTexts.{kind_text, step_text, step_word, steps_text, verdict_text, entry_front}
-use Rattle.ra_report.specs.JournalTexts.{entry_line}
-use Rattle.ra_report_text.proofs.PieceLemmas.{words_take}
+use Rattle.ra_report.specs.Texts.{space, number_text, with_one, with_two, with_three, with_four, cause_text}
+use Rattle.ra_report.specs.JournalTexts.{kind_text, step_text, step_word, steps_text, verdict_text, entry_front, entry_line}
+use Rattle.ra_report.proofs.PieceLemmas.{words_take}
 
 fewer : (k n : ℕ) → n < 10 ^ suc k → n / 10 < 10 ^ k
 fewer k n few = let h : n < 10 * 10 ^ k = rw pow-succ' at few in omega arith

@@ -1,3 +1,7 @@
+pub mod PieceLemmas
+pub mod GatheringLemmas
+pub mod NumberTexts
+pub mod LineLemmas
 pub mod EntryTexts
 pub mod JournalTexts
 pub mod HeadLines

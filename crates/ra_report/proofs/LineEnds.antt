@@ -1,14 +1,11 @@
 -- The lines of a report: each has one LF, at its end.
-use Rattle.std.proofs.Common.{◌≡◌, ℕ, zero, suc, ◌+◌, ◌/◌, ◌%◌, ◌^◌, ◌<◌, ◌≤◌, Bool, true, false, cond, eqb, List, []}
-use Rattle.std.proofs.Common.{◌∷◌, ◌++◌, length, slice_get, Some, None, codes, refl, sym, ◌∙◌, ap, arith, append_assoc}
-use Rattle.std.proofs.Common.{ne_eqb, ⊎_elim}
+use Rattle.std.proofs.Common.{◌≡◌, ℕ, zero, suc, ◌+◌, ◌/◌, ◌%◌, ◌^◌, ◌<◌, ◌≤◌, Bool, true, false, cond, eqb, List, [], ◌∷◌, ◌++◌, length, slice_get, Some, None, codes, refl, sym, ◌∙◌, ap, arith, append_assoc, ne_eqb, ⊎_elim}
 use Rattle.std.proofs.lemmas.Bool.{cases_lt}
 use Rattle.std.proofs.lemmas.List.{append-nil}
 use Rattle.std.proofs.lemmas.Option.{none-some, slice_get-get_or, slice_get_past}
 use Rattle.std.specs.Fmt.{digits_onto, digit_glyph}
 use Rattle.ra_base.specs.declared.causes.Cause.{Cause}
-use Rattle.ra_base.specs.declared.causes.Cause.TheVariants.{Repeat, Same, Capacity, Transient, Conflict, Spread}
-use Rattle.ra_base.specs.declared.causes.Cause.TheVariants.{Dependency, Rise, Closed}
+use Rattle.ra_base.specs.declared.causes.Cause.TheVariants.{Repeat, Same, Capacity, Transient, Conflict, Spread, Dependency, Rise, Closed}
 use Rattle.ra_base.specs.declared.causes.Drawing.{Drawing}
 use Rattle.ra_base.specs.declared.costs.Parts.{Parts}
 use Rattle.ra_base.specs.declared.ids.Machine.{Machine}
@@ -26,15 +23,12 @@ use Rattle.ra_journal.specs.Entries.{entry_at}
 use Rattle.ra_journal.specs.States.{state}
 use Rattle.ra_model.specs.declared.raw.Tables.{Tables}
 use Rattle.ra_model.specs.Costs.{parts_of}
-use Rattle.ra_report_lines.specs.Lines.{lines_of, line_at, ends_line, body_of, HasNoEnd, FirstUnlike}
-use Rattle.ra_report_lines.proofs.BodyLaws.{no_end_none, no_end_first, no_end_cons, no_end_both, ends_behind}
-use Rattle.ra_report_lines.proofs.SplitLaws.{line_first, lines_append}
-use Rattle.ra_report_text.specs.Texts.{space, number_text, number_line, parts_text, with_one, with_two, with_three}
-use Rattle.ra_report_text.specs.Texts.{cause_text}
-use Rattle.ra_report.specs.JournalTexts.{verdict_text, kind_text, step_text, steps_text, entry_front, entry_line}
-use Rattle.ra_report.specs.JournalTexts.{machines_text, assignment_line, drawing_number, drawing_line, head_text}
-use Rattle.ra_report.specs.JournalTexts.{report_head, head_of, entries_text, entry_lines, after_line}
-use Rattle.ra_report_text.proofs.NumberTexts.{glyph_of}
+use Rattle.ra_token.specs.Lines.{lines_of, line_at, ends_line, body_of, HasNoEnd, FirstUnlike}
+use Rattle.ra_token.proofs.BodyLaws.{no_end_none, no_end_first, no_end_cons, no_end_both, ends_behind}
+use Rattle.ra_token.proofs.SplitLaws.{line_first, lines_append}
+use Rattle.ra_report.specs.Texts.{space, number_text, number_line, parts_text, with_one, with_two, with_three, cause_text}
+use Rattle.ra_report.specs.JournalTexts.{verdict_text, kind_text, step_text, steps_text, entry_front, entry_line, machines_text, assignment_line, drawing_number, drawing_line, head_text, report_head, head_of, entries_text, entry_lines, after_line}
+use Rattle.ra_report.proofs.NumberTexts.{glyph_of}
 
 -- a number has no LF
 glyph_no_end : (n : ℕ) (x : List ℕ) → HasNoEnd x → HasNoEnd (digit_glyph false (n % 10) ∷ x)

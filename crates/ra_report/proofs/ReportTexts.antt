@@ -11,8 +11,7 @@ use Rattle.ra_journal.specs.declared.entries.Entry.{Entry}
 use Rattle.ra_journal.specs.Best.{best_of}
 use Rattle.ra_model.specs.declared.raw.Tables.{Tables}
 use Rattle.ra_model.specs.Costs.{parts_of}
-use Rattle.ra_report.specs.JournalTexts.{report_lines, head_text, entries_text, report_text, report_head, best_state}
-use Rattle.ra_report.specs.JournalTexts.{text_of, head_of}
+use Rattle.ra_report.specs.JournalTexts.{report_lines, head_text, entries_text, report_text, report_head, best_state, text_of, head_of}
 use Rattle.ra_report.specs.Summaries.{summary_lines, summary_text, summary_of}
 
 pub report_told : (j : Journal) (best : List Machine) (parts : Parts) (bound : Bound) (at : ℕ) (d : Drawing) (l : Lots)

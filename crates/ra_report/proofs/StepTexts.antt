@@ -1,11 +1,10 @@
 -- The words of the last steps of a move.
-use Rattle.std.proofs.Common.{◌≡◌, ℕ, ◌+◌, ◌-◌, ◌*◌, ◌≤◌, ◌<◌, List, ◌∷◌, ◌++◌, length, drop, get_or, ap, arith}
-use Rattle.std.proofs.Common.{add-one}
+use Rattle.std.proofs.Common.{◌≡◌, ℕ, ◌+◌, ◌-◌, ◌*◌, ◌≤◌, ◌<◌, List, ◌∷◌, ◌++◌, length, drop, get_or, ap, arith, add-one}
 use Rattle.std.proofs.Math.Seq.{drop-cons, drop-length}
 use Rattle.std.specs.List.{flat_map}
 use Rattle.ra_moves.specs.declared.steps.Step.{Step}
-use Rattle.ra_report_text.specs.Lines.{Prepends}
-use Rattle.ra_report_text.proofs.LineLemmas.{in_front, at_most, nothing}
+use Rattle.ra_report.specs.Lines.{Prepends}
+use Rattle.ra_report.proofs.LineLemmas.{in_front, at_most, nothing}
 use Rattle.ra_report.specs.JournalTexts.{step_word, steps_text}
 
 pub no_steps_left : (line : List ℕ) (steps : List Step) (n : ℕ) → n ≡ length steps →

@@ -5,11 +5,11 @@ use Rattle.ra_model.specs.Broken.{first_broken}
 use Rattle.ra_repair.specs.declared.repair.Repair.{Repair}
 use Rattle.ra_repair.specs.declared.tries.Try.{Try}
 use Rattle.ra_repair.specs.Repairs.{try_in}
-use Rattle.ra_report_text.specs.declared.gathered.Gathered.{Gathered}
-use Rattle.ra_report_text.specs.Gathering.{AddsText}
+use Rattle.ra_report.specs.declared.gathered.Gathered.{Gathered}
+use Rattle.ra_report.specs.Gathering.{AddsText}
 use Rattle.ra_report.specs.JournalTexts.{assignment_line}
 use Rattle.ra_report.specs.RepairTexts.{state_line, try_line, tries_text, repair_lines, text_of_repair}
-use Rattle.ra_report_text.proofs.GatheringLemmas.{adds_more}
+use Rattle.ra_report.proofs.GatheringLemmas.{adds_more}
 
 -- one more line
 pub adds_try : {O : Type 0} (taken : O → Option (List ℕ)) (faults : O → ℕ) (tries : List Try) (n : ℕ)

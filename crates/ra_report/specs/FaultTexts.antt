@@ -13,11 +13,10 @@ use Rattle.ra_model_read.specs.declared.faults.ModelFault.{ModelFault}
 use Rattle.ra_model_read.specs.declared.faults.ModelFault.TheVariants as model
 use Rattle.ra_report.specs.declared.faults.Fault.{Fault}
 use Rattle.ra_report.specs.declared.faults.FaultLine.{FaultLine}
-use Rattle.ra_report.specs.declared.faults.Fault.TheVariants.{Usage, Read, Model, Closed, Assign, Edits, Infeasible}
-use Rattle.ra_report.specs.declared.faults.Fault.TheVariants.{Unrepaired, Wrong, Write, Memory}
-use Rattle.ra_report_text.specs.Notes.{note_text}
-use Rattle.ra_report_text.specs.Pieces.{joined}
-use Rattle.ra_report_text.specs.Texts.{space, line_end, number_text, cause_text}
+use Rattle.ra_report.specs.declared.faults.Fault.TheVariants.{Usage, Read, Model, Closed, Assign, Edits, Infeasible, Unrepaired, Wrong, Write, Memory}
+use Rattle.ra_report.specs.Notes.{note_text}
+use Rattle.ra_report.specs.Pieces.{joined}
+use Rattle.ra_report.specs.Texts.{space, line_end, number_text, cause_text}
 
 -- the printed name of a field of a model file
 unfoldable pub field_text : Field → List ℕ

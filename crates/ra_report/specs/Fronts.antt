@@ -2,7 +2,7 @@
 use Rattle.std.specs.Prelude.{◌≡◌, ℕ, ◌^◌, ◌<◌, List, ◌∷◌, ◌++◌, drop, Option, Some}
 use Rattle.ra_journal.specs.declared.entries.Entry.{Entry}
 use Rattle.ra_report.specs.declared.front.Front.{Front}
-use Rattle.ra_report_text.specs.Texts.{number_text}
+use Rattle.ra_report.specs.Texts.{number_text}
 
 -- what is read from the line of an entry
 abbrev pub front_of : Entry → Front

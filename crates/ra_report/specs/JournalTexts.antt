@@ -1,6 +1,5 @@
 -- The report of a run, with a line for each entry of its journal, and the journal that a report tells.
-use Rattle.std.specs.Prelude.{◌≡◌, ℕ, zero, suc, ◌==◌, if◌then◌else◌, List, [], ◌∷◌, ◌++◌, length, codes, Option, Some}
-use Rattle.std.specs.Prelude.{None}
+use Rattle.std.specs.Prelude.{◌≡◌, ℕ, zero, suc, ◌==◌, if◌then◌else◌, List, [], ◌∷◌, ◌++◌, length, codes, Option, Some, None}
 use Rattle.std.specs.List.{flat_map}
 use Rattle.ra_base.specs.declared.causes.Drawing.{Drawing}
 use Rattle.ra_base.specs.declared.causes.Drawing.TheVariants.{One, Two}
@@ -21,9 +20,9 @@ use Rattle.ra_journal.specs.declared.journal.Journal.{Journal}
 use Rattle.ra_journal.specs.Entries.{entry_at}
 use Rattle.ra_journal.specs.States.{state}
 use Rattle.ra_journal.specs.Best.{best_of}
-use Rattle.ra_report_text.specs.Texts.{space, line_end, number_text, number_line, parts_text, with_one, cause_text}
-pub use Rattle.ra_report_text.specs.Texts.{machine_word}
-unfoldable pub use Rattle.ra_report_text.specs.Texts.{machines_text, assignment_line}
+use Rattle.ra_report.specs.Texts.{space, line_end, number_text, number_line, parts_text, with_one, cause_text}
+pub use Rattle.ra_report.specs.Texts.{machine_word}
+unfoldable pub use Rattle.ra_report.specs.Texts.{machines_text, assignment_line}
 
 -- a verdict: `done` and the cost, or `refused` and the cause
 unfoldable pub verdict_text : Verdict → List ℕ

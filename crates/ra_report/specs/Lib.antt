@@ -1,8 +1,14 @@
+pub mod CauseTexts
+pub mod Gathering
+pub mod Lines
+pub mod Notes
+pub mod Numbers
+pub mod Pieces
+pub mod Texts
+pub mod Writes
 pub mod FaultTexts
 pub mod Fronts
 pub mod JournalTexts
-pub mod Pieces
 pub mod Summaries
 pub mod RepairTexts
 pub mod Shares
-pub mod Texts

@@ -10,8 +10,8 @@ use Rattle.ra_repair.specs.declared.repair.Repair.{Repair}
 use Rattle.ra_repair.specs.declared.tries.Try.{Try}
 use Rattle.ra_repair.specs.Repairs.{try_in}
 use Rattle.ra_repair.specs.Runs.{repair_run}
-use Rattle.ra_report_text.specs.Pieces.{joined}
-use Rattle.ra_report_text.specs.Texts.{space, line_end, number_text, cause_text}
+use Rattle.ra_report.specs.Pieces.{joined}
+use Rattle.ra_report.specs.Texts.{space, line_end, number_text, cause_text}
 use Rattle.ra_report.specs.JournalTexts.{kind_text, steps_text, assignment_line}
 
 -- the line `feasible`, or `broken` and the cause

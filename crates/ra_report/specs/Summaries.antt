@@ -12,7 +12,7 @@ use Rattle.ra_journal.specs.declared.journal.Journal.{Journal}
 use Rattle.ra_journal.specs.States.{state}
 use Rattle.ra_journal.specs.Best.{best_of}
 use Rattle.ra_report.specs.JournalTexts.{outcome_text}
-use Rattle.ra_report_text.specs.Texts.{number_line}
+use Rattle.ra_report.specs.Texts.{number_line}
 
 -- a verdict is done
 abbrev pub is_done : Verdict → Bool

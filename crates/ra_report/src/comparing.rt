@@ -1,16 +1,16 @@
 ghost use Rattle.std.specs.Prelude.{◌≡◌, ◌≤◌, ◌↔◌, true, length, IfSome, IfNone};
-ghost use Rattle.ra_report_lines.specs.Lines.{FirstUnlike};
+ghost use Rattle.ra_token.specs.Lines.{FirstUnlike};
 ghost use Rattle.ra_report.specs.JournalTexts.{best_state, parts_in, bound_in, head_of, entry_line};
 ghost use Rattle.ra_report.specs.declared.lengths.TheConstants.{LONGEST_LINE};
 
+use crate::Line;
 use crate::journal::write_line;
 use crate::lengths::entry_is_short;
 use crate::writing::write_head;
 use ra_base::{Assignment, Parts};
 use ra_bounds::Bound;
 use ra_journal::{Entry, Journal};
-use ra_report_lines::Expected;
-use ra_report_text::Line;
+use ra_token::Expected;
 
 /// Whether some bytes are exactly the line of the entry at a place, counted from 0. No such line has more than
 /// `LONGEST_LINE` bytes, including its LF.

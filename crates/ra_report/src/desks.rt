@@ -1,15 +1,15 @@
 ghost use Rattle.std.specs.Prelude.{◌≡◌, ℕ, ◌+◌, ◌<◌, ◌≤◌, List, [], length, slice_index_or, IfOk};
-ghost use Rattle.ra_report_text.specs.Gathering.{AddsText};
-ghost use Rattle.ra_report_text.specs.Pieces.{joined};
+ghost use Rattle.ra_report.specs.Gathering.{AddsText};
+ghost use Rattle.ra_report.specs.Pieces.{joined};
 ghost use Rattle.ra_report.specs.JournalTexts.{entries_text};
 ghost use Rattle.ra_report.specs.Shares.{share_start, AreLinesOfEntries, IsShare};
 
 use crate::journal::write_line;
 use crate::lengths::entry_is_short;
+use crate::{Gathered, Line};
 use ra_base::{Fixed, NoMemory};
 use ra_io::Sink;
 use ra_journal::Entries;
-use ra_report_text::{Gathered, Line};
 use std::alloc::Global;
 use std::marker::{Model, Sync};
 use std::thread;

@@ -1,16 +1,16 @@
 ghost use Rattle.std.specs.Prelude.{◌≡◌};
-ghost use Rattle.ra_report_text.specs.Notes.{note_text};
+ghost use Rattle.ra_report.specs.Notes.{note_text};
 ghost use Rattle.ra_report.specs.FaultTexts.{field_text, bad_byte, too_large, model_detail, assign_detail, closed_detail, edits_detail};
 
+use crate::Note;
 use ra_assign::{AssignFault, ClosedFault};
 use ra_edit_read::EditsFault;
 use ra_model_read::{Field, ModelFault};
-use ra_report_text::Note;
 
 const TOO_LONG: Note<'static> = Note::Words("file too long");
 
 /// What is wrong with a model file.
-#[tactic(auto, unfolding(ra_report_text::specs::Notes::note_text, crate::specs::FaultTexts::model_detail))]
+#[tactic(auto, unfolding(crate::specs::Notes::note_text, crate::specs::FaultTexts::model_detail))]
 pub(crate) fn model_note(fault: ModelFault) -> Note<'static>
     ensures { note_text result ≡ model_detail fault }
 {
@@ -34,7 +34,7 @@ pub(crate) fn model_note(fault: ModelFault) -> Note<'static>
 }
 
 /// What is wrong with an assignment file.
-#[tactic(auto, unfolding(ra_report_text::specs::Notes::note_text, crate::specs::FaultTexts::assign_detail))]
+#[tactic(auto, unfolding(crate::specs::Notes::note_text, crate::specs::FaultTexts::assign_detail))]
 pub(crate) fn assign_note(fault: AssignFault) -> Note<'static>
     ensures { note_text result ≡ assign_detail fault }
 {
@@ -56,7 +56,7 @@ pub(crate) fn assign_note(fault: AssignFault) -> Note<'static>
 }
 
 /// What is wrong with a closed list.
-#[tactic(auto, unfolding(ra_report_text::specs::Notes::note_text, crate::specs::FaultTexts::closed_detail))]
+#[tactic(auto, unfolding(crate::specs::Notes::note_text, crate::specs::FaultTexts::closed_detail))]
 pub(crate) fn closed_note(fault: ClosedFault) -> Note<'static>
     ensures { note_text result ≡ closed_detail fault }
 {
@@ -73,7 +73,7 @@ pub(crate) fn closed_note(fault: ClosedFault) -> Note<'static>
 }
 
 /// What is wrong with a file of edits.
-#[tactic(auto, unfolding(ra_report_text::specs::Notes::note_text, crate::specs::FaultTexts::edits_detail))]
+#[tactic(auto, unfolding(crate::specs::Notes::note_text, crate::specs::FaultTexts::edits_detail))]
 pub(crate) fn edits_note(fault: EditsFault) -> Note<'static>
     ensures { note_text result ≡ edits_detail fault }
 {
@@ -95,7 +95,7 @@ pub(crate) fn edits_note(fault: EditsFault) -> Note<'static>
 }
 
 /// A byte that is neither a digit nor a blank.
-#[tactic(auto, unfolding(ra_report_text::specs::Notes::note_text))]
+#[tactic(auto, unfolding(crate::specs::Notes::note_text))]
 fn bad_byte_note(at: u64, byte: u8) -> Note<'static>
     ensures { note_text result ≡ bad_byte at byte }
 {
@@ -103,7 +103,7 @@ fn bad_byte_note(at: u64, byte: u8) -> Note<'static>
 }
 
 /// A number that is too large.
-#[tactic(auto, unfolding(ra_report_text::specs::Notes::note_text))]
+#[tactic(auto, unfolding(crate::specs::Notes::note_text))]
 fn too_large_note(at: u64) -> Note<'static>
     ensures { note_text result ≡ too_large at }
 {

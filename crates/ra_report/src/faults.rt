@@ -1,15 +1,15 @@
 ghost use Rattle.std.specs.Prelude.{◌≡◌};
-ghost use Rattle.ra_report_text.specs.Gathering.{AddsText};
-ghost use Rattle.ra_report_text.specs.Notes.{note_text};
+ghost use Rattle.ra_report.specs.Gathering.{AddsText};
+ghost use Rattle.ra_report.specs.Notes.{note_text};
 ghost use Rattle.ra_report.specs.FaultTexts.{CanBeTold, fault_text, line_of, about, line_said};
 
 use crate::details::{assign_note, closed_note, edits_note, model_note};
+use crate::{Gathered, Note, Piece, add_note, add_pieces};
 use ra_assign::{AssignFault, ClosedFault};
 use ra_base::{Cause, Name};
 use ra_edit_read::EditsFault;
 use ra_io::Sink;
 use ra_model_read::ModelFault;
-use ra_report_text::{Gathered, Note, Piece, add_note, add_pieces};
 
 /// Why a job was not done. The names are borrowed from the job. A reader's `ReadFault` is told as `Read` and its
 /// `NoMemory` as `Memory`: in `Model`, `Closed`, `Assign` and `Edits` they have no line.
@@ -70,7 +70,7 @@ pub(crate) fn add_fault<O: Sink>(text: &mut Gathered<'_, O>, fault: &Fault<'_>)
 }
 
 /// The line of a fault.
-#[tactic(auto, unfolding(crate::specs::FaultTexts::fault_text, ra_report_text::specs::Notes::note_text))]
+#[tactic(auto, unfolding(crate::specs::FaultTexts::fault_text, crate::specs::Notes::note_text))]
 fn fault_line<'n>(fault: &Fault<'n>) -> FaultLine<'n>
     ensures { line_said result ≡ fault_text fault.now }
 {

@@ -1,8 +1,8 @@
 ghost use Rattle.std.specs.Prelude.{◌≡◌, ℕ, ◌+◌, ◌*◌, ◌^◌, ◌<◌, ◌≤◌, List, ◌∷◌, ◌++◌, length, drop, Some, None, IfSome, nat_lt, if◌then◌else◌};
 ghost use Rattle.ra_journal.specs.declared.entries.Entry.{Entry};
 ghost use Rattle.ra_report.specs.declared.lengths.TheConstants.{LONGEST_FRONT};
-ghost use Rattle.ra_report_text.specs.Texts.{number_text};
-ghost use Rattle.ra_report_text.specs.Numbers.{told, past};
+ghost use Rattle.ra_report.specs.Texts.{number_text};
+ghost use Rattle.ra_report.specs.Numbers.{told, past};
 ghost use Rattle.ra_report.specs.JournalTexts.{entry_line};
 ghost use Rattle.ra_report.specs.Fronts.{IsSmallEntry, IsSmallFront, FindsRest, front_of, four_numbers};
 

@@ -1,13 +1,13 @@
 ghost use Rattle.std.specs.Prelude.{◌≡◌, ◌++◌, length};
-ghost use Rattle.ra_report_text.specs.Gathering.{AddsText};
-ghost use Rattle.ra_report_text.specs.Lines.{HasRoomForBytes, Prepends};
-ghost use Rattle.ra_report_text.specs.Texts.{space};
+ghost use Rattle.ra_report.specs.Gathering.{AddsText};
+ghost use Rattle.ra_report.specs.Lines.{HasRoomForBytes, Prepends};
+ghost use Rattle.ra_report.specs.Texts.{space};
 ghost use Rattle.ra_report.specs.JournalTexts.{verdict_text, kind_text, step_word, steps_text, entry_front, entry_line, entries_text};
 
+use crate::{Gathered, Line, prepend_cause};
 use ra_io::Sink;
 use ra_journal::{Entries, Entry};
 use ra_moves::{Move, MoveKind, Step, Verdict};
-use ra_report_text::{Gathered, Line, prepend_cause};
 
 /// Adds a line for each entry, in order.
 pub(crate) fn add_entries<O: Sink>(text: &mut Gathered<'_, O>, entries: &Entries)

@@ -1,13 +1,13 @@
 //! How long the line of an entry is at most. Each function does nothing, and its contract is a bound that holds for the
 //! values of its types.
 ghost use Rattle.std.specs.Prelude.{◌≤◌, ◌++◌, length};
-ghost use Rattle.ra_report_text.specs.Texts.{space, number_text, cause_text};
+ghost use Rattle.ra_report.specs.Texts.{space, number_text, cause_text};
 ghost use Rattle.ra_report.specs.JournalTexts.{step_text, steps_text, verdict_text, entry_line};
 
+use crate::{CauseWords, cause_words};
 use ra_base::Cause;
 use ra_journal::Entry;
 use ra_moves::{Move, Step, Verdict};
-use ra_report_text::{CauseWords, cause_words};
 
 /// The most bytes of the line of an entry, including its LF.
 pub const LONGEST_LINE: usize = 293;

@@ -1,18 +1,18 @@
 ghost use Rattle.std.specs.Prelude.{◌≡◌, ◌++◌, length};
 ghost use Rattle.ra_io.specs.Outside.{writing};
 ghost use Rattle.std.specs.Option.{option_copied};
-ghost use Rattle.ra_report_text.specs.Gathering.{AddsText};
-ghost use Rattle.ra_report_text.specs.Lines.{HasRoomForBytes, Prepends};
-ghost use Rattle.ra_report_text.specs.Writes.{Writes};
-ghost use Rattle.ra_report_text.specs.Notes.{note_text};
-ghost use Rattle.ra_report_text.specs.Texts.{space};
+ghost use Rattle.ra_report.specs.Gathering.{AddsText};
+ghost use Rattle.ra_report.specs.Lines.{HasRoomForBytes, Prepends};
+ghost use Rattle.ra_report.specs.Writes.{Writes};
+ghost use Rattle.ra_report.specs.Notes.{note_text};
+ghost use Rattle.ra_report.specs.Texts.{space};
 ghost use Rattle.ra_report.specs.RepairTexts.{broken_after, state_text, state_line, taken_text, try_front, try_back, try_line, tries_text, text_of_repair};
 
 use crate::journal::{prepend_kind, prepend_steps};
+use crate::{Gathered, Line, Note, WriteFault, add_assignment, add_note};
 use ra_base::Cause;
 use ra_io::Sink;
 use ra_repair::{Repair, Try};
-use ra_report_text::{Gathered, Line, Note, WriteFault, add_assignment, add_note};
 
 /// Writes the output of a repair: the line `feasible`, or `broken` and the cause, the line of its assignment, and a line
 /// for each try. `broken` is the first broken constraint of its assignment.
@@ -41,7 +41,7 @@ fn add_state<O: Sink>(text: &mut Gathered<'_, O>, broken: Option<&Cause>)
 }
 
 /// Whether an assignment is feasible, or what is broken first.
-#[tactic(auto, unfolding(ra_report_text::specs::Notes::note_text, crate::specs::RepairTexts::state_text))]
+#[tactic(auto, unfolding(crate::specs::Notes::note_text, crate::specs::RepairTexts::state_text))]
 fn state_note(broken: Option<&Cause>) -> Note<'static>
     ensures { note_text result ≡ state_text (option_copied broken.entry) }
 {

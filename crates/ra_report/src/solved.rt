@@ -1,14 +1,14 @@
 ghost use Rattle.std.specs.Prelude.{◌≡◌};
-ghost use Rattle.ra_report_text.specs.Gathering.{AddsText};
-ghost use Rattle.ra_report_text.specs.Texts.{number_line};
+ghost use Rattle.ra_report.specs.Gathering.{AddsText};
+ghost use Rattle.ra_report.specs.Texts.{number_line};
 ghost use Rattle.ra_report.specs.JournalTexts.{outcome_text, drawing_number, drawing_line, head_text, report_lines, bound_text};
 
 use crate::journal::add_entries;
+use crate::{Gathered, Piece, add_assignment, add_parts, add_pieces};
 use ra_base::{Assignment, Drawing, Parts};
 use ra_bounds::Bound;
 use ra_io::Sink;
 use ra_journal::Entries;
-use ra_report_text::{Gathered, Piece, add_assignment, add_parts, add_pieces};
 
 /// Adds the report of a run: the parts of the best assignment, the total of the bound, the place of the best
 /// assignment, the assignment itself, the drawing, and a line for each entry of the journal.

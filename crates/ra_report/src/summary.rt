@@ -1,13 +1,13 @@
 ghost use Rattle.std.specs.Prelude.{◌≡◌, ◌≤◌, cond, length};
-ghost use Rattle.ra_report_text.specs.Gathering.{AddsText};
+ghost use Rattle.ra_report.specs.Gathering.{AddsText};
 ghost use Rattle.ra_report.specs.Summaries.{is_done, done_count, summary_lines};
 
+use crate::Gathered;
 use crate::solved::{add_number, add_outcome};
 use ra_base::Parts;
 use ra_io::Sink;
 use ra_journal::Entries;
 use ra_moves::Verdict;
-use ra_report_text::Gathered;
 
 /// Adds the summary of a run: the parts, the total of the bound, a place, and how many entries are done and refused.
 pub(crate) fn add_summary<O: Sink>(

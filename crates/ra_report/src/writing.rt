@@ -2,20 +2,20 @@ ghost use Rattle.std.specs.Prelude.{◌≡◌};
 ghost use Rattle.ra_io.specs.Outside.{writing};
 ghost use Rattle.ra_report.specs.FaultTexts.{CanBeTold, fault_text};
 ghost use Rattle.ra_report.specs.JournalTexts.{best_state, parts_in, bound_in, text_of, head_of, entry_line, accepted_line, bound_text};
-ghost use Rattle.ra_report_text.specs.Writes.{Writes};
+ghost use Rattle.ra_report.specs.Writes.{Writes};
 ghost use Rattle.ra_report.specs.Summaries.{summary_of};
-ghost use Rattle.ra_report_text.specs.Texts.{parts_text, cause_text};
+ghost use Rattle.ra_report.specs.Texts.{parts_text, cause_text};
 
 use crate::desks::{Desks, add_entries_at};
 use crate::faults::{Fault, add_fault};
 use crate::journal::add_entry;
 use crate::solved::{add_bound, add_head, add_number, add_report};
 use crate::summary::add_summary;
+use crate::{Gathered, WriteFault, add_cause, add_parts};
 use ra_base::{Assignment, Cause, Parts};
 use ra_bounds::Bound;
 use ra_io::Sink;
 use ra_journal::{Entry, Journal};
-use ra_report_text::{Gathered, WriteFault, add_cause, add_parts};
 use std::marker::Sync;
 use std::thread::Threads;
 

@@ -12,7 +12,7 @@ use Rattle.ra_jobs.specs.Output.{Output, Put}
 use Rattle.ra_jobs.specs.Outputs.{checked}
 use Rattle.ra_jobs.proofs.DoesLemmas.{bound_memory, judged_memory}
 use Rattle.ra_jobs.proofs.RepairLemmas.{repair_memory}
-use Rattle.ra_edit_job.proofs.EditLemmas.{edit_memory}
+use Rattle.ra_jobs.proofs.EditLemmas.{edit_memory}
 use Rattle.ra_run.specs.Commands.{AreLots, command_of}
 use Rattle.ra_run.proofs.SolveLemmas.{solve_memory}
 use Rattle.ra_run.proofs.TrialLemmas.{trial_memory}

@@ -1,6 +1,5 @@
 -- What is printed of a run meets the headline.
-use Rattle.std.proofs.Common.{◌≡◌, ℕ, suc, List, length, Option, Some, IsSome, refl, sym, ap₂, ◌∙◌, arith, Result}
-use Rattle.std.proofs.Common.{IfSome}
+use Rattle.std.proofs.Common.{◌≡◌, ℕ, suc, List, length, Option, Some, IsSome, refl, sym, ap₂, ◌∙◌, arith, Result, IfSome}
 use Rattle.ra_base.specs.Searches.{least_place}
 use Rattle.ra_base.specs.declared.ids.Machine.{Machine}
 use Rattle.ra_base.proofs.Least.{least_means, least_there}
@@ -19,8 +18,8 @@ use Rattle.ra_model.specs.Feasible.{Feasible}
 use Rattle.ra_report.specs.JournalTexts.{report_text, best_state, text_of}
 use Rattle.ra_report.proofs.HeadLines.{report_tells_its_journal}
 use Rattle.ra_report.proofs.JournalTexts.{one_journal_of_bytes}
-use Rattle.ra_worker_crew.specs.declared.solved.Solved.{Solved as Run}
-use Rattle.ra_worker_crew.specs.Runs.{IsRun}
+use Rattle.ra_worker.specs.declared.solved.Solved.{Solved as Run}
+use Rattle.ra_worker.specs.Runs.{IsRun}
 use Rattle.ra_io.specs.Outside.{Reading, Took}
 use Rattle.ra_jobs.specs.declared.refusals.Refusal.{Refusal}
 use Rattle.ra_jobs.specs.declared.refusals.Refusal.TheVariants.{Broken, Write, Memory}

@@ -1,7 +1,5 @@
 -- What a trial reads is the instance of its number and its start; and how it ends.
-use Rattle.std.proofs.Common.{◌≡◌, ◌⊎◌, ℕ, zero, suc, ◌*◌, ◌<◌, sum_by, List, [], ◌∷◌, length, codes, Option, Some}
-use Rattle.std.proofs.Common.{None, IfSome, inr, ⊎_elim, refl, sym, ◌∙◌, subst, ap, arith, Result, Ok, Err, OnOk, IfErr}
-use Rattle.std.proofs.Common.{inl, true, false}
+use Rattle.std.proofs.Common.{◌≡◌, ◌⊎◌, ℕ, zero, suc, ◌*◌, ◌<◌, sum_by, List, [], ◌∷◌, length, codes, Option, Some, None, IfSome, inr, ⊎_elim, refl, sym, ◌∙◌, subst, ap, arith, Result, Ok, Err, OnOk, IfErr, inl, true, false}
 use Rattle.ra_base.specs.Listed.{Listed}
 use Rattle.ra_base.specs.declared.ids.Machine.{Machine}
 use Rattle.ra_model.specs.Assignments.{IsAssignment}
@@ -18,8 +16,8 @@ use Rattle.ra_model.proofs.BrokenLemmas.{unbroken_from_feasible}
 use Rattle.ra_model_read.specs.ModelText.{IsModel}
 use Rattle.ra_assign.specs.Lists.{IsAssignmentOf}
 use Rattle.ra_assign.proofs.AssignLemmas.{assign_accepts}
-use Rattle.ra_worker_crew.specs.declared.solved.Solved.{Solved as Run}
-use Rattle.ra_worker_crew.specs.Runs.{IsRun}
+use Rattle.ra_worker.specs.declared.solved.Solved.{Solved as Run}
+use Rattle.ra_worker.specs.Runs.{IsRun}
 use Rattle.ra_report.specs.Summaries.{summary_of}
 use Rattle.ra_trial.specs.Instances.{IsTrial, start_list}
 use Rattle.ra_trial.specs.Numbers.{trial_word}
@@ -40,13 +38,11 @@ use Rattle.ra_jobs.specs.Files.{Held, Names, InstanceIs, ListIs, solve_names}
 use Rattle.ra_jobs.specs.Ends.{Does, Leaves}
 use Rattle.ra_jobs.specs.Lines.{refusal_line}
 use Rattle.ra_jobs.specs.Output.{Output, BrokeOff, Put}
-use Rattle.ra_jobs.specs.Statuses.{status_of}
 use Rattle.ra_jobs.specs.Stages.{IsAcceptedStart}
 use Rattle.ra_jobs.proofs.CompleteLemmas.{never_rose, own_left}
 use Rattle.ra_run.specs.declared.trial.TrialFault.{TrialFault}
 use Rattle.ra_run.specs.declared.trial.TrialFault.TheVariants as fault
-use Rattle.ra_run.specs.Trials.{HoldsTrial, IsTrialStart, IsTrialLots, IsSummarized, TrialPrinted, TrialReason}
-use Rattle.ra_run.specs.Trials.{no_names, trial_command}
+use Rattle.ra_run.specs.Trials.{HoldsTrial, IsTrialStart, IsTrialLots, IsSummarized, TrialPrinted, TrialReason, no_names, trial_command}
 
 -- what is told is so of what is told
 told : (told : Option (List ℕ)) (bytes : List ℕ) (P : List ℕ → Type 0) → told ≡ Some bytes → IfSome told P → P bytes

@@ -14,7 +14,7 @@ use Rattle.ra_jobs.specs.Commands.{Command}
 use Rattle.ra_jobs.specs.Output.{Output, Put}
 use Rattle.ra_jobs.specs.Outputs.{check_command, bound_command}
 use Rattle.ra_jobs.specs.Repairing.{repair_command}
-use Rattle.ra_edit_job.specs.Editing.{edit_command}
+use Rattle.ra_jobs.specs.Editing.{edit_command}
 use Rattle.ra_run.specs.Headline.{solve_command}
 use Rattle.ra_run.specs.Trials.{trial_command}
 use Rattle.ra_run.specs.Verifying.{verify_command}

@@ -10,10 +10,10 @@ ghost use Rattle.ra_run.specs.Commands.{UsageComes, command_of};
 use crate::solve::solve_job;
 use crate::trial::trial_run;
 use crate::verify::verify_job;
-use ra_edit_job::edit_job;
 use ra_io::{Files, Gate, Sink};
 use ra_jobs::{
-    JobFiles, Outside, Status, bound_job, check_job, refuse_memory, refuse_words, repair_job,
+    JobFiles, Outside, Status, bound_job, check_job, edit_job, refuse_memory, refuse_words,
+    repair_job,
 };
 use ra_words::{Job, WordsFault, read_words};
 use std::alloc::Global;

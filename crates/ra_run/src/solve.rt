@@ -23,7 +23,7 @@ use ra_jobs::{
 };
 use ra_report::{Desks, WriteFault, write_report_at};
 use ra_topology::Topology;
-use ra_worker_crew::{Prepared, Solved as Run};
+use ra_worker::{Prepared, Solved as Run};
 use std::alloc::Global;
 use std::marker::Sync;
 use std::sync::Wait;

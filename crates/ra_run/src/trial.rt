@@ -23,7 +23,7 @@ use ra_jobs::{JobFiles, Refusal, Start, Status, bound_from, put_line, read_start
 use ra_report::{Fault, WriteFault, write_summary};
 use ra_topology::Topology;
 use ra_trial::{TrialText, trial_text};
-use ra_worker_crew::{Prepared, Solved as Run};
+use ra_worker::{Prepared, Solved as Run};
 use std::alloc::Global;
 use std::marker::Sync;
 use std::sync::Wait;

@@ -1,6 +1,5 @@
 -- What a mask of a block says of its bits and bytes.
-use Rattle.std.proofs.Common.{◌≡◌, ℕ, ◌+◌, ◌-◌, ◌/◌, ◌^◌, ◌<◌, ◌≤◌, true, false, List, cond, min, get_or, bit_and}
-use Rattle.std.proofs.Common.{sym, ap, ◌∙◌, inl, inr, add-one, arith, w64}
+use Rattle.std.proofs.Common.{◌≡◌, ℕ, ◌+◌, ◌-◌, ◌/◌, ◌^◌, ◌<◌, ◌≤◌, true, false, List, cond, min, get_or, bit_and, sym, ap, ◌∙◌, inl, inr, add-one, arith, w64}
 use Rattle.std.specs.Int.{bit_at}
 use Rattle.std.proofs.lemmas.Bool.{cases_Bool}
 use Rattle.std.proofs.lemmas.Nat.{and_mask}

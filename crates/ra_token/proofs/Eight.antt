@@ -1,6 +1,5 @@
 -- Eight digits at a time, by three multiplications.
-use Rattle.std.proofs.Common.{◌≡◌, ℕ, zero, suc, ◌+◌, ◌*◌, ◌-◌, ◌/◌, ◌%◌, ◌^◌, ◌<◌, ◌≤◌, true, List, length, get_or}
-use Rattle.std.proofs.Common.{refl, sym, ap, ◌∙◌, subst, add-one, pow-suc, zero-add, suc-add, mul_assoc, arith, bit_and}
+use Rattle.std.proofs.Common.{◌≡◌, ℕ, zero, suc, ◌+◌, ◌*◌, ◌-◌, ◌/◌, ◌%◌, ◌^◌, ◌<◌, ◌≤◌, true, List, length, get_or, refl, sym, ap, ◌∙◌, subst, add-one, pow-suc, zero-add, suc-add, mul_assoc, arith, bit_and}
 use Rattle.std.specs.Char.{is_ascii_digit}
 use Rattle.std.proofs.lemmas.Nat.{and_block, and_mask, mod_low, shr_high}
 use Rattle.ra_token.specs.Runs.{digit_at}

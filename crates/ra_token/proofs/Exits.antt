@@ -1,6 +1,5 @@
 -- Errors that are passed on, and what is told of a file that was read twice.
-use Rattle.std.proofs.Common.{◌≡◌, ℕ, ◌-◌, ◌^◌, ◌<◌, ◌≤◌, ⊎_elim, List, Option, Some, None, Result, Err, IfSome}
-use Rattle.std.proofs.Common.{slice_get, sym, refl, ◌∙◌, subst, inl, inr, arith}
+use Rattle.std.proofs.Common.{◌≡◌, ℕ, ◌-◌, ◌^◌, ◌<◌, ◌≤◌, ⊎_elim, List, Option, Some, None, Result, Err, IfSome, slice_get, sym, refl, ◌∙◌, subst, inl, inr, arith}
 use Rattle.std.specs.Prelude.{⊤}
 use Rattle.ra_io.specs.Faults.{Rose}
 use Rattle.ra_token.specs.declared.answers.TheConstants.{LARGEST}

@@ -1,6 +1,5 @@
 -- What a fetch tells of the bytes of a file.
-use Rattle.std.proofs.Common.{◌≡◌, ◌↔◌, ℕ, ◌-◌, ◌<◌, ◌≤◌, ◌⊎◌, List, length, take, drop, get_or, slice_get, Option}
-use Rattle.std.proofs.Common.{Some, None, IfSome, sym, ap, refl, ◌∙◌, subst, ⊎_elim, arith, length-take, take-take}
+use Rattle.std.proofs.Common.{◌≡◌, ◌↔◌, ℕ, ◌-◌, ◌<◌, ◌≤◌, ◌⊎◌, List, length, take, drop, get_or, slice_get, Option, Some, None, IfSome, sym, ap, refl, ◌∙◌, subst, ⊎_elim, arith, length-take, take-take}
 use Rattle.std.proofs.lemmas.List.{get_or_read}
 use Rattle.std.proofs.lemmas.Option.{slice_get_past}
 use Rattle.ra_token.specs.Reads.{IsPiece}

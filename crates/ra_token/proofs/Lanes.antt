@@ -1,9 +1,7 @@
 -- What the operations on sixty-four numbers side by side hold at each lane.
-use Rattle.std.proofs.Common.{◌≡◌, ℕ, ◌+◌, ◌-◌, ◌%◌, ◌<◌, List, Bool, true, false, cond, ltb, length, get_or}
-use Rattle.std.proofs.Common.{map, refl, sym, ap, subst, ◌∙◌, arith, w8, Fits}
+use Rattle.std.proofs.Common.{◌≡◌, ℕ, ◌+◌, ◌-◌, ◌%◌, ◌<◌, List, Bool, true, false, cond, ltb, length, get_or, map, refl, sym, ap, subst, ◌∙◌, arith, w8, Fits}
 use Rattle.std.specs.Simd.Lanes.{zip2, sel_l, top, Each1}
-use Rattle.std.proofs.lemmas.Simd.{length-zip2, get_or-zip2, length-sel_l, get_or-sel_l, tops_compared}
-use Rattle.std.proofs.lemmas.Simd.{Each1-get_or}
+use Rattle.std.proofs.lemmas.Simd.{length-zip2, get_or-zip2, length-sel_l, get_or-sel_l, tops_compared, Each1-get_or}
 use Rattle.std.proofs.lemmas.Bool.{ltb-true, ltb-false}
 use Rattle.ra_token.specs.Short.{HasSixtyFourLanes}
 

@@ -18,3 +18,8 @@ pub mod ToldLemmas
 pub mod Lanes
 pub mod BlockBits
 pub mod TidyBlocks
+pub mod BodyLaws
+pub mod SplitLaws
+pub mod UnlikeLaws
+pub mod ExpectedLaws
+pub mod ReadingLaws

@@ -1,13 +1,11 @@
 -- The mask of the bytes that are no digits.
-use Rattle.std.proofs.Common.{◌≡◌, ℕ, ◌+◌, ◌-◌, ◌%◌, ◌^◌, ◌<◌, ◌≤◌, true, false, Bool, List, cond, eqb, leb, ltb, length}
-use Rattle.std.proofs.Common.{get_or, map, replicate, bit_or, refl, sym, ap, ap₂, ◌∙◌, inl, inr, arith, w8}
+use Rattle.std.proofs.Common.{◌≡◌, ℕ, ◌+◌, ◌-◌, ◌%◌, ◌^◌, ◌<◌, ◌≤◌, true, false, Bool, List, cond, eqb, leb, ltb, length, get_or, map, replicate, bit_or, refl, sym, ap, ap₂, ◌∙◌, inl, inr, arith, w8}
 use Rattle.std.specs.Int.{bit_at}
 use Rattle.std.specs.Char.{is_ascii_digit}
 use Rattle.std.specs.Simd.Lanes.{chunk, zip2, mask_l, top}
 use Rattle.std.proofs.lemmas.Bool.{cases_Bool, eqb-true}
 use Rattle.std.proofs.lemmas.List.{length-map, get_or-map}
-use Rattle.std.proofs.lemmas.Simd.{length-chunk, get_or-chunk, get_or-zip2, get_or-replicate, length-zip2, bit_mask_l}
-use Rattle.std.proofs.lemmas.Simd.{tops_compared, mask_l-mod}
+use Rattle.std.proofs.lemmas.Simd.{length-chunk, get_or-chunk, get_or-zip2, get_or-replicate, length-zip2, bit_mask_l, tops_compared, mask_l-mod}
 use Rattle.ra_token.specs.Runs.{is_blank}
 
 -- a byte whose distance from the digit 0 is above 9

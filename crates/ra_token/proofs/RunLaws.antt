@@ -1,8 +1,6 @@
 -- Runs of digits, one byte on.
-use Rattle.std.proofs.Common.{◌≡◌, ℕ, zero, suc, ◌+◌, ◌*◌, ◌-◌, ◌<◌, ◌≤◌, true, false, not, ◌&&◌, List, length, get_or}
-use Rattle.std.proofs.Common.{refl, ap, ⊎_elim, arith}
-use Rattle.std.proofs.lemmas.Bool.{cond-true, cond-false, cases_lt, cases_Bool, both_ways, or_cases, eqb-true, and_from}
-use Rattle.std.proofs.lemmas.Bool.{and_left, and_right, not_from_false, not_from_true}
+use Rattle.std.proofs.Common.{◌≡◌, ℕ, zero, suc, ◌+◌, ◌*◌, ◌-◌, ◌<◌, ◌≤◌, true, false, not, ◌&&◌, List, length, get_or, refl, ap, ⊎_elim, arith}
+use Rattle.std.proofs.lemmas.Bool.{cond-true, cond-false, cases_lt, cases_Bool, both_ways, or_cases, eqb-true, and_from, and_left, and_right, not_from_false, not_from_true}
 use Rattle.std.proofs.lemmas.List.{get_or_past}
 use Rattle.std.specs.Char.{is_ascii_digit}
 use Rattle.ra_token.specs.Runs.{digit_at, is_blank, worth, run_start, ends_at, cuts_run}

@@ -1,6 +1,5 @@
 -- From one byte to the next.
-use Rattle.std.proofs.Common.{◌≡◌, ℕ, zero, suc, ◌+◌, ◌*◌, ◌-◌, ◌<◌, ◌≤◌, true, false, List, [], length, take, drop}
-use Rattle.std.proofs.Common.{get_or, slice_get, Option, Some, None, Ok, sym, refl, ap, ◌∙◌, subst, inr, add-one, arith}
+use Rattle.std.proofs.Common.{◌≡◌, ℕ, zero, suc, ◌+◌, ◌*◌, ◌-◌, ◌<◌, ◌≤◌, true, false, List, [], length, take, drop, get_or, slice_get, Option, Some, None, Ok, sym, refl, ap, ◌∙◌, subst, inr, add-one, arith}
 use Rattle.ra_base.specs.Searches.{first}
 use Rattle.ra_base.proofs.Searches.{first_none, first_more_none}
 use Rattle.ra_token.specs.declared.answers.TheConstants.{LARGEST, PLACE_LIMIT}
@@ -12,11 +11,8 @@ use Rattle.ra_token.specs.TokenList.{tokens, tokens_before, IsAnswer}
 use Rattle.ra_token.specs.Standing.{Standing}
 use Rattle.ra_token.specs.Reads.{IsBetween, Reads}
 use Rattle.ra_token.specs.Scan.{IsReached, InRun, IsTaken, IsNext, FaultsAt}
-use Rattle.ra_token.proofs.RunLaws.{worth_digit, start_digit, digit_within, blank_is_no_digit, cuts_before, cuts_after}
-use Rattle.ra_token.proofs.RunLaws.{other_before, ends_here, goes_on_here, no_end_here, worth_begins, start_begins}
-use Rattle.ra_token.proofs.RunLaws.{digit_before}
-use Rattle.ra_token.proofs.FaultLaws.{fault_limit, fault_small, fault_large, fault_blank, first_fault_at}
-use Rattle.ra_token.proofs.FaultLaws.{no_first_fault, fault_place_at, no_fault_place, fault_place_low}
+use Rattle.ra_token.proofs.RunLaws.{worth_digit, start_digit, digit_within, blank_is_no_digit, cuts_before, cuts_after, other_before, ends_here, goes_on_here, no_end_here, worth_begins, start_begins, digit_before}
+use Rattle.ra_token.proofs.FaultLaws.{fault_limit, fault_small, fault_large, fault_blank, first_fault_at, no_first_fault, fault_place_at, no_fault_place, fault_place_low}
 use Rattle.ra_token.proofs.TokenLaws.{before_yes, before_no, before_all, token_number, token_is}
 
 -- the start of the bytes

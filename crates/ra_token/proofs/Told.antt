@@ -1,6 +1,5 @@
 -- What the bytes that are ready show, if the bytes of the file are told.
-use Rattle.std.proofs.Common.{◌≡◌, ℕ, ◌+◌, ◌-◌, ◌<◌, ◌≤◌, true, false, List, length, take, get_or, slice_get, Option}
-use Rattle.std.proofs.Common.{Some, None, IfSome, sym, ap, ◌∙◌, subst, arith, length-take, get_or-take}
+use Rattle.std.proofs.Common.{◌≡◌, ℕ, ◌+◌, ◌-◌, ◌<◌, ◌≤◌, true, false, List, length, take, get_or, slice_get, Option, Some, None, IfSome, sym, ap, ◌∙◌, subst, arith, length-take, get_or-take}
 use Rattle.std.specs.Char.{is_ascii_digit}
 use Rattle.std.proofs.lemmas.List.{get_or_read}
 use Rattle.std.proofs.lemmas.Option.{slice_get-get_or}

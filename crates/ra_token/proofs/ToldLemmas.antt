@@ -1,6 +1,5 @@
 -- What is known from one moment to the next of a file whose bytes may be told.
-use Rattle.std.proofs.Common.{◌≡◌, ℕ, ◌-◌, ◌^◌, ◌<◌, ◌≤◌, inl, inr, ⊎_elim, refl, ap, ◌∙◌, sym, subst, List, Option}
-use Rattle.std.proofs.Common.{Some, None, Result, Ok, Err, IfSome, IfErr, IsErr, IsErrAnd, arith}
+use Rattle.std.proofs.Common.{◌≡◌, ℕ, ◌-◌, ◌^◌, ◌<◌, ◌≤◌, inl, inr, ⊎_elim, refl, ap, ◌∙◌, sym, subst, List, Option, Some, None, Result, Ok, Err, IfSome, IfErr, IsErr, IsErrAnd, arith}
 use Rattle.ra_io.specs.Faults.{Rose}
 use Rattle.ra_token.specs.Reads.{StandsIn}
 use Rattle.ra_token.specs.declared.answers.TokenFault.{TokenFault}

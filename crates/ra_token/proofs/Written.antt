@@ -1,7 +1,5 @@
 -- Numbers that were written in decimals, with blanks between, are told as tokens: one blank and one number on.
-use Rattle.std.proofs.Common.{◌≡◌, ℕ, zero, suc, ◌+◌, ◌*◌, ◌-◌, ◌^◌, ◌<◌, ◌≤◌, true, false, List, [], ◌∷◌, ◌++◌, length}
-use Rattle.std.proofs.Common.{map, take, drop, get_or, None, refl, sym, ap, ◌∙◌, subst, arith, add-zero, add-one}
-use Rattle.std.proofs.Common.{length-append, length-drop}
+use Rattle.std.proofs.Common.{◌≡◌, ℕ, zero, suc, ◌+◌, ◌*◌, ◌-◌, ◌^◌, ◌<◌, ◌≤◌, true, false, List, [], ◌∷◌, ◌++◌, length, map, take, drop, get_or, None, refl, sym, ap, ◌∙◌, subst, arith, add-zero, add-one, length-append, length-drop}
 use Rattle.std.proofs.lemmas.Fmt.{decimal_is_IsNumeral}
 use Rattle.std.proofs.lemmas.Int.Digits.{digits_value_more}
 use Rattle.std.proofs.lemmas.List.{get_or_append_left, get_or-drop, drop-drop, take_all}
@@ -19,8 +17,7 @@ use Rattle.ra_token.specs.Runs.{is_blank}
 use Rattle.ra_token.specs.Scan.{IsReached, InRun}
 use Rattle.ra_token.specs.TokenList.{tokens}
 use Rattle.ra_token.specs.Values.{value_of, values_from, AddsValues}
-use Rattle.ra_token.proofs.Steps.{between_start, reached_here, reached_blank, ended_here, run_begins, run_more}
-use Rattle.ra_token.proofs.Steps.{run_ends, next_of}
+use Rattle.ra_token.proofs.Steps.{between_start, reached_here, reached_blank, ended_here, run_begins, run_more, run_ends, next_of}
 use Rattle.ra_token.proofs.TokenLaws.{before_none}
 use Rattle.ra_token.proofs.ValueLaws.{adds_none, adds_more}
 

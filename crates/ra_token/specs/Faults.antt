@@ -1,6 +1,5 @@
 -- The first fault of a list of bytes.
-use Rattle.std.specs.Prelude.{ℕ, suc, ◌==◌, nat_lt, if◌then◌else◌, List, length, slice_index, Option, Some, None}
-use Rattle.std.specs.Prelude.{is_some, unwrap_or}
+use Rattle.std.specs.Prelude.{ℕ, suc, ◌==◌, nat_lt, if◌then◌else◌, List, length, slice_index, Option, Some, None, is_some, unwrap_or}
 use Rattle.ra_base.specs.Searches.{first}
 use Rattle.ra_token.specs.declared.answers.TokenFault.{TokenFault}
 use Rattle.ra_token.specs.declared.answers.TokenFault.TheVariants.{BadByte, TooLarge, TooLong}

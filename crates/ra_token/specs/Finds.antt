@@ -1,6 +1,5 @@
 -- What a buffer finds in a file from a place on, and what it leaves.
-use Rattle.std.specs.Prelude.{◌≡◌, ℕ, ◌<◌, ◌≤◌, List, Option, None, Result, Ok, Err, IfSome, IfNone, IfOk, IfErr, OnErr}
-use Rattle.std.specs.Prelude.{OnSome, length, ◌+◌, ◌-◌, slice_get}
+use Rattle.std.specs.Prelude.{◌≡◌, ℕ, ◌<◌, ◌≤◌, List, Option, None, Result, Ok, Err, IfSome, IfNone, IfOk, IfErr, OnErr, OnSome, length, ◌+◌, ◌-◌, slice_get}
 use Rattle.ra_io.specs.Faults.{Rose}
 use Rattle.ra_base.specs.Listed.{Listed}
 use Rattle.ra_token.specs.declared.answers.Token.{Token}

@@ -8,3 +8,9 @@ pub mod Scan
 pub mod Short
 pub mod Moments
 pub mod Finds
+pub mod Lines
+pub mod LineStanding
+pub mod Reading
+pub mod Buffers
+pub mod Comparing
+pub mod Expecteds

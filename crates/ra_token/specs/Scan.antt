@@ -1,6 +1,5 @@
 -- What is known on the way to the next token.
-use Rattle.std.specs.Prelude.{◌≡◌, ℕ, zero, suc, ◌*◌, ◌+◌, ◌-◌, ◌<◌, ◌≤◌, true, List, length, take, slice_get}
-use Rattle.std.specs.Prelude.{slice_index, Option, Some, None, IfSome, Err}
+use Rattle.std.specs.Prelude.{◌≡◌, ℕ, zero, suc, ◌*◌, ◌+◌, ◌-◌, ◌<◌, ◌≤◌, true, List, length, take, slice_get, slice_index, Option, Some, None, IfSome, Err}
 use Rattle.ra_base.specs.Listed.{Listed}
 use Rattle.ra_base.specs.Searches.{first}
 use Rattle.ra_token.specs.declared.answers.Token.{Token}

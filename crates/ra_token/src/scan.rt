@@ -3,8 +3,7 @@ ghost use Rattle.std.specs.Int.{bit_at};
 ghost use Rattle.ra_token.specs.Runs.{digit_at, is_blank};
 ghost use Rattle.ra_token.specs.declared.scan.TheConstants.{NEAR};
 ghost use Rattle.ra_token.specs.Reads.{IsBetween, IsPiece};
-ghost use Rattle.ra_token.specs.Scan.{InRun, IsNext, FaultsAt, RunsOn};
-ghost use Rattle.ra_token.specs.Scan.{digits_worth, TakesRuns};
+ghost use Rattle.ra_token.specs.Scan.{InRun, IsNext, FaultsAt, RunsOn, digits_worth, TakesRuns};
 
 use crate::answers::{LARGEST, PLACE_LIMIT, TokenFault};
 use ra_base::Fixed;

@@ -1,12 +1,11 @@
 -- Bytes have one wrong line, or none.
-use Rattle.std.proofs.Common.{◌≡◌, ◌≢◌, ℕ, ◌+◌, ◌<◌, ◌≤◌, ◌⊎◌, inl, inr, List, [], ◌∷◌, ◌++◌, length, Option, Some}
-use Rattle.std.proofs.Common.{None, unwrap_or, refl, sym, ap, ◌∙◌, subst, arith}
+use Rattle.std.proofs.Common.{◌≡◌, ◌≢◌, ℕ, ◌+◌, ◌<◌, ◌≤◌, ◌⊎◌, inl, inr, List, [], ◌∷◌, ◌++◌, length, Option, Some, None, unwrap_or, refl, sym, ap, ◌∙◌, subst, arith}
 use Rattle.std.proofs.lemmas.List.{ext_get_or}
 use Rattle.std.proofs.lemmas.Option.{slice_get_past}
 use Rattle.ra_base.specs.declared.ids.Machine.{Machine}
 use Rattle.ra_draws.specs.declared.budgets.Lots.{Lots}
 use Rattle.ra_model.specs.declared.raw.Tables.{Tables}
-use Rattle.ra_report_lines.specs.Lines.{lines_of, line_at, FirstUnlike}
+use Rattle.ra_token.specs.Lines.{lines_of, line_at, FirstUnlike}
 use Rattle.ra_journal.specs.declared.entries.Entry.{Entry}
 use Rattle.ra_journal.specs.Entries.{entry_at}
 use Rattle.ra_journal.specs.Legal.{Legal, Whole}
@@ -14,8 +13,7 @@ use Rattle.ra_journal.proofs.NextLemmas.{carried, next_legal}
 use Rattle.ra_journal.proofs.Places.{SameBelow}
 use Rattle.ra_report.specs.JournalTexts.{entry_line, report_text}
 use Rattle.ra_report.proofs.EntryTexts.{entry_then}
-use Rattle.ra_verify.specs.WrongLines.{first_over_long, AreRight, AreAllRight, IsWrongEntry, IsCutOff, IsWrongHead}
-use Rattle.ra_verify.specs.WrongLines.{NoneIsWrong, IsWrongLine}
+use Rattle.ra_verify.specs.WrongLines.{first_over_long, AreRight, AreAllRight, IsWrongEntry, IsCutOff, IsWrongHead, NoneIsWrong, IsWrongLine}
 use Rattle.ra_verify.specs.Laws.{OneWrongLine}
 use Rattle.ra_verify.proofs.PlaceLemmas.{is_some}
 

@@ -1,13 +1,12 @@
 -- What was read of a report, and what is answered.
-use Rattle.std.proofs.Common.{◌≡◌, ℕ, ◌+◌, ◌-◌, ◌^◌, ◌<◌, ◌≤◌, ◌⊎◌, inl, inr, ⊎_elim, arith, List, length, Option, Some}
-use Rattle.std.proofs.Common.{None, Result, Ok, Err, IfSome, IfOk, IfErr, OnOk, sym, ap, ◌∙◌, subst}
+use Rattle.std.proofs.Common.{◌≡◌, ℕ, ◌+◌, ◌-◌, ◌^◌, ◌<◌, ◌≤◌, ◌⊎◌, inl, inr, ⊎_elim, arith, List, length, Option, Some, None, Result, Ok, Err, IfSome, IfOk, IfErr, OnOk, sym, ap, ◌∙◌, subst}
 use Rattle.ra_base.specs.Listed.{Listed}
 use Rattle.ra_io.specs.Faults.{Rose}
 use Rattle.ra_base.specs.declared.ids.Machine.{Machine}
 use Rattle.ra_draws.specs.declared.budgets.Lots.{Lots}
 use Rattle.ra_model.specs.declared.numbers.Instance.{Instance}
 use Rattle.ra_model.specs.declared.raw.Tables.{Tables}
-use Rattle.ra_report_lines.specs.Lines.{lines_of}
+use Rattle.ra_token.specs.Lines.{lines_of}
 use Rattle.ra_journal.specs.declared.entries.Entry.{Entry}
 use Rattle.ra_journal.specs.declared.journal.Journal.{Journal}
 use Rattle.ra_verify.specs.declared.checker.Checker.{Checker}

@@ -1,6 +1,5 @@
 -- A checker that takes entries in.
-use Rattle.std.proofs.Common.{◌≡◌, ℕ, ◌+◌, ◌-◌, ◌<◌, ◌≤◌, true, List, [], ◌∷◌, ◌++◌, length, set, get_or, refl, sym, ap}
-use Rattle.std.proofs.Common.{ap₂, ◌∙◌, subst, arith}
+use Rattle.std.proofs.Common.{◌≡◌, ℕ, ◌+◌, ◌-◌, ◌<◌, ◌≤◌, true, List, [], ◌∷◌, ◌++◌, length, set, get_or, refl, sym, ap, ap₂, ◌∙◌, subst, arith}
 use Rattle.std.proofs.lemmas.List.{length_push, length-map, get_or-map, get_or_default}
 use Rattle.ra_base.specs.Listed.{Listed}
 use Rattle.ra_base.specs.declared.ids.Machine.{Machine}
@@ -16,13 +15,11 @@ use Rattle.ra_journal.proofs.Places.{entry_added}
 use Rattle.ra_report.specs.JournalTexts.{entry_line}
 use Rattle.ra_worker.specs.declared.replica.Replica.{Replica}
 use Rattle.ra_worker.proofs.TurnLemmas.{same_legal}
-use Rattle.ra_worker_core.specs.declared.events.CoreReply.{CoreReply}
-use Rattle.ra_worker_core.specs.Core.{core_place_of, turn}
-use Rattle.ra_worker_core.specs.Replicas.{AreAt, core_of}
+use Rattle.ra_worker.specs.declared.events.CoreReply.{CoreReply}
+use Rattle.ra_worker.specs.Core.{core_place_of, turn}
+use Rattle.ra_worker.specs.AllReplicas.{AreAt, core_of}
 use Rattle.ra_verify.specs.declared.checker.Checker.{Checker}
-use Rattle.ra_verify.specs.Checking.{NoneIsPast, checker_entries, checker_core, IsOpen, MayFollow, HasTakenEntry}
-use Rattle.ra_verify.specs.Checking.{HasTakenSomeEntry}
-use Rattle.ra_verify.specs.Checking.{HasTakenLine, IsSameRun, MayStand, is_recorded}
+use Rattle.ra_verify.specs.Checking.{NoneIsPast, checker_entries, checker_core, IsOpen, MayFollow, HasTakenEntry, HasTakenSomeEntry, HasTakenLine, IsSameRun, MayStand, is_recorded}
 use Rattle.ra_verify.proofs.FollowLemmas.{last_legal, one_next_entry, is_taken, none_past, none_past_start}
 
 -- an entry that may follow may be at the next place

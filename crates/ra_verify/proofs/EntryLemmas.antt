@@ -1,18 +1,16 @@
 -- One entry line after another of a report.
-use Rattle.std.proofs.Common.{◌≡◌, ℕ, ◌+◌, ◌-◌, ◌<◌, ◌≤◌, ◌⊎◌, Bool, true, false, cond, eqb, unwrap_or, Result, Ok, Err}
-use Rattle.std.proofs.Common.{IsOk, List, [], ◌∷◌, ◌++◌, length, take, drop, Option, Some, None, IfSome, IfErr, refl}
-use Rattle.std.proofs.Common.{sym, ap, ◌∙◌, subst, ⊎_elim, arith, take-append-drop, length-take}
+use Rattle.std.proofs.Common.{◌≡◌, ℕ, ◌+◌, ◌-◌, ◌<◌, ◌≤◌, ◌⊎◌, Bool, true, false, cond, eqb, unwrap_or, Result, Ok, Err, IsOk, List, [], ◌∷◌, ◌++◌, length, take, drop, Option, Some, None, IfSome, IfErr, refl, sym, ap, ◌∙◌, subst, ⊎_elim, arith, take-append-drop, length-take}
 use Rattle.std.proofs.lemmas.Bool.{cases_lt}
 use Rattle.std.proofs.lemmas.List.{length_push, take-append-le}
 use Rattle.std.proofs.lemmas.Option.{slice_get_within}
 use Rattle.ra_base.specs.declared.ids.Machine.{Machine}
 use Rattle.ra_draws.specs.declared.budgets.Lots.{Lots}
 use Rattle.ra_model.specs.declared.raw.Tables.{Tables}
-use Rattle.ra_report_lines.specs.declared.answers.Next.{Next}
-use Rattle.ra_report_lines.specs.declared.answers.Next.TheVariants.{Line, Last, Long, End}
-use Rattle.ra_report_lines.specs.Lines.{lines_of, line_at, joined_lines, ends_line, body_of}
-use Rattle.ra_report_lines.specs.Reading.{BeginsOverLong, IsNextLine}
-use Rattle.ra_report_lines.proofs.SplitLaws.{joined_back}
+use Rattle.ra_token.specs.declared.line_answers.Next.{Next}
+use Rattle.ra_token.specs.declared.line_answers.Next.TheVariants.{Line, Last, Long, End}
+use Rattle.ra_token.specs.Lines.{lines_of, line_at, joined_lines, ends_line, body_of}
+use Rattle.ra_token.specs.Reading.{BeginsOverLong, IsNextLine}
+use Rattle.ra_token.proofs.SplitLaws.{joined_back}
 use Rattle.ra_journal.specs.declared.entries.Entry.{Entry}
 use Rattle.ra_journal.specs.Entries.{entry_at}
 use Rattle.ra_journal.specs.Legal.{Legal}

@@ -1,6 +1,5 @@
 -- The one entry that may follow the entries of a legal journal, by its worker and the place of its plan.
-use Rattle.std.proofs.Common.{◌≡◌, ℕ, zero, suc, ◌+◌, ◌<◌, ◌≤◌, Bool, true, false, eqb, List, [], ◌∷◌, ◌++◌, length}
-use Rattle.std.proofs.Common.{set, get_or, Option, Some, None, refl, sym, ap, ap₂, ◌∙◌, subst, ⊎_elim, arith}
+use Rattle.std.proofs.Common.{◌≡◌, ℕ, zero, suc, ◌+◌, ◌<◌, ◌≤◌, Bool, true, false, eqb, List, [], ◌∷◌, ◌++◌, length, set, get_or, Option, Some, None, refl, sym, ap, ap₂, ◌∙◌, subst, ⊎_elim, arith}
 use Rattle.std.proofs.lemmas.Bool.{cases_Bool, cases_eq, cases_lt, lt-leb, le-ltb, eqb-true}
 use Rattle.std.proofs.lemmas.List.{length_push, get_or-set_same, get_or-set_other}
 use Rattle.ra_base.specs.declared.ids.Machine.{Machine}
@@ -14,8 +13,7 @@ use Rattle.ra_moves.specs.Weighing.{weighed_of}
 use Rattle.ra_guards.specs.declared.newest.Newer.{Newer}
 use Rattle.ra_guards.proofs.NewestLemmas.{newest_is_right}
 use Rattle.ra_journal.specs.declared.entries.Entry.{Entry}
-use Rattle.ra_journal.specs.Committing.{next_number, next_entry, next_move, newer_since, committed, committed_by}
-use Rattle.ra_journal.specs.Committing.{IsCommit}
+use Rattle.ra_journal.specs.Committing.{next_number, next_entry, next_move, newer_since, committed, committed_by, IsCommit}
 use Rattle.ra_journal.specs.Entries.{entry_at, made_in, entries_of, worker_count, budget}
 use Rattle.ra_journal.specs.Keeping.{IsStart}
 use Rattle.ra_journal.specs.Legal.{IsLegalAt, Legal}
@@ -27,10 +25,10 @@ use Rattle.ra_journal.proofs.RoomLemmas.{AreNumbered, entries_few, proposals_few
 use Rattle.ra_journal.proofs.Places.{same_added, same_fewer, same_turned, entry_before, entry_added}
 use Rattle.ra_report.specs.Fronts.{IsSmallEntry, IsSmallFront}
 use Rattle.ra_worker.specs.Skipping.{has_used, is_behind, is_skipped}
-use Rattle.ra_worker_core.specs.declared.events.CoreReply.{CoreReply}
-use Rattle.ra_worker_core.specs.declared.events.CoreReply.TheVariants.{Answer}
-use Rattle.ra_worker_core.specs.Core.{Core, core_place_of, Turn, answered, turn}
-use Rattle.ra_worker_core.proofs.TurnLemmas.{turn_skipped, turn_answered}
+use Rattle.ra_worker.specs.declared.events.CoreReply.{CoreReply}
+use Rattle.ra_worker.specs.declared.events.CoreReply.TheVariants.{Answer}
+use Rattle.ra_worker.specs.Core.{Core, core_place_of, Turn, answered, turn}
+use Rattle.ra_worker.proofs.CoreTurnLemmas.{turn_skipped, turn_answered}
 use Rattle.ra_verify.specs.Checking.{IsBehind, NoneIsPast, is_recorded}
 
 -- the last entry of a legal journal may come after the others, which are legal

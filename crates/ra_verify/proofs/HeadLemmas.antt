@@ -1,16 +1,14 @@
 -- The first lines of a report, one after another.
-use Rattle.std.proofs.Common.{◌≡◌, ℕ, ◌+◌, ◌-◌, ◌*◌, ◌<◌, ◌≤◌, List, [], ◌++◌, take, drop, Option, Some, None, IfSome}
-use Rattle.std.proofs.Common.{Result, Err, sym, ap, ◌∙◌, subst, ⊎_elim, arith}
+use Rattle.std.proofs.Common.{◌≡◌, ℕ, ◌+◌, ◌-◌, ◌*◌, ◌<◌, ◌≤◌, List, [], ◌++◌, take, drop, Option, Some, None, IfSome, Result, Err, sym, ap, ◌∙◌, subst, ⊎_elim, arith}
 use Rattle.std.proofs.lemmas.Bool.{cases_lt, cases_eq}
-use Rattle.ra_report_lines.specs.declared.answers.Next.{Next}
-use Rattle.ra_report_lines.specs.declared.answers.Next.TheVariants.{Line, Last, Long, End}
-use Rattle.ra_report_lines.specs.Reading.{BeginsWithLine, IsLastLine, BeginsOverLong, IsNextLine}
+use Rattle.ra_token.specs.declared.line_answers.Next.{Next}
+use Rattle.ra_token.specs.declared.line_answers.Next.TheVariants.{Line, Last, Long, End}
+use Rattle.ra_token.specs.Reading.{BeginsWithLine, IsLastLine, BeginsOverLong, IsNextLine}
 use Rattle.ra_verify.specs.declared.faults.VerifyFault.{VerifyFault}
 use Rattle.ra_verify.specs.declared.faults.VerifyFault.TheVariants as fault
 use Rattle.ra_verify.specs.Reading.{AreLines, IsHead}
 use Rattle.ra_verify.specs.WrongLines.{most_bytes, over_long, first_over_long}
-use Rattle.ra_verify.proofs.ReadingLemmas.{take_on, lines_start, lines_more, line_next, lines_last, lines_end}
-use Rattle.ra_verify.proofs.ReadingLemmas.{lines_still, none_on, over_at, short_at, short_past, first_over}
+use Rattle.ra_verify.proofs.ReadingLemmas.{take_on, lines_start, lines_more, line_next, lines_last, lines_end, lines_still, none_on, over_at, short_at, short_past, first_over}
 
 -- the bytes up to a place are the first n lines, none of them over long
 pub record IsHeadSoFar (bytes : List ℕ) (place n : ℕ) (head : List ℕ) : Type 0 where

@@ -1,7 +1,5 @@
 -- The lines of a report's head are short.
-use Rattle.std.proofs.Common.{◌≡◌, ℕ, zero, suc, ◌+◌, ◌*◌, ◌^◌, ◌<◌, ◌≤◌, List, [], ◌∷◌, ◌++◌, length, slice_get}
-use Rattle.std.proofs.Common.{get_or, Option, Some, None, unwrap_or, codes, refl, ap, ◌∙◌, subst, arith, length-append}
-use Rattle.std.proofs.Common.{lt_trans}
+use Rattle.std.proofs.Common.{◌≡◌, ℕ, zero, suc, ◌+◌, ◌*◌, ◌^◌, ◌<◌, ◌≤◌, List, [], ◌∷◌, ◌++◌, length, slice_get, get_or, Option, Some, None, unwrap_or, codes, refl, ap, ◌∙◌, subst, arith, length-append, lt_trans}
 use Rattle.std.proofs.lemmas.Option.{slice_get-get_or, none-some}
 use Rattle.ra_base.specs.declared.causes.Drawing.{Drawing}
 use Rattle.ra_base.specs.declared.causes.Drawing.TheVariants.{One, Two}
@@ -14,10 +12,9 @@ use Rattle.ra_model.specs.Limits.{WellFormed, Small}
 use Rattle.ra_model.specs.Assignments.{IsAssignment, machine_at}
 use Rattle.ra_model.specs.Feasible.{Feasible}
 use Rattle.ra_model.specs.Costs.{parts_of, objective}
-use Rattle.ra_model.proofs.BoundLemmas.{objective_under, load_under, balance_under, process_under, service_under}
-use Rattle.ra_model.proofs.BoundLemmas.{machine_under}
-use Rattle.ra_report_lines.specs.Lines.{lines_of, line_at, body_of, HasNoEnd}
-use Rattle.ra_report_lines.proofs.BodyLaws.{body_before}
+use Rattle.ra_model.proofs.BoundLemmas.{objective_under, load_under, balance_under, process_under, service_under, machine_under}
+use Rattle.ra_token.specs.Lines.{lines_of, line_at, body_of, HasNoEnd}
+use Rattle.ra_token.proofs.BodyLaws.{body_before}
 use Rattle.ra_journal.specs.declared.entries.Entry.{Entry}
 use Rattle.ra_journal.specs.Best.{best_of}
 use Rattle.ra_journal.specs.Legal.{Legal}

@@ -1,14 +1,12 @@
 -- One line after another of some bytes.
-use Rattle.std.proofs.Common.{◌≡◌, ℕ, zero, suc, ◌+◌, ◌-◌, ◌<◌, ◌≤◌, Bool, true, false, cond, eqb, List, [], ◌∷◌, ◌++◌}
-use Rattle.std.proofs.Common.{length, take, drop, Some, None, refl, sym, ap, ◌∙◌, subst, arith, take-append-drop}
-use Rattle.std.proofs.Common.{take-add, drop-drop, length-append}
+use Rattle.std.proofs.Common.{◌≡◌, ℕ, zero, suc, ◌+◌, ◌-◌, ◌<◌, ◌≤◌, Bool, true, false, cond, eqb, List, [], ◌∷◌, ◌++◌, length, take, drop, Some, None, refl, sym, ap, ◌∙◌, subst, arith, take-append-drop, take-add, drop-drop, length-append}
 use Rattle.std.specs.Prelude.{slice_get}
 use Rattle.std.proofs.lemmas.Bool.{le-ltb, lt-ltb}
 use Rattle.std.proofs.lemmas.List.{append-nil, append_cancel_right}
 use Rattle.std.proofs.lemmas.Option.{slice_get_past}
 use Rattle.ra_base.proofs.Searches.{first_found, first_none_from}
-use Rattle.ra_report_lines.specs.Lines.{lines_of, line_at, ends_line, body_of}
-use Rattle.ra_report_lines.proofs.SplitLaws.{lines_append}
+use Rattle.ra_token.specs.Lines.{lines_of, line_at, ends_line, body_of}
+use Rattle.ra_token.proofs.SplitLaws.{lines_append}
 use Rattle.ra_verify.specs.Reading.{AreLines}
 use Rattle.ra_verify.specs.WrongLines.{most_bytes, if_over_long, over_long, first_over_long}
 use Rattle.ra_verify.proofs.PlaceLemmas.{got_behind}

@@ -1,14 +1,13 @@
 -- The lines of a report's text.
-use Rattle.std.proofs.Common.{◌≡◌, ℕ, zero, suc, ◌+◌, ◌-◌, ◌<◌, ◌≤◌, List, [], ◌∷◌, ◌++◌, length, slice_get, Some, refl}
-use Rattle.std.proofs.Common.{sym, ap, ◌∙◌, ⊎_elim, arith, length-append}
+use Rattle.std.proofs.Common.{◌≡◌, ℕ, zero, suc, ◌+◌, ◌-◌, ◌<◌, ◌≤◌, List, [], ◌∷◌, ◌++◌, length, slice_get, Some, refl, sym, ap, ◌∙◌, ⊎_elim, arith, length-append}
 use Rattle.std.proofs.lemmas.Bool.{cases_lt}
 use Rattle.std.proofs.lemmas.List.{append-nil}
 use Rattle.std.proofs.lemmas.Option.{slice_get_past}
 use Rattle.ra_base.specs.declared.ids.Machine.{Machine}
 use Rattle.ra_draws.specs.declared.budgets.Lots.{Lots}
 use Rattle.ra_model.specs.declared.raw.Tables.{Tables}
-use Rattle.ra_report_lines.specs.Lines.{lines_of, line_at, joined_lines}
-use Rattle.ra_report_lines.proofs.SplitLaws.{joined_back}
+use Rattle.ra_token.specs.Lines.{lines_of, line_at, joined_lines}
+use Rattle.ra_token.proofs.SplitLaws.{joined_back}
 use Rattle.ra_journal.specs.declared.entries.Entry.{Entry}
 use Rattle.ra_journal.specs.Entries.{entry_at}
 use Rattle.ra_report.specs.JournalTexts.{entry_line, entry_lines, entries_text, report_head, report_text}

@@ -6,10 +6,10 @@ use Rattle.ra_journal.specs.declared.replies.Reply.TheVariants.{Recorded, Stale}
 use Rattle.ra_journal.specs.Entries.{entry_at, worker_count}
 use Rattle.ra_journal.specs.Legal.{Legal}
 use Rattle.ra_report.specs.JournalTexts.{entry_line}
-use Rattle.ra_worker_core.specs.declared.events.CoreReply.{CoreReply}
-use Rattle.ra_worker_core.specs.declared.events.CoreReply.TheVariants.{Took, Answer, Skipped}
-use Rattle.ra_worker_core.specs.Core.{Core, core_place_of}
-use Rattle.ra_worker_core.specs.Replicas.{core_of}
+use Rattle.ra_worker.specs.declared.events.CoreReply.{CoreReply}
+use Rattle.ra_worker.specs.declared.events.CoreReply.TheVariants.{Took, Answer, Skipped}
+use Rattle.ra_worker.specs.Core.{Core, core_place_of}
+use Rattle.ra_worker.specs.AllReplicas.{core_of}
 use Rattle.ra_verify.specs.declared.checker.Checker.{Checker}
 
 -- place q is after all entries of worker w

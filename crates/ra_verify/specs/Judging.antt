@@ -1,6 +1,6 @@
 -- How a report is judged after all its entry lines were found right.
 use Rattle.std.specs.Prelude.{◌≡◌, ℕ, ◌+◌, ◌⊎◌, List, length}
-use Rattle.ra_report_lines.specs.Lines.{FirstUnlike}
+use Rattle.ra_token.specs.Lines.{FirstUnlike}
 use Rattle.ra_journal.specs.declared.journal.Journal.{Journal}
 use Rattle.ra_journal.specs.Legal.{Whole}
 use Rattle.ra_report.specs.JournalTexts.{head_of}

@@ -1,15 +1,14 @@
 -- What each stage of a check tells of a report, whose bytes may be told, and what it leaves.
-use Rattle.std.specs.Prelude.{◌≡◌, ◌≢◌, ℕ, ◌+◌, ◌≤◌, Bool, true, false, List, [], length, Some, None, Result, Ok, Err}
-use Rattle.std.specs.Prelude.{IfSome, IfOk, OnOk}
+use Rattle.std.specs.Prelude.{◌≡◌, ◌≢◌, ℕ, ◌+◌, ◌≤◌, Bool, true, false, List, [], length, Some, None, Result, Ok, Err, IfSome, IfOk, OnOk}
 use Rattle.ra_base.specs.declared.ids.Machine.{Machine}
 use Rattle.ra_bounds.specs.declared.costs.Bound.{Bound}
 use Rattle.ra_bounds.specs.PinnedBounds.{pinned_bound_of}
 use Rattle.ra_draws.specs.declared.budgets.Lots.{Lots}
 use Rattle.ra_io.specs.Outside.{Reading, LeavesFiles, ReadFailed}
 use Rattle.ra_model.specs.declared.raw.Tables.{Tables}
-use Rattle.ra_report_lines.specs.Lines.{lines_of}
-use Rattle.ra_report_lines.specs.Reading.{Reads}
-use Rattle.ra_report_lines.specs.Standing.{Standing}
+use Rattle.ra_token.specs.Lines.{lines_of}
+use Rattle.ra_token.specs.Reading.{Reads}
+use Rattle.ra_token.specs.LineStanding.{Standing}
 use Rattle.ra_journal.specs.declared.entries.Entry.{Entry}
 use Rattle.ra_model.specs.Situations.{Situation, situation}
 use Rattle.ra_verify.specs.declared.checker.Checker.{Checker}

@@ -1,13 +1,12 @@
 -- Which line of a report is told to be wrong. Four rules are tried in turn, and the first rule that a report breaks
 -- names the line; so this needn't be the first line that differs. Lines count from 1; lines 1 to 10 are the head of a
 -- report, and those from the eleventh on are its entry lines. (`line_at` counts from 0.)
-use Rattle.std.specs.Prelude.{◌≡◌, ◌≢◌, ◌⊎◌, ℕ, ◌+◌, ◌<◌, ◌≤◌, ◌==◌, nat_lt, if◌then◌else◌, List, [], ◌∷◌, ◌++◌, length}
-use Rattle.std.specs.Prelude.{Option, Some, None}
+use Rattle.std.specs.Prelude.{◌≡◌, ◌≢◌, ◌⊎◌, ℕ, ◌+◌, ◌<◌, ◌≤◌, ◌==◌, nat_lt, if◌then◌else◌, List, [], ◌∷◌, ◌++◌, length, Option, Some, None}
 use Rattle.ra_base.specs.Searches.{first}
 use Rattle.ra_base.specs.declared.ids.Machine.{Machine}
 use Rattle.ra_draws.specs.declared.budgets.Lots.{Lots}
 use Rattle.ra_model.specs.declared.raw.Tables.{Tables}
-use Rattle.ra_report_lines.specs.Lines.{lines_of, line_at, body_of, FirstUnlike}
+use Rattle.ra_token.specs.Lines.{lines_of, line_at, body_of, FirstUnlike}
 use Rattle.ra_journal.specs.declared.entries.Entry.{Entry}
 use Rattle.ra_journal.specs.Entries.{entry_at}
 use Rattle.ra_journal.specs.Legal.{Legal, Whole}

@@ -1,4 +1,4 @@
-ghost use Rattle.ra_worker_core.specs.Replicas.{AreAt};
+ghost use Rattle.ra_worker.specs.AllReplicas.{AreAt};
 
 use ra_journal::Journal;
 use ra_worker::Replica;

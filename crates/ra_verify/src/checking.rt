@@ -1,6 +1,6 @@
 ghost use Rattle.std.specs.Prelude.{◌≡◌, ◌≤◌, [], IfSome};
 ghost use Rattle.ra_io.specs.Outside.{reading};
-ghost use Rattle.ra_report_lines.specs.Reading.{Reads};
+ghost use Rattle.ra_token.specs.Reading.{Reads};
 ghost use Rattle.ra_verify.specs.Reading.{IsHead};
 ghost use Rattle.ra_verify.specs.Verdicts.{AreAtStart, TellsOf};
 
@@ -13,7 +13,7 @@ use ra_base::Fixed;
 use ra_bounds::Bound;
 use ra_io::Files;
 use ra_report::LONGEST_LINE;
-use ra_report_lines::LineReader;
+use ra_token::LineReader;
 use ra_world::World;
 
 /// Reads a report and judges it, in the memory that was taken for it: `head` keeps its first lines, and `line` each

@@ -1,6 +1,6 @@
 ghost use Rattle.std.specs.Prelude.{◌≡◌, ◌≢◌, ◌+◌, ◌*◌, ◌≤◌, ◌++◌, ℕ, List, [], Ok, true, length, IfSome, IfErr, IsOk};
 ghost use Rattle.ra_io.specs.Outside.{reading};
-ghost use Rattle.ra_report_lines.specs.Reading.{Reads};
+ghost use Rattle.ra_token.specs.Reading.{Reads};
 ghost use Rattle.ra_journal.specs.declared.entries.Entry.{Entry as Recorded};
 ghost use Rattle.ra_report.specs.JournalTexts.{entry_line};
 ghost use Rattle.ra_verify.specs.Checking.{checker_entries, IsOpen, MayFollow, IsSameRun, HasTakenLine};
@@ -14,7 +14,7 @@ use crate::head::HEAD_BYTES;
 use ra_base::Fixed;
 use ra_io::Files;
 use ra_report::{LONGEST_FRONT, LONGEST_LINE};
-use ra_report_lines::{LineReader, Next};
+use ra_token::{LineReader, Next};
 
 /// Reads what follows the first lines of a report, if there are ten of them, and takes in the entries of these lines.
 pub(crate) fn read_rest<F: Files>(

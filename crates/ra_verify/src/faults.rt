@@ -1,5 +1,5 @@
 use ra_base::NoMemory;
-use ra_report_lines::ReadFault;
+use ra_token::ReadFault;
 
 /// Why a report was not accepted.
 #[derive(Clone, Copy, Debug, PartialEq, Eq)]

@@ -1,13 +1,13 @@
 ghost use Rattle.std.specs.Prelude.{◌≡◌, ◌≢◌, ◌≤◌, [], IfOk};
 ghost use Rattle.ra_io.specs.Outside.{reading};
-ghost use Rattle.ra_report_lines.specs.Reading.{Reads};
+ghost use Rattle.ra_token.specs.Reading.{Reads};
 ghost use Rattle.ra_verify.specs.Verdicts.{ReadsHead};
 ghost use Rattle.ra_verify.specs.WrongLines.{most_bytes};
 
 use crate::faults::VerifyFault;
 use ra_base::Fixed;
 use ra_io::Files;
-use ra_report_lines::{LineReader, Next};
+use ra_token::{LineReader, Next};
 
 /// The most bytes of ten lines of which none is over long, with their LF: nine of 64, and one of 600,000.
 pub(crate) const HEAD_BYTES: usize = 600_586;

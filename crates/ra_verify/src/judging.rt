@@ -1,7 +1,7 @@
 ghost use Rattle.std.specs.Prelude.{◌≡◌, ◌≤◌, ◌<◌, ◌+◌, ◌↔◌, ℕ, true, Err, IfOk, IfErr, IfNone, IfSome};
 ghost use Rattle.ra_model.specs.Situations.{situation};
 ghost use Rattle.ra_bounds.specs.PinnedBounds.{pinned_bound_of};
-ghost use Rattle.ra_report_lines.specs.Lines.{FirstUnlike};
+ghost use Rattle.ra_token.specs.Lines.{FirstUnlike};
 ghost use Rattle.ra_journal.specs.Legal.{Whole};
 ghost use Rattle.ra_report.specs.JournalTexts.{head_of};
 ghost use Rattle.ra_verify.specs.Judging.{IsAccepted, IsMisjudged};

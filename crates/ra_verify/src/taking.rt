@@ -12,7 +12,7 @@ use ra_journal::{Journal, Reply};
 use ra_model::Instance;
 use ra_report::{Front, LONGEST_FRONT, LONGEST_LINE, is_entry_line, read_front};
 use ra_topology::Topology;
-use ra_worker_core::{CoreReply, make_replicas, take_turn_at};
+use ra_worker::{CoreReply, make_replicas, take_turn_at};
 use std::alloc::Global;
 
 impl<'a> Checker<'a> {

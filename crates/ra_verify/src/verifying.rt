@@ -2,7 +2,7 @@ ghost use Rattle.std.specs.Prelude.{◌≡◌, ℕ, List, [], Option, IfOk};
 ghost use Rattle.ra_bounds.specs.PinnedBounds.{pinned_bound_of};
 ghost use Rattle.ra_io.specs.Outside.{reading};
 ghost use Rattle.ra_model.specs.Assignments.{IsAssignment};
-ghost use Rattle.ra_report_lines.specs.Reading.{Reads};
+ghost use Rattle.ra_token.specs.Reading.{Reads};
 ghost use Rattle.ra_topology.specs.Starts.{IsFeasibleStart};
 ghost use Rattle.ra_verify.specs.Verdicts.{TellsVerdict};
 
@@ -17,7 +17,7 @@ use ra_io::Files;
 use ra_model::Instance;
 use ra_pins::Pins;
 use ra_report::LONGEST_LINE;
-use ra_report_lines::LineReader;
+use ra_token::LineReader;
 use ra_topology::Topology;
 use ra_world::World;
 use std::alloc::Global;

@@ -2,3 +2,12 @@ pub mod Following
 pub mod Proposals
 pub mod Replicas
 pub mod Skipping
+pub mod Core
+pub mod AllReplicas
+pub mod Turns
+pub mod Ahead
+pub mod Working
+pub mod Running
+pub mod Crews
+pub mod Ready
+pub mod Runs

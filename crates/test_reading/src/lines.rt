@@ -1,12 +1,12 @@
 //! The lines of a file, and a text that is compared with an expected one.
 ghost use Rattle.std.specs.Prelude.{◌≡◌};
-ghost use Rattle.ra_report_lines.specs.Reading.{Reads};
+ghost use Rattle.ra_token.specs.Reading.{Reads};
 
 use super::files::failing;
 use super::found::same;
 use ra_base::Fixed;
 use ra_io::{Files, MemoryFiles, put_all};
-use ra_report_lines::{Expected, LineReader, Next, ReadFault};
+use ra_token::{Expected, LineReader, Next, ReadFault};
 use std::alloc::Global;
 use std::process::Abort;
 

@@ -1,7 +1,28 @@
-//! Tests of what follows moves by changes: what a world tells beside the plain checker, plans beside those of the plain
-//! planner, and a weighing at a world that has taken in a move. The crate has nothing but tests, so that no program is
-//! built over what they compare with.
+//! Tests of what is known of an instance and an assignment, and of what follows moves by changes, beside the plain
+//! checker and the plain planner. There is nothing here but tests and what compares, so that the crates that they test
+//! are proved once, without them.
 #![tactic(auto)]
 
+mod beside;
+#[cfg(test)]
+mod cells;
+#[cfg(test)]
+mod check;
+#[cfg(test)]
+mod common;
+#[cfg(test)]
+mod guards;
+#[cfg(test)]
+mod model;
+#[cfg(test)]
+mod moves;
+#[cfg(test)]
+mod pins;
+#[cfg(test)]
+mod rows;
 #[cfg(test)]
 mod tests;
+#[cfg(test)]
+mod topology;
+
+pub use beside::Beside;

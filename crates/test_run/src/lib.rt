@@ -1,9 +1,15 @@
-//! Tests of command lines through the top call whose output depends on who comes first, and of long reports. The crate
-//! has nothing else.
+//! Tests of what is printed, and of command lines whose output depends on who comes first. There is nothing here but
+//! tests.
 #![tactic(auto)]
 
 #[cfg(test)]
+mod checking;
+#[cfg(test)]
 mod meeting;
+#[cfg(test)]
+mod printed;
+#[cfg(test)]
+mod reports;
 #[cfg(test)]
 mod running;
 #[cfg(test)]

@@ -8,9 +8,9 @@ use Rattle.ra_journal.specs.declared.entries.Entry.{Entry}
 use Rattle.ra_shared.specs.declared.shared.Shared.{Shared}
 use Rattle.ra_shared.specs.Shares.{start_of, IsNew}
 use Rattle.ra_worker.specs.Replicas.{IsAt}
-use Rattle.ra_worker_crew.specs.declared.worker.Worker.{Worker}
-use Rattle.ra_worker_crew.specs.Running.{MayRun}
-use Rattle.ra_worker_crew.proofs.Runs.{ready_as}
+use Rattle.ra_worker.specs.declared.worker.Worker.{Worker}
+use Rattle.ra_worker.specs.Running.{MayRun}
+use Rattle.ra_worker.proofs.Runs.{ready_as}
 
 -- the only worker of a journal
 pub may_run : (s : Shared) (i : Instance) (a0 : Listed Machine) (l : Lots) (w : Worker) → (start_of s).inst ≡ i →

@@ -1,12 +1,12 @@
 //! Each chain and each swap that there is.
 use super::plans::compare;
 use super::walking::words_from;
+use crate::Beside;
 use ra_base::{Drawing, Steps};
 use ra_world::World;
 use std::alloc::Global;
 use std::process::Abort;
 use std::sync::ledger::Ledger;
-use test_compare::Beside;
 
 /// How often all are tried, and how many moves are asked for before the next time.
 const ROUNDS: u32 = 3;

@@ -3,7 +3,7 @@ ghost use Rattle.std.specs.Prelude.{◌≡◌};
 ghost use Rattle.ra_moves.specs.Moving.{IsOffered};
 ghost use Rattle.ra_moves.specs.Weighing.{weighed_of};
 
-use plain_judge::{Planned, plan_plainly};
+use plain::{Planned, plan_plainly};
 use ra_base::{Drawing, Steps};
 use ra_check::Scratch;
 use ra_moves::{Plan, Verdict};

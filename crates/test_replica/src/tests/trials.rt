@@ -6,6 +6,7 @@ use super::each::each_agrees;
 use super::walking::plans_agree;
 use super::weighing::weighs_shift;
 use super::worlds::{comes_home, tells_plainly};
+use crate::Beside;
 use ra_base::{Assignment, Steps};
 use ra_model::Instance;
 use ra_topology::Topology;
@@ -13,7 +14,6 @@ use std::alloc::Global;
 use std::marker::Brand;
 use std::process::Abort;
 use std::sync::ledger::{Blank, Ledger};
-use test_compare::Beside;
 use test_samples::assignment;
 
 /// One trial.

@@ -1,10 +1,10 @@
 //! A walk from a start, with a comparison of plans at each step.
 use super::plans::{compare, is_done};
+use crate::Beside;
 use ra_base::{Drawing, Steps};
 use std::alloc::Global;
 use std::process::Abort;
 use std::sync::ledger::Ledger;
-use test_compare::Beside;
 
 /// The words of a proposal, which look like drawn ones.
 pub(super) fn words_from(seed: &mut u64) -> [u64; 8] {

@@ -2,12 +2,12 @@
 ghost use Rattle.ra_moves.specs.Moving.{IsOffered};
 
 use super::plans::is_done_at;
+use crate::Beside;
 use ra_base::{Drawing, MovedCount, Service, Steps};
 use ra_moves::{Move, Weighed, options, resolve};
 use ra_plan::{verdict, weigh};
 use ra_world::World;
 use std::sync::ledger::Ledger;
-use test_compare::Beside;
 
 /// The words of a shift of a process to a machine.
 fn shift_to(p: u64, m: u64) -> [u64; 8] {

@@ -6,11 +6,11 @@ mod costs;
 
 use super::plans::{is_done, is_done_at};
 use super::walking::words_from;
+use crate::Beside;
 use comparing::agrees;
 use ra_base::{Machine, Parts, Resource, Service, Steps};
 use ra_world::World;
 use std::sync::ledger::Ledger;
-use test_compare::Beside;
 
 /// The kind of move that words ask for: 0 a shift, 1 a swap, 2 a chain.
 fn kind_in(words: &[u64; 8]) -> usize

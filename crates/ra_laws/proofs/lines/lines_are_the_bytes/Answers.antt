@@ -1,4 +1,4 @@
-use Rattle.ra_report_lines.proofs.SplitLaws.{joined_back, lines_append}
+use Rattle.ra_token.proofs.SplitLaws.{joined_back, lines_append}
 use Rattle.ra_laws.proofs.lines.lines_are_the_bytes.Goals as goal
 
 pub returns-clause-bytes : goal.returns-clause-bytes

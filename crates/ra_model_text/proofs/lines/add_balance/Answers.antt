@@ -2,7 +2,7 @@ use Rattle.std.proofs.Common.{[], ◌∷◌}
 use Rattle.ra_model.specs.Numbers.{first_of, second_of, target_of, balance_weight_of}
 use Rattle.ra_model_text.specs.Lines.{line_text}
 use Rattle.ra_model_text.specs.ModelTexts.{balance_text}
-use Rattle.ra_report_text.proofs.GatheringLemmas.{adds_more}
+use Rattle.ra_report.proofs.GatheringLemmas.{adds_more}
 use Rattle.ra_model_text.proofs.lines.add_balance.Goals as goal
 
 pub returns : goal.returns

@@ -1,9 +1,8 @@
 use Rattle.std.proofs.Common.{[], ◌∷◌, ◌++◌}
 use Rattle.std.specs.Fmt.{decimal}
-use Rattle.ra_model.specs.Numbers.{resource_count, machine_count, neighbourhood_of, location_of, capacity_of, safety_of}
-use Rattle.ra_model.specs.Numbers.{way_cost_of}
+use Rattle.ra_model.specs.Numbers.{resource_count, machine_count, neighbourhood_of, location_of, capacity_of, safety_of, way_cost_of}
 use Rattle.ra_model_text.specs.ModelLines.{spaced}
-use Rattle.ra_report_text.proofs.GatheringLemmas.{adds_more}
+use Rattle.ra_report.proofs.GatheringLemmas.{adds_more}
 use Rattle.ra_model_text.proofs.ModelLines.{machine_is}
 use Rattle.ra_model_text.proofs.lines.add_machine.Goals as goal
 

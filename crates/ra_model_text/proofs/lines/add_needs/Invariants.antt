@@ -1,5 +1,5 @@
 use Rattle.ra_model.specs.Numbers.{need_of}
-use Rattle.ra_report_text.specs.Gathering.{AddsText}
+use Rattle.ra_report.specs.Gathering.{AddsText}
 use Rattle.ra_model_text.specs.ModelLines.{spaced}
 use Rattle.ra_model_text.proofs.lines.add_needs.Given as goal
 

@@ -2,7 +2,7 @@ use Rattle.std.proofs.Common.{[], ◌∷◌, ◌++◌}
 use Rattle.std.specs.Fmt.{decimal}
 use Rattle.ra_model.specs.Numbers.{resource_count, service_of, requirement_of, process_cost_of}
 use Rattle.ra_model_text.specs.ModelLines.{spaced}
-use Rattle.ra_report_text.proofs.GatheringLemmas.{adds_more}
+use Rattle.ra_report.proofs.GatheringLemmas.{adds_more}
 use Rattle.ra_model_text.proofs.ModelLines.{process_is}
 use Rattle.ra_model_text.proofs.lines.add_process.Goals as goal
 

@@ -2,7 +2,7 @@ use Rattle.std.proofs.Common.{[], ◌∷◌, ◌++◌}
 use Rattle.std.specs.Fmt.{decimal}
 use Rattle.ra_model.specs.Numbers.{spread_of, dependency_count, need_of}
 use Rattle.ra_model_text.specs.ModelLines.{spaced}
-use Rattle.ra_report_text.proofs.GatheringLemmas.{adds_more}
+use Rattle.ra_report.proofs.GatheringLemmas.{adds_more}
 use Rattle.ra_model_text.proofs.ModelLines.{service_is}
 use Rattle.ra_model_text.proofs.lines.add_service.Goals as goal
 

@@ -1,7 +1,7 @@
 use Rattle.std.proofs.Common.{[], ◌∷◌, ◌++◌}
 use Rattle.std.specs.Fmt.{decimal}
 use Rattle.ra_model_text.specs.Lines.{line_text, more_text}
-use Rattle.ra_report_text.proofs.GatheringLemmas.{adds_more}
+use Rattle.ra_report.proofs.GatheringLemmas.{adds_more}
 use Rattle.ra_model_text.proofs.lines.add_three.Goals as goal
 
 pub returns : goal.returns

@@ -1,6 +1,6 @@
 -- The last numbers are written.
 use Rattle.std.proofs.Common.{◌-◌, ◌*◌, [], length, drop}
-use Rattle.ra_report_text.specs.Lines.{Prepends}
+use Rattle.ra_report.specs.Lines.{Prepends}
 use Rattle.ra_model_text.specs.ModelLines.{numbers_text}
 use Rattle.ra_model_text.proofs.lines.write_numbers.Given as goal
 

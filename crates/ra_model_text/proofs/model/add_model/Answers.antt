@@ -1,8 +1,7 @@
 use Rattle.std.proofs.Common.{◌++◌}
 use Rattle.ra_model.specs.Numbers.{resource_count, machine_count, service_count, process_count, balance_count}
-use Rattle.ra_model_text.specs.ModelTexts.{group_text, resource_text, machine_text, service_text, process_text}
-use Rattle.ra_model_text.specs.ModelTexts.{balance_text, weights_text, model_text}
-use Rattle.ra_report_text.proofs.GatheringLemmas.{adds_more}
+use Rattle.ra_model_text.specs.ModelTexts.{group_text, resource_text, machine_text, service_text, process_text, balance_text, weights_text, model_text}
+use Rattle.ra_report.proofs.GatheringLemmas.{adds_more}
 use Rattle.ra_model_text.proofs.model.add_model.Goals as goal
 
 pub returns : goal.returns

@@ -1,6 +1,6 @@
 use Rattle.ra_model.specs.Numbers.{process_count}
 use Rattle.ra_model_text.specs.ModelTexts.{process_text}
-use Rattle.ra_report_text.specs.Gathering.{AddsText}
+use Rattle.ra_report.specs.Gathering.{AddsText}
 use Rattle.ra_model_text.specs.ModelLines.{group_to}
 use Rattle.ra_model_text.proofs.model.add_processes.Given as goal
 

@@ -1,5 +1,5 @@
 use Rattle.std.proofs.Common.{rules}
-use Rattle.ra_report_text.proofs.GatheringLemmas.{put_whole, put_part}
+use Rattle.ra_report.proofs.GatheringLemmas.{put_whole, put_part}
 use Rattle.ra_model_text.proofs.model.write_model.Goals as goal
 
 pub returns-clause-whole : goal.returns-clause-whole

@@ -1,7 +1,6 @@
 use Rattle.std.proofs.Common.{◌≡◌, sym, ◌∙◌, ◌<◌, arith}
 use Rattle.ra_moves.specs.Options.{option_at}
-use Rattle.ra_moves.proofs.OptionLemmas.{shift_named, swap_few, option_shift, option_swap, option_chain, option_stands}
-use Rattle.ra_moves.proofs.OptionLemmas.{option_reaches}
+use Rattle.ra_moves.proofs.OptionLemmas.{shift_named, swap_few, option_shift, option_swap, option_chain, option_stands, option_reaches}
 use Rattle.ra_moves.proofs.Repeats.{distinct_from_none}
 use Rattle.ra_moves.proofs.drawn.resolve.Goals as goal
 

@@ -4,8 +4,8 @@ use Rattle.ra_moves.specs.declared.steps.Step.{Step}
 use Rattle.ra_model.specs.Numbers.{machine_count}
 use Rattle.ra_model.specs.Situations.{Situation}
 use Rattle.ra_moves.specs.Judging.{broken_by}
-use Rattle.ra_weigh_settle.proofs.Settles.{bare_is}
-use Rattle.ra_weigh_shift.specs.Finding.{IsFinding}
+use Rattle.ra_moves.proofs.Settles.{bare_is}
+use Rattle.ra_shift.specs.Finding.{IsFinding}
 use Rattle.ra_plan.proofs.Weighed.{one_reaches, shift_same, cause_found, unbroken_found}
 use Rattle.ra_plan.proofs.planning.shift_weighing.Goals as goal
 

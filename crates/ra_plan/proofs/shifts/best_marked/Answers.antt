@@ -3,7 +3,7 @@ use Rattle.std.proofs.Common.{◌≡◌, ◌+◌, ◌%◌, ◌≤◌, min, [], a
 use Rattle.ra_base.specs.declared.causes.Drawing.TheVariants.{Two}
 use Rattle.ra_model.specs.Numbers.{machine_count}
 use Rattle.ra_model.specs.declared.raw.Tables.{Tables}
-use Rattle.ra_weigh_shift.specs.Lanes.{machine_in}
+use Rattle.ra_shift.specs.Lanes.{machine_in}
 use Rattle.ra_plan.specs.Choosing.{IsBest}
 use Rattle.ra_plan.proofs.Bests.{none_low}
 use Rattle.ra_plan.proofs.Marked.{with_home, skips, unmarked_dear, marked_sum}

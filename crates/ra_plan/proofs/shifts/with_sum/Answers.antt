@@ -1,7 +1,7 @@
 -- The cost below the bound of the best so far.
 use Rattle.std.proofs.Common.{◌∙◌, ap, subst, arith}
 use Rattle.ra_base.specs.declared.causes.Drawing.TheVariants.{Two}
-use Rattle.ra_weigh_shift.specs.Arriving.{IsCostBelow}
+use Rattle.ra_shift.specs.Arriving.{IsCostBelow}
 use Rattle.ra_plan.specs.Choosing.{cost_to_beat}
 use Rattle.ra_plan.proofs.shifts.with_sum.Goals as goal
 

@@ -1,5 +1,5 @@
 use Rattle.std.proofs.Common.{sym, ◌∙◌, arith}
-use Rattle.ra_weigh_settle.proofs.Settles.{bare_is}
+use Rattle.ra_moves.proofs.Settles.{bare_is}
 use Rattle.ra_plan.proofs.Weighed.{flawed, flawless, flawless_move, processes_known, reads_few}
 use Rattle.ra_plan.proofs.weighing.weigh.Goals as goal
 

@@ -1,5 +1,5 @@
 use Rattle.std.proofs.Common.{◌≡◌, get_or, rules}
-use Rattle.ra_report_text.proofs.GatheringLemmas.{adds_none}
+use Rattle.ra_report.proofs.GatheringLemmas.{adds_none}
 use Rattle.ra_report.proofs.ShareLaws.{adds_joined}
 use Rattle.ra_report.proofs.desks.add_desks.Goals as goal
 

@@ -1,6 +1,6 @@
 use Rattle.std.proofs.Common.{take}
-use Rattle.ra_report_text.specs.Gathering.{AddsText}
-use Rattle.ra_report_text.specs.Pieces.{joined}
+use Rattle.ra_report.specs.Gathering.{AddsText}
+use Rattle.ra_report.specs.Pieces.{joined}
 use Rattle.ra_report.proofs.desks.add_desks.Given as goal
 
 abbrev pub invariant-loop-desk : goal.invariant-loop-desk

@@ -1,8 +1,8 @@
 use Rattle.std.proofs.Common.{◌≡◌, length, arith, sym, ◌∙◌, rules}
-use Rattle.ra_report_text.specs.Gathering.{AddsText}
-use Rattle.ra_report_text.specs.Pieces.{joined}
+use Rattle.ra_report.specs.Gathering.{AddsText}
+use Rattle.ra_report.specs.Pieces.{joined}
 use Rattle.ra_report.specs.JournalTexts.{entries_text}
-use Rattle.ra_report_text.proofs.GatheringLemmas.{adds_none, adds_more, adds_failed}
+use Rattle.ra_report.proofs.GatheringLemmas.{adds_none, adds_more, adds_failed}
 use Rattle.ra_report.proofs.ShareLaws.{rest_after}
 use Rattle.ra_report.proofs.desks.add_entries_at.Goals as goal
 

@@ -1,5 +1,5 @@
 use Rattle.std.proofs.Common.{◌≤◌, ◌-◌, length}
-use Rattle.ra_report_text.specs.Gathering.{AddsText}
+use Rattle.ra_report.specs.Gathering.{AddsText}
 use Rattle.ra_report.specs.JournalTexts.{entries_text}
 use Rattle.ra_report.proofs.desks.add_entries_at.Given as goal
 

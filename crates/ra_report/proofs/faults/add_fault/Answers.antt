@@ -1,10 +1,10 @@
 use Rattle.std.proofs.Common.{◌≡◌, ℕ, List, [], ◌∷◌, ◌++◌, append_assoc, refl, ◌∙◌, subst}
-use Rattle.ra_report_text.specs.Gathering.{AddsText}
-use Rattle.ra_report_text.specs.Pieces.{joined}
-use Rattle.ra_report_text.specs.Texts.{line_end}
-use Rattle.ra_report_text.specs.Notes.{note_text}
+use Rattle.ra_report.specs.Gathering.{AddsText}
+use Rattle.ra_report.specs.Pieces.{joined}
+use Rattle.ra_report.specs.Texts.{line_end}
+use Rattle.ra_report.specs.Notes.{note_text}
 use Rattle.ra_report.specs.FaultTexts.{line_said}
-use Rattle.ra_report_text.proofs.GatheringLemmas.{adds_more}
+use Rattle.ra_report.proofs.GatheringLemmas.{adds_more}
 use Rattle.ra_report.proofs.faults.add_fault.Goals as goal
 
 pub returns : goal.returns

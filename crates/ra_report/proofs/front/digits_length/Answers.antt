@@ -1,5 +1,5 @@
 use Rattle.std.proofs.Common.{◌≡◌, rules, arith, sym, ◌∙◌, subst, length, drop}
-use Rattle.ra_report_text.specs.Numbers.{past}
+use Rattle.ra_report.specs.Numbers.{past}
 use Rattle.ra_report.proofs.FrontLaws.{past_digit, past_other, past_end}
 use Rattle.ra_report.proofs.front.digits_length.Goals as goal
 

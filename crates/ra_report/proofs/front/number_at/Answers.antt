@@ -1,5 +1,5 @@
 use Rattle.std.proofs.Common.{◌≡◌, ◌+◌, ◌-◌, ◌*◌, ◌≤◌, rules, arith, sym, ◌∙◌, ap, subst, length, drop, get_or, Some, ℕ}
-use Rattle.ra_report_text.specs.Numbers.{told}
+use Rattle.ra_report.specs.Numbers.{told}
 use Rattle.ra_report.proofs.FrontLaws.{told_digit, told_other, told_end, told_least, more_is, no_more}
 use Rattle.ra_report.proofs.front.number_at.Goals as goal
 

@@ -1,5 +1,5 @@
 use Rattle.std.proofs.Common.{◌≡◌, drop}
-use Rattle.ra_report_text.specs.Numbers.{told}
+use Rattle.ra_report.specs.Numbers.{told}
 use Rattle.ra_report.proofs.front.number_at.Given as goal
 
 abbrev pub invariant-loop-i : goal.invariant-loop-i

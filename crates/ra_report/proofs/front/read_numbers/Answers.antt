@@ -1,7 +1,7 @@
 use Rattle.std.proofs.Common.{arith, sym, ◌∙◌, ap, drop, Some}
 use Rattle.std.proofs.lemmas.List.{take_rest}
 use Rattle.std.proofs.lemmas.Option.{none-some}
-use Rattle.ra_report_text.specs.Numbers.{told}
+use Rattle.ra_report.specs.Numbers.{told}
 use Rattle.ra_report.proofs.FrontLaws.{numbers_there, found_is, same_found, front_same}
 use Rattle.ra_report.proofs.front.read_numbers.Goals as goal
 

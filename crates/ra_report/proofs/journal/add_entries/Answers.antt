@@ -1,6 +1,6 @@
 use Rattle.std.proofs.Common.{sym}
 use Rattle.ra_report.specs.JournalTexts.{entries_text}
-use Rattle.ra_report_text.proofs.GatheringLemmas.{adds_none}
+use Rattle.ra_report.proofs.GatheringLemmas.{adds_none}
 use Rattle.ra_report.proofs.JournalTexts.{adds_line}
 use Rattle.ra_report.proofs.journal.add_entries.Goals as goal
 

@@ -1,4 +1,4 @@
-use Rattle.ra_report_text.specs.Gathering.{AddsText}
+use Rattle.ra_report.specs.Gathering.{AddsText}
 use Rattle.ra_report.specs.JournalTexts.{entries_text}
 use Rattle.ra_report.proofs.journal.add_entries.Given as goal
 

@@ -1,6 +1,6 @@
 use Rattle.std.proofs.Common.{arith}
 use Rattle.ra_report.specs.JournalTexts.{kind_text}
-use Rattle.ra_report_text.proofs.LineLemmas.{at_most}
+use Rattle.ra_report.proofs.LineLemmas.{at_most}
 use Rattle.ra_report.proofs.journal.prepend_kind.Goals as goal
 
 pub returns-in-Shift : goal.returns-in-Shift

@@ -1,7 +1,7 @@
 -- The words one after another, up to how `++` groups.
 use Rattle.std.proofs.Common.{arith, append_assoc}
 use Rattle.ra_report.specs.JournalTexts.{step_text}
-use Rattle.ra_report_text.proofs.LineLemmas.{in_front, at_most}
+use Rattle.ra_report.proofs.LineLemmas.{in_front, at_most}
 use Rattle.ra_report.proofs.journal.prepend_step.Goals as goal
 
 pub returns : goal.returns

@@ -1,6 +1,6 @@
 -- The last steps are written.
 use Rattle.std.proofs.Common.{◌≤◌, ◌-◌, ◌*◌, length, drop}
-use Rattle.ra_report_text.specs.Lines.{Prepends}
+use Rattle.ra_report.specs.Lines.{Prepends}
 use Rattle.ra_report.specs.JournalTexts.{steps_text}
 use Rattle.ra_report.proofs.journal.prepend_steps.Given as goal
 

@@ -1,6 +1,6 @@
 use Rattle.std.proofs.Common.{arith}
 use Rattle.ra_report.specs.JournalTexts.{verdict_text}
-use Rattle.ra_report_text.proofs.LineLemmas.{in_front, at_most}
+use Rattle.ra_report.proofs.LineLemmas.{in_front, at_most}
 use Rattle.ra_report.proofs.journal.prepend_verdict.Goals as goal
 
 pub returns-in-Done : goal.returns-in-Done

@@ -1,7 +1,7 @@
 -- From the end to the front.
 use Rattle.std.proofs.Common.{append_assoc}
 use Rattle.ra_report.specs.JournalTexts.{entry_line}
-use Rattle.ra_report_text.proofs.LineLemmas.{in_front, alone}
+use Rattle.ra_report.proofs.LineLemmas.{in_front, alone}
 use Rattle.ra_report.proofs.journal.write_line.Goals as goal
 
 pub returns : goal.returns

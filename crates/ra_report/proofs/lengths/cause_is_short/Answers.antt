@@ -1,4 +1,4 @@
-use Rattle.ra_report_text.specs.CauseTexts.{words_text}
+use Rattle.ra_report.specs.CauseTexts.{words_text}
 use Rattle.ra_report.proofs.LengthLaws.{one_short, two_short, three_short, four_short, rise_short}
 use Rattle.ra_report.proofs.lengths.cause_is_short.Goals as goal
 

@@ -1,7 +1,7 @@
 use Rattle.std.specs.Option.{option_copied}
-use Rattle.ra_report_text.specs.Texts.{line_end}
+use Rattle.ra_report.specs.Texts.{line_end}
 use Rattle.ra_report.specs.RepairTexts.{state_text, state_line}
-use Rattle.ra_report_text.proofs.GatheringLemmas.{adds_more}
+use Rattle.ra_report.proofs.GatheringLemmas.{adds_more}
 use Rattle.ra_report.proofs.repair.add_state.Goals as goal
 
 pub returns : goal.returns

@@ -1,5 +1,5 @@
 use Rattle.ra_report.specs.RepairTexts.{tries_text}
-use Rattle.ra_report_text.proofs.GatheringLemmas.{adds_none}
+use Rattle.ra_report.proofs.GatheringLemmas.{adds_none}
 use Rattle.ra_report.proofs.TryTexts.{adds_try}
 use Rattle.ra_report.proofs.repair.add_tries.Goals as goal
 

@@ -1,5 +1,5 @@
 -- The lines of the tries so far.
-use Rattle.ra_report_text.specs.Gathering.{AddsText}
+use Rattle.ra_report.specs.Gathering.{AddsText}
 use Rattle.ra_report.specs.RepairTexts.{tries_text}
 use Rattle.ra_report.proofs.repair.add_tries.Given as goal
 

@@ -1,6 +1,6 @@
 use Rattle.std.proofs.Common.{arith}
 use Rattle.ra_report.specs.RepairTexts.{try_front}
-use Rattle.ra_report_text.proofs.LineLemmas.{in_front, at_most}
+use Rattle.ra_report.proofs.LineLemmas.{in_front, at_most}
 use Rattle.ra_report.proofs.repair.prepend_front.Goals as goal
 
 pub returns : goal.returns

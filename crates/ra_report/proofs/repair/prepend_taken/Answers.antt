@@ -1,6 +1,6 @@
 use Rattle.std.proofs.Common.{arith}
 use Rattle.ra_report.specs.RepairTexts.{taken_text}
-use Rattle.ra_report_text.proofs.LineLemmas.{at_most}
+use Rattle.ra_report.proofs.LineLemmas.{at_most}
 use Rattle.ra_report.proofs.repair.prepend_taken.Goals as goal
 
 pub returns-then-taken : goal.returns-then-taken

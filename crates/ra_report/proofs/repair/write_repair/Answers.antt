@@ -1,6 +1,6 @@
 use Rattle.std.proofs.Common.{rules}
 use Rattle.std.specs.Option.{option_copied}
-use Rattle.ra_report_text.proofs.GatheringLemmas.{writes}
+use Rattle.ra_report.proofs.GatheringLemmas.{writes}
 use Rattle.ra_report.proofs.TryTexts.{adds_repair}
 use Rattle.ra_report.proofs.repair.write_repair.Goals as goal
 

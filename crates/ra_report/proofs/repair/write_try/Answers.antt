@@ -1,6 +1,6 @@
 -- From the end to the front.
 use Rattle.ra_report.specs.RepairTexts.{try_line}
-use Rattle.ra_report_text.proofs.LineLemmas.{in_front, alone}
+use Rattle.ra_report.proofs.LineLemmas.{in_front, alone}
 use Rattle.ra_report.proofs.repair.write_try.Goals as goal
 
 pub returns : goal.returns

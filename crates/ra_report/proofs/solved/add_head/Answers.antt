@@ -1,7 +1,7 @@
 use Rattle.std.proofs.Common.{◌++◌, codes}
-use Rattle.ra_report_text.specs.Texts.{number_line}
+use Rattle.ra_report.specs.Texts.{number_line}
 use Rattle.ra_report.specs.JournalTexts.{outcome_text, assignment_line, drawing_number, head_text}
-use Rattle.ra_report_text.proofs.GatheringLemmas.{adds_more}
+use Rattle.ra_report.proofs.GatheringLemmas.{adds_more}
 use Rattle.ra_report.proofs.solved.add_head.Goals as goal
 
 pub returns : goal.returns

@@ -1,6 +1,6 @@
 use Rattle.std.proofs.Common.{◌++◌, codes}
-use Rattle.ra_report_text.specs.Texts.{number_line, parts_text}
-use Rattle.ra_report_text.proofs.GatheringLemmas.{adds_more}
+use Rattle.ra_report.specs.Texts.{number_line, parts_text}
+use Rattle.ra_report.proofs.GatheringLemmas.{adds_more}
 use Rattle.ra_report.proofs.solved.add_outcome.Goals as goal
 
 pub returns : goal.returns

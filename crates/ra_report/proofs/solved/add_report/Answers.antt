@@ -1,6 +1,6 @@
 use Rattle.std.proofs.Common.{length}
 use Rattle.ra_report.specs.JournalTexts.{head_text, entries_text, report_lines}
-use Rattle.ra_report_text.proofs.GatheringLemmas.{adds_more}
+use Rattle.ra_report.proofs.GatheringLemmas.{adds_more}
 use Rattle.ra_report.proofs.solved.add_report.Goals as goal
 
 pub returns : goal.returns

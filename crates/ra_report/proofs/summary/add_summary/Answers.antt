@@ -1,9 +1,9 @@
 use Rattle.std.proofs.Common.{◌++◌, codes}
-use Rattle.ra_report_text.specs.Texts.{number_line}
+use Rattle.ra_report.specs.Texts.{number_line}
 use Rattle.ra_report.specs.JournalTexts.{outcome_text}
 use Rattle.ra_report.specs.Summaries.{done_count, refused_count, summary_lines}
 use Rattle.ra_report.proofs.Counts.{others}
-use Rattle.ra_report_text.proofs.GatheringLemmas.{adds_more}
+use Rattle.ra_report.proofs.GatheringLemmas.{adds_more}
 use Rattle.ra_report.proofs.summary.add_summary.Goals as goal
 
 pub returns : goal.returns

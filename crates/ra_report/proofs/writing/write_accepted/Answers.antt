@@ -1,5 +1,5 @@
 use Rattle.std.proofs.Common.{rules}
-use Rattle.ra_report_text.proofs.GatheringLemmas.{writes}
+use Rattle.ra_report.proofs.GatheringLemmas.{writes}
 use Rattle.ra_report.proofs.writing.write_accepted.Goals as goal
 
 pub returns : goal.returns

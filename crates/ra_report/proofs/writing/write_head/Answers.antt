@@ -1,6 +1,6 @@
 -- What is written are the ten lines of the journal.
 use Rattle.std.proofs.Common.{rules}
-use Rattle.ra_report_text.proofs.GatheringLemmas.{writes}
+use Rattle.ra_report.proofs.GatheringLemmas.{writes}
 use Rattle.ra_report.proofs.ReportTexts.{head_told}
 use Rattle.ra_report.proofs.writing.write_head.Goals as goal
 

@@ -2,7 +2,7 @@
 use Rattle.std.proofs.Common.{length, ap, rules}
 use Rattle.ra_base.specs.Listed.{Listed}
 use Rattle.ra_journal.specs.declared.entries.Entry.{Entry}
-use Rattle.ra_report_text.proofs.GatheringLemmas.{adds_more, writes}
+use Rattle.ra_report.proofs.GatheringLemmas.{adds_more, writes}
 use Rattle.ra_report.specs.JournalTexts.{head_text, entries_text, report_lines}
 use Rattle.ra_report.proofs.ReportTexts.{report_told}
 use Rattle.ra_report.proofs.writing.write_report_at.Goals as goal

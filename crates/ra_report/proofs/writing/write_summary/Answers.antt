@@ -2,7 +2,7 @@
 use Rattle.std.proofs.Common.{ap, rules}
 use Rattle.ra_base.specs.Listed.{Listed}
 use Rattle.ra_journal.specs.declared.entries.Entry.{Entry}
-use Rattle.ra_report_text.proofs.GatheringLemmas.{writes}
+use Rattle.ra_report.proofs.GatheringLemmas.{writes}
 use Rattle.ra_report.proofs.ReportTexts.{summary_told}
 use Rattle.ra_report.proofs.writing.write_summary.Goals as goal
 

@@ -8,7 +8,7 @@ use Rattle.ra_jobs.specs.Commands.{These}
 use Rattle.ra_jobs.specs.Files.{solve_names, verify_names}
 use Rattle.ra_jobs.specs.Outputs.{checked, bounded}
 use Rattle.ra_jobs.specs.Repairing.{repaired}
-use Rattle.ra_edit_job.specs.Editing.{editing}
+use Rattle.ra_jobs.specs.Editing.{editing}
 use Rattle.ra_jobs.proofs.DoesLemmas.{does_for}
 use Rattle.ra_jobs.proofs.RepairLemmas.{repair_command_more}
 use Rattle.ra_run.specs.Commands.{AreLots}

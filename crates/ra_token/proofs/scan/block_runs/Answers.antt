@@ -1,7 +1,6 @@
 use Rattle.std.proofs.Common.{◌≡◌, ◌+◌, ◌-◌, ◌<◌, ◌≤◌, true, length, get_or, rules, arith}
 use Rattle.ra_token.specs.Runs.{is_blank}
-use Rattle.ra_token.proofs.Taking.{takes_none, takes_one, takes_then, block_begins, block_after, block_other}
-use Rattle.ra_token.proofs.Taking.{block_digits, block_goes, block_next}
+use Rattle.ra_token.proofs.Taking.{takes_none, takes_one, takes_then, block_begins, block_after, block_other, block_digits, block_goes, block_next}
 use Rattle.ra_token.proofs.scan.block_runs.Goals as goal
 
 pub loop-k-init : goal.loop-k-init

@@ -1,8 +1,7 @@
 use Rattle.std.proofs.Common.{◌≡◌, ◌+◌, ◌-◌, ◌<◌, length, get_or, sym, ap, ◌∙◌, arith}
 use Rattle.ra_token.specs.Scan.{digits_worth}
 use Rattle.ra_token.specs.Short.{short_worth}
-use Rattle.ra_token.proofs.Taking.{takes_none, takes_one, takes_then, block_begins, block_after, block_other}
-use Rattle.ra_token.proofs.Taking.{block_digits, block_goes, block_next}
+use Rattle.ra_token.proofs.Taking.{takes_none, takes_one, takes_then, block_begins, block_after, block_other, block_digits, block_goes, block_next}
 use Rattle.ra_token.proofs.TidyBlocks.{some_digits, few_digits, short_is, blank_next, digit_last}
 use Rattle.ra_token.proofs.short.tidy_runs.Goals as goal
 

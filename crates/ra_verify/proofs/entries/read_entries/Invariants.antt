@@ -1,6 +1,6 @@
 -- The lines so far are those of the entries that were taken in.
 use Rattle.std.proofs.Common.{◌≡◌, ℕ, ◌+◌, ◌-◌, ◌*◌, ◌≤◌, List, length, IfSome}
-use Rattle.ra_report_lines.specs.Reading.{Reads}
+use Rattle.ra_token.specs.Reading.{Reads}
 use Rattle.ra_journal.specs.Entries.{proposal_count}
 use Rattle.ra_verify.specs.Checking.{checker_entries, IsOpen, IsSameRun}
 use Rattle.ra_verify.specs.Reading.{AreRead}

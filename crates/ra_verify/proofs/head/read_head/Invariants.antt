@@ -1,6 +1,6 @@
 -- The lines so far are the head's, and none of them is over long.
 use Rattle.std.proofs.Common.{◌≡◌, ℕ, ◌+◌, ◌*◌, ◌≤◌, List, length, IfSome}
-use Rattle.ra_report_lines.specs.Reading.{Reads}
+use Rattle.ra_token.specs.Reading.{Reads}
 use Rattle.ra_verify.proofs.HeadLemmas.{IsHeadSoFar}
 use Rattle.ra_verify.proofs.head.read_head.Given as goal
 

@@ -1,6 +1,6 @@
 -- The reader is in its file, and not past the lines that were asked for.
 use Rattle.std.proofs.Common.{◌*◌, ◌≤◌}
-use Rattle.ra_report_lines.specs.Reading.{Reads}
+use Rattle.ra_token.specs.Reading.{Reads}
 use Rattle.test_reading.proofs.lines.demand.Given as goal
 
 abbrev pub invariant-loop-want : goal.invariant-loop-want

@@ -1,9 +1,9 @@
 //! What a world tells, compared with plain sums and counts.
 use super::costs::{balance_of, load_of};
+use crate::Beside;
 use ra_base::{Machine, Resource, Service, Steps};
 use ra_world::World;
 use std::sync::ledger::Ledger;
-use test_compare::Beside;
 use test_samples::counts::{
     between, in_location, in_neighbourhood, locations, moved, on_machine, used,
 };

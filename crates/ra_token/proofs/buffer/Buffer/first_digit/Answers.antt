@@ -1,7 +1,6 @@
 use Rattle.std.proofs.Common.{◌∙◌, rules, arith}
 use Rattle.std.proofs.lemmas.Result.{err_from_is_err_and}
-use Rattle.ra_token.proofs.Exits.{rose_later, keeps_on, keeps_still, told_nothing, told_unread}
-use Rattle.ra_token.proofs.Exits.{told_stands, told_passes}
+use Rattle.ra_token.proofs.Exits.{rose_later, keeps_on, keeps_still, told_nothing, told_unread, told_stands, told_passes}
 use Rattle.ra_token.proofs.ToldByte.{byte_told, end_told, told_limit, told_begins, told_bad, told_end}
 use Rattle.ra_token.proofs.buffer.Buffer.first_digit.Goals as goal
 

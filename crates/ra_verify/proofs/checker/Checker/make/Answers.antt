@@ -2,7 +2,7 @@ use Rattle.std.proofs.Common.{[], sym, ap}
 use Rattle.ra_base.specs.Listed.{Listed}
 use Rattle.ra_base.specs.declared.ids.Machine.{Machine}
 use Rattle.ra_model.specs.declared.numbers.Instance.{Instance}
-use Rattle.ra_worker_core.proofs.CoreLemmas.{same_all}
+use Rattle.ra_worker.proofs.CoreLemmas.{same_all}
 use Rattle.ra_verify.proofs.CheckerLemmas.{open_start}
 use Rattle.ra_verify.proofs.checker.Checker.make.Goals as goal
 

@@ -1,9 +1,8 @@
 use Rattle.std.proofs.Common.{◌<◌, length, sym, ap, arith}
 use Rattle.std.proofs.lemmas.Bool.{le-leb, leb-true}
 use Rattle.ra_journal.specs.Entries.{worker_count}
-use Rattle.ra_worker_core.proofs.CoreLemmas.{place_there}
-use Rattle.ra_verify.proofs.checker.Checker.may_stand.Goals.{then-worker-len-via-then-worker-len}
-use Rattle.ra_verify.proofs.checker.Checker.may_stand.Goals.{then-worker-len-via-else-worker-len+then-q-len}
+use Rattle.ra_worker.proofs.CoreLemmas.{place_there}
+use Rattle.ra_verify.proofs.checker.Checker.may_stand.Goals.{then-worker-len-via-then-worker-len, then-worker-len-via-else-worker-len+then-q-len}
 use Rattle.ra_verify.proofs.checker.Checker.may_stand.Goals as goal
 
 pub returns-then-worker-len : goal.returns-then-worker-len

@@ -1,0 +1,4 @@
+pub mod Plans
+pub mod Benches
+pub mod Illegal
+pub mod Touching

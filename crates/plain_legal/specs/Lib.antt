@@ -1,3 +1,0 @@
-pub mod Benches
-pub mod Illegal
-pub mod Touching

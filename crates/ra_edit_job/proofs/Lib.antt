@@ -1,2 +1,0 @@
-pub mod EditedTexts
-pub mod EditLemmas

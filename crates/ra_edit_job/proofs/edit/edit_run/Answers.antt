@@ -1,6 +1,0 @@
-use Rattle.ra_edit_job.specs.Editing.{editing}
-use Rattle.ra_jobs.proofs.DoesLemmas.{does_for}
-use Rattle.ra_edit_job.proofs.edit.edit_run.Goals as goal
-
-pub returns : goal.returns
-returns g c = does_for editing _ _ _ _ _ _ c.of_edit-names.ensures.names c.edit_job.ensures

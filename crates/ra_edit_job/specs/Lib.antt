@@ -1,3 +1,0 @@
-pub mod EditedTexts
-pub mod Editing
-pub mod Outcomes

@@ -1,4 +1,0 @@
-pub mod PieceLemmas
-pub mod GatheringLemmas
-pub mod NumberTexts
-pub mod LineLemmas

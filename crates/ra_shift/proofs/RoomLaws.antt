@@ -1,0 +1,169 @@
+-- Where one process goes to another machine: use and transient use of that machine and of the others.
+use Rattle.std.proofs.Common.{◌≡◌, ◌≢◌, ℕ, ◌+◌, ◌<◌, ◌≤◌, IsTrue, List, eqb, refl, sym, ⊎_elim, arith, eq-eqb, ne_eqb}
+use Rattle.std.proofs.lemmas.Bool.{cond-true, cond-false, cases_eq, or_left, or_right, or_from}
+use Rattle.ra_base.specs.declared.ids.Machine.{Machine}
+use Rattle.ra_model.specs.declared.raw.Tables.{Tables}
+use Rattle.ra_model.specs.Numbers.{resource_count, machine_count, process_count, transient_at, capacity_of, requirement_of}
+use Rattle.ra_model.specs.Limits.{WellFormed, Small}
+use Rattle.ra_model.specs.Assignments.{IsAssignment, machine_at}
+use Rattle.ra_model.specs.Usage.{use_share, use_of, transient_share, transient_of}
+use Rattle.ra_model.specs.Situations.{Situation, IsFeasible}
+use Rattle.ra_model.proofs.TallyLemmas.{machine_at_set_same, machine_at_set_other, use_set, transient_set}
+use Rattle.ra_moves.proofs.ValueLemmas.{use_elsewhere}
+use Rattle.ra_shift.specs.Conditions.{shifted, HasRoom, HasRoomBetween}
+
+-- process p of an assignment that breaks nothing, and another machine
+pub record IsStart (st : Situation) (p to : ℕ) : Type 0 where
+  pub formed : WellFormed st.tables
+  pub small : Small st.tables
+  pub fits : IsAssignment st.tables st.here
+  pub feasible : IsFeasible st
+  pub known : p < process_count st.tables
+  pub reach : to < machine_count st.tables
+  pub apart : machine_at st.here p ≢ to
+
+-- where the processes are after the shift
+pub placed : (st : Situation) (p to : ℕ) → IsStart st p to → machine_at (shifted st.here p to) p ≡ to
+placed st p to h = machine_at_set_same st.here p (record { 0 = to }) (omega (arith, h.known, h.fits.one_each))
+
+pub others : (a : List Machine) (p to k : ℕ) → k ≢ p → machine_at (shifted a p to) k ≡ machine_at a k
+others a p to k apart = machine_at_set_other a p (record { 0 = to }) k apart
+
+-- use
+use_here : (i : Tables) (m r p at : ℕ) → at ≡ m → use_share i m r p at ≡ requirement_of i p r
+unfolding use_share
+use_here i m r p at same = cond-true (eqb at m) _ _ (eq-eqb at m same)
+
+pub use_entered : (st : Situation) (p to r : ℕ) → IsStart st p to →
+    use_of st.tables (shifted st.here p to) to r ≡ use_of st.tables st.here to r + requirement_of st.tables p r
+use_entered st p to r h =
+    omega (
+      arith,
+      use_set st.tables st.here p (record { 0 = to }) to r h.fits h.known,
+      use_elsewhere st.tables to r p (machine_at st.here p) h.apart,
+      use_here st.tables to r p to refl,
+    )
+
+pub use_left : (st : Situation) (p to r : ℕ) → IsStart st p to →
+    use_of st.tables (shifted st.here p to) (machine_at st.here p) r + requirement_of st.tables p r
+    ≡ use_of st.tables st.here (machine_at st.here p) r
+use_left st p to r h =
+    omega (
+      arith,
+      use_set st.tables st.here p (record { 0 = to }) (machine_at st.here p) r h.fits h.known,
+      use_elsewhere st.tables (machine_at st.here p) r p to (λ e. h.apart (sym e)),
+      use_here st.tables (machine_at st.here p) r p (machine_at st.here p) refl,
+    )
+
+pub use_other : (st : Situation) (p to m r : ℕ) → IsStart st p to → m ≢ to →
+    use_of st.tables (shifted st.here p to) m r ≤ use_of st.tables st.here m r
+use_other st p to m r h apart =
+    omega (
+      arith,
+      use_set st.tables st.here p (record { 0 = to }) m r h.fits h.known,
+      use_elsewhere st.tables m r p to
+          (λ e. apart (sym e)),
+    )
+
+-- transient use
+between_here : (i : Tables) (a0 : List Machine) (m r p at : ℕ) → at ≡ m →
+    transient_share i a0 m r p at ≡ requirement_of i p r
+unfolding transient_share
+between_here i a0 m r p at same = cond-true _ _ _ (or_right (eqb (machine_at a0 p) m) (eqb at m) (eq-eqb at m same))
+
+between_home : (i : Tables) (a0 : List Machine) (m r p at : ℕ) → machine_at a0 p ≡ m →
+    transient_share i a0 m r p at ≡ requirement_of i p r
+unfolding transient_share
+between_home i a0 m r p at home = cond-true _ _ _ (or_left (eqb (machine_at a0 p) m) (eqb at m) (eq-eqb _ m home))
+
+between_elsewhere : (i : Tables) (a0 : List Machine) (m r p at : ℕ) → machine_at a0 p ≢ m → at ≢ m →
+    transient_share i a0 m r p at ≡ 0
+unfolding transient_share
+between_elsewhere i a0 m r p at away apart =
+    cond-false _ _ _ (or_from (eqb (machine_at a0 p) m) (eqb at m) (ne_eqb _ m away) (ne_eqb at m apart))
+
+pub between_entered : (st : Situation) (p to r : ℕ) → IsStart st p to → machine_at st.start p ≢ to →
+    transient_of st.tables st.start (shifted st.here p to) to r ≡ transient_of st.tables st.start st.here to r
+    + requirement_of st.tables p r
+between_entered st p to r h away =
+    omega (
+      arith,
+      transient_set st.tables st.start st.here p (record { 0 = to }) to r h.fits h.known,
+      between_elsewhere st.tables st.start to r p (machine_at st.here p) away h.apart,
+      between_here st.tables st.start to r p to refl,
+    )
+
+between_returned : (st : Situation) (p to r : ℕ) → IsStart st p to → machine_at st.start p ≡ to →
+    transient_of st.tables st.start (shifted st.here p to) to r ≡ transient_of st.tables st.start st.here to r
+between_returned st p to r h home =
+    omega (
+      arith,
+      transient_set st.tables st.start st.here p (record { 0 = to }) to r h.fits h.known,
+      between_home st.tables st.start to r p (machine_at st.here p) home,
+      between_home st.tables st.start to r p to home,
+    )
+
+between_less : (st : Situation) (p to m r : ℕ) → to ≢ m →
+    transient_share st.tables st.start m r p to ≤ transient_share st.tables st.start m r p (machine_at st.here p)
+between_less st p to m r apart = ⊎_elim
+    (λ (home : machine_at st.start p ≡ m).
+    omega (
+      arith,
+      between_home st.tables st.start m r p to home,
+      between_home st.tables st.start m r p
+          (machine_at st.here p) home,
+    ))
+    (λ (away : machine_at st.start p ≢ m). omega (arith, between_elsewhere st.tables st.start m r p to away apart))
+    (cases_eq (machine_at st.start p) m)
+
+pub between_other : (st : Situation) (p to m r : ℕ) → IsStart st p to → m ≢ to →
+    transient_of st.tables st.start (shifted st.here p to) m r ≤ transient_of st.tables st.start st.here m r
+between_other st p to m r h apart =
+    omega (
+      arith,
+      transient_set st.tables st.start st.here p (record { 0 = to }) m r h.fits h.known,
+      between_less st p to m r (λ e. apart (sym e)),
+    )
+
+-- what the constraints say of the machine that is entered
+pub room_from : (st : Situation) (p to : ℕ) → IsStart st p to → IsFeasible (record st { here = shifted st.here p to }) →
+    HasRoom st.tables st.here p to
+room_from st p to h after = record {
+  each = λ r within. omega (arith, use_entered st p to r h, after.capacity to r h.reach within);
+}
+
+pub between_from : (st : Situation) (p to : ℕ) → IsStart st p to →
+    IsFeasible (record st { here = shifted st.here p to }) → HasRoomBetween st p to
+between_from st p to h after = record {
+  each = λ r within transient away.
+      omega (arith, between_entered st p to r h away, after.transient to r h.reach within transient);
+}
+
+-- and that this is all
+pub capacity_after : (st : Situation) (p to : ℕ) → IsStart st p to → HasRoom st.tables st.here p to →
+    (m r : ℕ) → m < machine_count st.tables → r < resource_count st.tables →
+    use_of st.tables (shifted st.here p to) m r ≤ capacity_of st.tables m r
+capacity_after st p to h room m r m_in r_in = ⊎_elim
+    (λ (same : m ≡ to). rw same (omega (arith, use_entered st p to r h, room.each r r_in)))
+    (λ (apart : m ≢ to). omega (arith, use_other st p to m r h apart, h.feasible.capacity m r m_in r_in))
+    (cases_eq m to)
+
+entered_between : (st : Situation) (p to : ℕ) → IsStart st p to → HasRoomBetween st p to →
+    (r : ℕ) → r < resource_count st.tables → IsTrue (transient_at st.tables r) →
+    transient_of st.tables st.start (shifted st.here p to) to r ≤
+    capacity_of st.tables to r
+entered_between st p to h room r r_in transient = ⊎_elim
+    (λ (home : machine_at st.start p ≡ to).
+    omega (arith, between_returned st p to r h home, h.feasible.transient to r h.reach r_in transient))
+    (λ (away : machine_at st.start p ≢ to).
+    omega (arith, between_entered st p to r h away, room.each r r_in transient away))
+    (cases_eq (machine_at st.start p) to)
+
+pub transient_after : (st : Situation) (p to : ℕ) → IsStart st p to → HasRoomBetween st p to →
+    (m r : ℕ) → m < machine_count st.tables → r < resource_count st.tables → IsTrue (transient_at st.tables r) →
+    transient_of st.tables st.start (shifted st.here p to) m r ≤ capacity_of st.tables m r
+transient_after st p to h room m r m_in r_in transient = ⊎_elim
+    (λ (same : m ≡ to). rw same (entered_between st p to h room r r_in transient))
+    (λ (apart : m ≢ to).
+    omega (arith, between_other st p to m r h apart, h.feasible.transient m r m_in r_in transient))
+    (cases_eq m to)

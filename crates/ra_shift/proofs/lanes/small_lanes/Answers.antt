@@ -1,0 +1,17 @@
+use Rattle.std.proofs.Common.{◌≡◌, ◌↔◌, ◌≤◌, ◌<◌, ◌^◌, get_or, leb, sym, subst, arith, w32}
+use Rattle.std.specs.Int.{bit_at}
+use Rattle.std.proofs.lemmas.Simd.{bitmask_splat}
+use Rattle.ra_shift.proofs.LaneLemmas.{bit_at-mask_l, mask_below}
+use Rattle.ra_shift.proofs.lanes.small_lanes.Goals as goal
+
+pub returns-clause-below : goal.returns-clause-below
+returns-clause-below c =
+    subst (λ m. m < 2 ^ 16) (sym (bitmask_splat w32 leb c.args.sums 16 c.args.limit c.fits-sums.0 (omega arith)))
+    (mask_below c.args.sums c.args.limit c.fits-sums.0)
+
+pub returns-clause-bits : goal.returns-clause-bits
+returns-clause-bits c k l =
+    let long = c.fits-sums.0 in
+    subst (λ m. (bit_at m k ≡ 1) ↔ (get_or c.args.sums k 0 ≤ c.args.limit))
+    (sym (bitmask_splat w32 leb c.args.sums 16 c.args.limit c.fits-sums.0 (omega arith)))
+    (bit_at-mask_l c.args.sums c.args.limit k (omega (arith, long)))

@@ -1,0 +1,188 @@
+-- The moved count of a service step by step, and the list of the counts.
+use Rattle.std.proofs.Common.{◌≡◌, ◌≢◌, ℕ, zero, suc, ◌+◌, ◌<◌, ◌≤◌, Bool, true, false, cond, eqb, not, List, [], ◌∷◌, ◌++◌, length, get_or, set, Option, Some, None, refl, sym, ap, ◌∙◌, ⊎_elim, add-one, arith, eq-eqb, get_or-set_same, get_or-set_other, length-append}
+use Rattle.std.proofs.lemmas.Bool.{cases_lt, cases_eq}
+use Rattle.std.proofs.lemmas.List.{get_or_append_left}
+use Rattle.std.proofs.Math.Seq.{get_or-append_seam}
+use Rattle.ra_base.specs.Sums.{one_if, is_named}
+use Rattle.ra_base.specs.declared.costs.MovedCount.{MovedCount}
+use Rattle.ra_base.specs.declared.ids.Machine.{Machine}
+use Rattle.ra_base.specs.declared.ids.Service.{Service}
+use Rattle.ra_base.proofs.Counts.{one_if_le}
+use Rattle.ra_model.specs.declared.raw.Tables.{Tables}
+use Rattle.ra_model.specs.Numbers.{service_of}
+use Rattle.ra_model.specs.Limits.{WellFormed}
+use Rattle.ra_model.specs.Assignments.{machine_at}
+use Rattle.ra_model.specs.Services.{is_of, of_service, members_at, moved_of}
+use Rattle.ra_model.specs.Situations.{Situation, situation, moved_at}
+use Rattle.ra_model.proofs.BoundLemmas.{moved_within}
+use Rattle.ra_cells.specs.Marks.{away}
+use Rattle.ra_moves.specs.declared.steps.Step.{Step}
+use Rattle.ra_moves.specs.Steps.{process_in, from_in, to_in}
+use Rattle.ra_moves.specs.Replacing.{after_steps, applied}
+use Rattle.ra_moves.specs.Touched.{service_in}
+use Rattle.ra_moves.specs.Weighing.{moved_count, services_moved, count_at}
+use Rattle.ra_moves.specs.Moving.{MayMove}
+use Rattle.ra_moves.proofs.StayLemmas.{of_other}
+use Rattle.ra_moves.proofs.MovedServices.{services_none, services_new, services_again, services_few, count_there, count_past}
+use Rattle.ra_weigh.specs.CountLists.{AreCountsOf}
+use Rattle.ra_weigh.proofs.MoveLemmas.{tally_next}
+
+-- a process of the service is counted if it isn't at home
+away_is : (b : Bool) → one_if (cond b false true) ≡ one_if (not b)
+away_is true = refl
+away_is false = refl
+
+mine_is : (i : Tables) (a0 : List Machine) (s p at : ℕ) → service_of i p ≡ s →
+    of_service i s (λ q m. cond (eqb (machine_at a0 q) m) false true) p at ≡ away (machine_at a0 p) at
+unfolding of_service is_of away
+mine_is i a0 s p at is = rw (eq-eqb (service_of i p) s is) (away_is (eqb (machine_at a0 p) at))
+
+-- a step of another service
+pub moved_kept : (st : Situation) (steps : List Step) (j s moved : ℕ) → MayMove st steps →
+    j < length steps → service_in st.tables steps j ≢ s →
+    moved ≡ moved_at (record st { here = after_steps st.here steps j }) s →
+    moved ≡ moved_at (situation st.tables st.start (after_steps st.here steps (j + 1))) s
+unfolding moved_of members_at service_in
+moved_kept st steps j s moved move within apart is =
+    let f = of_service st.tables s (λ q m. cond (eqb (machine_at st.start q) m) false true) in
+    omega (
+      arith,
+      is,
+      tally_next st.tables st.here steps f j move within,
+      of_other st.tables s (λ q m. cond (eqb (machine_at st.start q) m) false true) (process_in steps j)
+          (from_in steps j) apart,
+      of_other st.tables s (λ q m. cond (eqb (machine_at st.start q) m) false true) (process_in steps j) (to_in steps j)
+          apart,
+    )
+
+-- and one of this service
+pub moved_step : (st : Situation) (steps : List Step) (j s home from to : ℕ) → MayMove st steps →
+    j < length steps → service_in st.tables steps j ≡ s → home ≡ machine_at st.start (process_in steps j) →
+    from ≡ from_in steps j →
+    to ≡ to_in steps j → moved_at (situation st.tables st.start (after_steps st.here steps (j + 1))) s + away home from
+    ≡
+    moved_at (record st { here = after_steps st.here steps j }) s + away home to
+unfolding moved_of members_at service_in
+moved_step st steps j s home from to move within mine home_is from_is to_is =
+    rw (home_is, from_is, to_is) (omega (
+      arith,
+      tally_next st.tables st.here steps (of_service st.tables s
+          (λ q m. cond (eqb (machine_at st.start q) m) false true)) j move within,
+      mine_is st.tables st.start s (process_in steps j) (from_in steps j) mine,
+      mine_is st.tables st.start s (process_in steps j) (to_in steps j) mine,
+    ))
+
+pub away_few : (home at : ℕ) → away home at ≤ 1
+unfolding away
+away_few home at = one_if_le (not (eqb home at))
+
+pub moved_few : (st : Situation) (s moved : ℕ) → WellFormed st.tables → moved ≡ moved_at st s →
+    moved ≤ 50000
+moved_few st s moved limits is = omega (arith, is, moved_within st.tables st.start st.here s, limits.few_processes)
+
+-- a count as it is made
+pub count_made : (st : Situation) (steps : List Step) (s : Service) (before after n : ℕ) →
+    n ≡ length steps → before ≡ moved_at st s.0 → after ≡ moved_at (record st { here = after_steps st.here steps n })
+    s.0 →
+    (let c : MovedCount = record { service = s; before = before; after = after } in c) ≡ moved_count st steps s.0
+unfolding moved_count applied
+count_made st steps s before after n all is then =
+    ap (λ x. let c : MovedCount = record { service = s; before = x; after = after } in c) is
+    ∙ ap (λ x. let c : MovedCount = record {
+      service = s;
+      before = moved_at st s.0;
+      after = x;
+    } in c) (then ∙ ap (λ k. moved_at (record st { here = after_steps st.here steps k }) s.0) all)
+
+-- the list of counts
+
+nothing_at : (k : ℕ) → get_or {A = Option MovedCount} (None ∷ None ∷ None ∷ []) k None ≡ None
+nothing_at zero = refl
+nothing_at (suc zero) = refl
+nothing_at (suc (suc zero)) = refl
+nothing_at (suc (suc (suc k))) = refl
+
+pub counts_none : (st : Situation) (steps : List Step) →
+    AreCountsOf st steps 0 (None ∷ None ∷ None ∷ [])
+counts_none st steps = record {
+  each = λ k few. nothing_at k
+      ∙ sym (count_past st steps (services_moved st.tables steps 0) k
+      (omega (arith, ap length (services_none st.tables steps))));
+}
+
+pub filled_none : (i : Tables) (steps : List Step) → 0 ≡ length (services_moved i steps 0)
+filled_none i steps = sym (ap length (services_none i steps))
+
+pub counts_again : (st : Situation) (steps : List Step) (j s : ℕ)
+    (counts : List (Option MovedCount)) → s ≡ service_in st.tables steps j → is_named j (service_in st.tables steps) s
+    ≡ true →
+    AreCountsOf st steps j counts → AreCountsOf st steps (j + 1) counts
+counts_again st steps j s counts is again before = rw (add-one) (record {
+  each = λ k few. before.each k few
+      ∙ ap (λ xs. count_at st steps xs k) (sym (services_again st.tables steps j (rw is at again)));
+})
+
+pub filled_again : (i : Tables) (steps : List Step) (j s filled : ℕ) → s ≡ service_in i steps j →
+    is_named j (service_in i steps) s ≡ true → filled ≡ length (services_moved i steps j) →
+    filled ≡ length (services_moved i steps (j + 1))
+filled_again i steps j s filled is again before =
+    rw (add-one) (before ∙ ap length (sym (services_again i steps j (rw is at again))))
+
+pub filled_more : (i : Tables) (steps : List Step) (j s filled : ℕ) → s ≡ service_in i steps j →
+    is_named j (service_in i steps) s ≡ false → filled ≡ length (services_moved i steps j) →
+    filled + 1 ≡ length (services_moved i steps (j + 1))
+filled_more i steps j s filled is new before =
+    omega (
+      arith,
+      ap (λ k. length (services_moved i steps k)) (add-one j),
+      ap length (services_new i steps j (rw is at new)),
+      length-append (services_moved i steps j) (service_in i steps j ∷ []),
+    )
+
+pub filled_few : (i : Tables) (steps : List Step) (j filled : ℕ) → filled ≡ length (services_moved i steps j) →
+    j < length steps → length steps ≤ 3 → filled < 3
+filled_few i steps j filled is within few = omega (arith, services_few i steps j)
+
+-- the counts of a list with one service more
+pushed_before : (st : Situation) (steps : List Step) (xs : List ℕ) (s k : ℕ) → k < length xs →
+    count_at st steps (xs ++ s ∷ []) k ≡ count_at st steps xs k
+pushed_before st steps xs s k before =
+    count_there st steps (xs ++ s ∷ []) k (omega (arith, length-append xs (s ∷ [])))
+    ∙ ap (λ t. Some (moved_count st steps t)) (get_or_append_left xs (s ∷ []) 0 k before)
+    ∙ sym (count_there st steps xs k before)
+
+pushed_here : (st : Situation) (steps : List Step) (xs : List ℕ) (s : ℕ) →
+    count_at st steps (xs ++ s ∷ []) (length xs) ≡ Some (moved_count st steps s)
+pushed_here st steps xs s =
+    count_there st steps (xs ++ s ∷ []) (length xs) (omega (arith, length-append xs (s ∷ [])))
+    ∙ ap (λ t. Some (moved_count st steps t)) (get_or-append_seam xs s [] 0)
+
+pushed_behind : (st : Situation) (steps : List Step) (xs : List ℕ) (s k : ℕ) → length xs < k →
+    count_at st steps (xs ++ s ∷ []) k ≡ count_at st steps xs k
+pushed_behind st steps xs s k behind =
+    count_past st steps (xs ++ s ∷ []) k (omega (arith, length-append xs (s ∷ [])))
+    ∙ sym (count_past st steps xs k (omega arith))
+
+pub counts_more : (st : Situation) (steps : List Step) (j s filled : ℕ) (c : MovedCount)
+    (counts : List (Option MovedCount)) → s ≡ service_in st.tables steps j → is_named j (service_in st.tables steps) s
+    ≡ false →
+    filled ≡ length (services_moved st.tables steps j) → filled < length counts → c ≡ moved_count st steps s →
+    AreCountsOf st steps j counts → AreCountsOf st steps (j + 1) (set counts filled (Some c))
+counts_more st steps j s filled c counts is new so_far room made before = rw add-one (record { each = each })
+  where
+    xs : List ℕ
+    xs = services_moved st.tables steps j
+
+    each : (k : ℕ) → k < 3 → get_or (set counts filled (Some c)) k None ≡ count_at st steps
+        (services_moved st.tables steps (suc j)) k
+    each k few = rw (services_new st.tables steps j (rw is at new)) (⊎_elim
+        (λ (here : k ≡ filled). ap (λ l. get_or (set counts filled (Some c)) l None) here
+        ∙ get_or-set_same counts filled (Some c) None room ∙ ap (λ x. Some x) made
+        ∙ ap (λ t. Some (moved_count st steps t)) is
+        ∙ sym (pushed_here st steps xs (service_in st.tables steps j))
+        ∙ ap (count_at st steps (xs ++ service_in st.tables steps j ∷ [])) (sym so_far ∙ sym here))
+        (λ (apart : k ≢ filled). get_or-set_other counts filled k (Some c) None apart ∙ before.each k few ∙ ⊎_elim
+        (λ (earlier : k < length xs). sym (pushed_before st steps xs (service_in st.tables steps j) k earlier))
+        (λ (later : length xs ≤ k). sym (pushed_behind st steps xs (service_in st.tables steps j) k (omega arith)))
+        (cases_lt k (length xs)))
+        (cases_eq k filled))

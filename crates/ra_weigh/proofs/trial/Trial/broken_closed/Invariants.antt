@@ -1,0 +1,15 @@
+-- Nothing so far.
+use Rattle.std.proofs.Common.{◌-◌}
+use Rattle.ra_model.specs.Numbers.{process_count}
+use Rattle.ra_model.specs.Broken.{closed_test}
+use Rattle.ra_weigh.specs.Searching.{Sought}
+use Rattle.ra_weigh.specs.Trials.{tables_of, initial_of, after_of}
+use Rattle.ra_weigh.proofs.trial.Trial.broken_closed.Given as goal
+
+abbrev pub invariant-loop-low : goal.invariant-loop-low
+invariant-loop-low l =
+    Sought (process_count (tables_of l.self)) (closed_test (tables_of l.self) (initial_of l.self) (after_of l.self))
+    l.low
+
+abbrev pub decreases-loop-low : goal.decreases-loop-low
+decreases-loop-low l = process_count (tables_of l.self) - l.low

@@ -1,0 +1,45 @@
+-- One resource after another.
+use Rattle.std.proofs.Common.{◌≡◌, ◌<◌, ◌∙◌, sym, arith}
+use Rattle.ra_base.proofs.Searches.{first_none, first_more_none, first_found}
+use Rattle.ra_model.specs.Numbers.{resource_count}
+use Rattle.ra_model.specs.Broken.{capacity_test, row_capacity}
+use Rattle.ra_weigh.specs.Trials.{tables_of, before_of, after_of}
+use Rattle.ra_weigh.proofs.CauseRowLemmas.{used_here}
+use Rattle.ra_weigh.proofs.trial.Trial.capacity_by_steps.Goals as goal
+
+pub loop-r-init : goal.loop-r-init
+loop-r-init c = first_none _
+
+pub use_after-used-requires : goal.use_after-used-requires
+use_after-used-requires c =
+    let t = c.args.self.now in
+    let within : c.loop-r.r < resource_count (tables_of t) =
+    omega (arith, c.loop-r-test.true, c.resources-r-end.ensures) in
+    record {
+      resource = within;
+      kept = used_here (tables_of t) t.rows.now.tables (before_of t) c.args.m.0 c.loop-r.r c.usage_row-row.result.now
+          t.rows_tables (c.usage_row-row.ensures.values _ t.rows_stand) within;
+      below = c.usage_row-row.ensures.below.each c.loop-r.r;
+    }
+
+pub returns-in-Some : goal.returns-in-Some
+unfolding row_capacity
+returns-in-Some c =
+    let t = c.args.self.now in
+    let within : c.loop-r.r < resource_count (tables_of t) =
+    omega (arith, c.loop-r-test.true, c.resources-r-end.ensures) in
+    sym (first_found c.loop-r.r (resource_count (tables_of t)) (capacity_test (tables_of t) (after_of t) c.args.m.0)
+    c.in-Some.cause within c.loop-r.invariant (sym c.capacity_test.ensures ∙ c.in-Some.is))
+
+pub loop-r-preserved : goal.loop-r-preserved
+loop-r-preserved c =
+    let t = c.args.self.now in
+    first_more_none c.loop-r.r (capacity_test (tables_of t) (after_of t) c.args.m.0) c.loop-r.invariant
+    (sym c.capacity_test.ensures ∙ c.in_default.is)
+
+pub returns : goal.returns
+unfolding row_capacity
+returns c =
+    let all : c.loop-r.r ≡ resource_count (tables_of c.args.self.now) =
+    omega (arith, c.loop-r-test.false, c.loop-r.auto.r-end, c.resources-r-end.ensures) in
+    sym (rw all at c.loop-r.invariant)

@@ -1,0 +1,9 @@
+-- Nothing so far.
+use Rattle.std.proofs.Common.{◌≡◌, None}
+use Rattle.ra_base.specs.Searches.{first}
+use Rattle.ra_model.specs.Broken.{capacity_test}
+use Rattle.ra_weigh.specs.Trials.{tables_of, after_of}
+use Rattle.ra_weigh.proofs.trial.Trial.capacity_by_steps.Given as goal
+
+abbrev pub invariant-loop-r : goal.invariant-loop-r
+invariant-loop-r l = first l.r (capacity_test (tables_of l.self) (after_of l.self) l.m.0) ≡ None

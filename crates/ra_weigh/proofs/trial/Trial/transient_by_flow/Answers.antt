@@ -1,0 +1,65 @@
+-- One resource after another, with what comes and without what goes.
+use Rattle.std.proofs.Common.{◌≡◌, ◌<◌, ◌∙◌, sym, arith}
+use Rattle.ra_base.proofs.Searches.{first_none, first_more_none, first_found}
+use Rattle.ra_model.specs.Numbers.{resource_count}
+use Rattle.ra_model.specs.Usage.{transient_share, transient_of}
+use Rattle.ra_model.specs.Broken.{transient_test, row_transient}
+use Rattle.ra_weigh.specs.Trials.{tables_of, initial_of, steps_of, before_of, after_of}
+use Rattle.ra_weigh.proofs.FlowLemmas.{flow_sum}
+use Rattle.ra_weigh.proofs.CauseRowLemmas.{between_here}
+use Rattle.ra_weigh.proofs.trial.Trial.transient_by_flow.Goals as goal
+
+pub loop-r-init : goal.loop-r-init
+loop-r-init c = first_none _
+
+pub overflow_sub-used : goal.overflow_sub-used
+unfolding transient_of
+overflow_sub-used c =
+    let t = c.args.self.now in
+    let within : c.loop-r.r < resource_count (tables_of t) =
+    omega (arith, c.loop-r-test.true, c.resources-r-end.ensures) in
+    omega (
+      arith,
+      flow_sum (tables_of t) (before_of t) (steps_of t) (transient_share (tables_of t) (initial_of t) c.args.m.0) c.loop-r.r _ _ _ _ _ t.moves c.requires.flow within
+          (between_here (tables_of t) t.rows.now.tables (initial_of t) t.rows.now.start (before_of t) c.args.m.0 c.loop-r.r c.transient_row-row.result.now t.rows_tables t.rows_start
+          (c.transient_row-row.ensures.values _ t.rows_stand) within) c.from.ensures c.from-in-loop-r.ensures,
+    )
+
+pub transient_test-requires : goal.transient_test-requires
+unfolding transient_of
+transient_test-requires c =
+    let t = c.args.self.now in
+    let within : c.loop-r.r < resource_count (tables_of t) =
+    omega (arith, c.loop-r-test.true, c.resources-r-end.ensures) in
+    record {
+      machine = c.requires.machine;
+      resource = within;
+      used = omega (
+        arith,
+        flow_sum (tables_of t) (before_of t) (steps_of t) (transient_share (tables_of t) (initial_of t) c.args.m.0) c.loop-r.r _ _ _ _ _ t.moves c.requires.flow within
+            (between_here (tables_of t) t.rows.now.tables (initial_of t) t.rows.now.start (before_of t) c.args.m.0 c.loop-r.r c.transient_row-row.result.now t.rows_tables t.rows_start
+            (c.transient_row-row.ensures.values _ t.rows_stand) within) c.from.ensures c.from-in-loop-r.ensures,
+      );
+    }
+
+pub returns-in-Some : goal.returns-in-Some
+unfolding row_transient
+returns-in-Some c =
+    let t = c.args.self.now in
+    let within : c.loop-r.r < resource_count (tables_of t) =
+    omega (arith, c.loop-r-test.true, c.resources-r-end.ensures) in
+    sym (first_found c.loop-r.r (resource_count (tables_of t)) (transient_test (tables_of t) (initial_of t) (after_of t) c.args.m.0)
+    c.in-Some.cause within c.loop-r.invariant (sym c.transient_test.ensures ∙ c.in-Some.is))
+
+pub loop-r-preserved : goal.loop-r-preserved
+loop-r-preserved c =
+    let t = c.args.self.now in
+    first_more_none c.loop-r.r (transient_test (tables_of t) (initial_of t) (after_of t) c.args.m.0) c.loop-r.invariant
+    (sym c.transient_test.ensures ∙ c.in_default.is)
+
+pub returns : goal.returns
+unfolding row_transient
+returns c =
+    let all : c.loop-r.r ≡ resource_count (tables_of c.args.self.now) =
+    omega (arith, c.loop-r-test.false, c.loop-r.auto.r-end, c.resources-r-end.ensures) in
+    sym (rw all at c.loop-r.invariant)

@@ -1,0 +1,13 @@
+pub mod RowChanges
+pub mod EndCosts
+pub mod PlaceCosts
+pub mod CountLists
+pub mod Room
+pub mod Below
+pub mod Exchanges
+pub mod Flowing
+pub mod Holding
+pub mod Marks
+pub mod Nearness
+pub mod Searching
+pub mod Trials

@@ -1,0 +1,31 @@
+//! The weighing of a move, from what its steps change: the cost of one that breaks nothing, and the cause for which a
+//! move is refused. It looks only at what the move touches, makes no second assignment and takes no memory.
+#![tactic(auto)]
+
+mod amounts;
+mod broken;
+mod capacity;
+mod changes;
+mod closed;
+mod costs;
+mod counts;
+mod dependency;
+mod ends;
+mod exchanges;
+mod far;
+mod flows;
+mod holding;
+mod locations;
+mod marks;
+mod next_ends;
+mod room;
+mod rows;
+mod services;
+mod trial;
+mod values;
+mod ways;
+
+pub use broken::{first_broken, is_unbroken};
+pub use changes::changed_by;
+pub use costs::cost_after_move;
+pub use room::has_room;

@@ -1,7 +1,0 @@
--- The steps so far keep the service near the one that it needs.
-use Rattle.ra_weigh_causes.specs.Nearness.{StaysNear}
-use Rattle.ra_weigh_causes.specs.Trials.{tables_of, steps_of, after_of}
-use Rattle.ra_weigh_causes.proofs.trial.Trial.stays_near.Given as goal
-
-abbrev pub invariant-loop-j : goal.invariant-loop-j
-invariant-loop-j l = StaysNear (tables_of l.self) (after_of l.self) (steps_of l.self) l.s.0 l.need.0 l.j

@@ -1,9 +1,0 @@
--- What the steps so far add and take.
-use Rattle.std.proofs.Common.{◌^◌}
-use Rattle.ra_model.specs.Usage.{use_share}
-use Rattle.ra_weigh_causes.specs.Trials.{tables_of, steps_of}
-use Rattle.ra_weigh_causes.proofs.FlowLemmas.{Flows}
-use Rattle.ra_weigh_causes.proofs.trial.Trial.use_after.Given as goal
-
-abbrev pub invariant-loop-j : goal.invariant-loop-j
-invariant-loop-j l = Flows (use_share (tables_of l.self) l.m.0 l.r.0) (steps_of l.self) l.j (2 ^ 32) l.came l.went

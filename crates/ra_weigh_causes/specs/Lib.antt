@@ -1,6 +1,0 @@
-pub mod Flowing
-pub mod Holding
-pub mod Marks
-pub mod Nearness
-pub mod Searching
-pub mod Trials

@@ -1,6 +1,0 @@
--- The first numbers are more.
-use Rattle.ra_weigh_changes.proofs.RowLemmas.{MoreTo}
-use Rattle.ra_weigh_changes.proofs.rows.add_row.Given as goal
-
-abbrev pub invariant-loop-r : goal.invariant-loop-r
-invariant-loop-r l = MoreTo l.r l.initial.row l.row l.amounts

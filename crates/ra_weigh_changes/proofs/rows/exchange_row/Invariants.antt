@@ -1,6 +1,0 @@
--- The first numbers have followed.
-use Rattle.ra_weigh_changes.proofs.RowLemmas.{ExchangedTo}
-use Rattle.ra_weigh_changes.proofs.rows.exchange_row.Given as goal
-
-abbrev pub invariant-loop-r : goal.invariant-loop-r
-invariant-loop-r l = ExchangedTo l.r l.used l.row l.come l.gone

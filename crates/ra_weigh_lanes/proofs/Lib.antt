@@ -1,4 +1,0 @@
-pub mod LaneLemmas
-pub mod RingLemmas
-pub mod SumLemmas
-pub mod WindowLemmas

@@ -1,8 +1,0 @@
-use Rattle.std.proofs.Common.{replicate, refl, get_or, ap, ◌*◌, ◌%◌, ◌^◌}
-use Rattle.std.proofs.lemmas.Simd.{get_or-replicate}
-use Rattle.ra_weigh_lanes.proofs.LaneLemmas.{HasLanes-zip2}
-use Rattle.ra_weigh_lanes.proofs.lanes.weigh.Goals as goal
-
-pub returns : goal.returns
-returns c = HasLanes-zip2 (λ a b. a * b % 2 ^ 32) (replicate 16 c.args.weight) c.args.numbers _ refl c.fits-numbers.0
-    (λ k l. ap (λ w. w * get_or c.args.numbers k 0 % 2 ^ 32) (get_or-replicate 16 k c.args.weight 0 l))

@@ -1,3 +1,0 @@
-pub mod MovedAfter
-pub mod Settles
-pub mod ChangedCounts

@@ -1,7 +1,0 @@
-pub mod Arriving
-pub mod Conditions
-pub mod Filter
-pub mod Finding
-pub mod Lanes
-pub mod Leaving
-pub mod Sharing

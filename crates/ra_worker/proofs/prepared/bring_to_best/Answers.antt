@@ -1,0 +1,31 @@
+use Rattle.std.proofs.Common.{◌≤◌, length, sym, subst, arith}
+use Rattle.ra_model.specs.declared.numbers.Instance.{Instance}
+use Rattle.ra_model.specs.Assignments.{IsAssignment}
+use Rattle.ra_journal.proofs.EndLemmas.{sound_at}
+use Rattle.ra_worker.proofs.RunLemmas.{within_journal}
+use Rattle.ra_worker.proofs.prepared.bring_to_best.Goals as goal
+
+pub restore-requires-clause-within : goal.restore-requires-clause-within
+restore-requires-clause-within c =
+    let journal = c.args.journal.now in
+    omega (
+      arith,
+      c.best_at.ensures,
+      within_journal journal.inst.now.tables journal.a0.now.items
+          journal.book.entries.items,
+    )
+
+pub parts-requires-clause-fits : goal.parts-requires-clause-fits
+parts-requires-clause-fits c =
+    let journal = c.args.journal.now in
+    let within : c.best_at.result ≤ length journal.book.entries.items =
+    omega (
+      arith,
+      c.best_at.ensures,
+      within_journal journal.inst.now.tables journal.a0.now.items
+          journal.book.entries.items,
+    ) in
+    let sound = sound_at journal.inst.now.tables journal.a0.now.items journal.lots.now journal.book.entries.items
+    c.best_at.result journal.start journal.kept.legal within in
+    subst (λ (i : Instance). IsAssignment i.tables c.restore.new.best.items) (sym c.instance.ensures)
+    (subst (IsAssignment journal.inst.now.tables) (sym c.restore.ensures.items) sound.assignment)

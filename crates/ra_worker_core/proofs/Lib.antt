@@ -1,4 +1,0 @@
-pub mod AllLemmas
-pub mod CoreLemmas
-pub mod TurnLemmas
-pub mod UptoLemmas

@@ -1,6 +1,0 @@
--- The replicas of the workers so far.
-use Rattle.ra_worker_core.proofs.AllLemmas.{AreFirst}
-use Rattle.ra_worker_core.proofs.all.make_replicas.Given as goal
-
-abbrev pub invariant-loop-worker : goal.invariant-loop-worker
-invariant-loop-worker l = AreFirst l.inst.tables l.a0.items l.lots l.worker l.replicas.items

@@ -1,3 +1,0 @@
-pub mod Core
-pub mod Replicas
-pub mod Turns

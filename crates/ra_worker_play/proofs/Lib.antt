@@ -1,4 +1,0 @@
-pub mod StepLemmas
-pub mod PlayLemmas
-pub mod PlayedLemmas
-pub mod RoundLemmas

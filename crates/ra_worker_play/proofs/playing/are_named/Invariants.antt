@@ -1,8 +1,0 @@
--- The events so far name workers.
-use Rattle.std.proofs.Common.{ℕ, ◌<◌}
-use Rattle.ra_journal.specs.Entries.{worker_count}
-use Rattle.ra_worker_core.specs.Core.{worker_of_event, event_at}
-use Rattle.ra_worker_play.proofs.playing.are_named.Given as goal
-
-abbrev pub invariant-loop-n : goal.invariant-loop-n
-invariant-loop-n l = (k : ℕ) → k < l.n → worker_of_event (event_at l.events.items k) < worker_count l.lots

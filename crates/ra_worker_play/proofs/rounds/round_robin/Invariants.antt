@@ -1,9 +1,0 @@
--- Each worker has an entry for each round so far, or all of its budget.
-use Rattle.ra_worker_play.specs.Rounds.{HaveAllMade, PlaysOn}
-use Rattle.ra_worker_play.proofs.rounds.round_robin.Given as goal
-
-abbrev pub invariant-loop-round : goal.invariant-loop-round
-invariant-loop-round l = record {
-  made : HaveAllMade l.journal l._round;
-  played : PlaysOn l.fn.journal l.journal l.fn.replicas.items l.replicas.items;
-}

@@ -1,3 +1,0 @@
-mod FirstLemmas
-mod PassLemmas
-mod TurnLemmas

@@ -1,5 +1,0 @@
--- The ledger is that of the given blank.
-use Rattle.test_state.proofs.model.the_sample_is_read_back.Given as goal
-
-abbrev pub ghosts-of_process : goal.ghosts-of_process
-ghosts-of_process g a = record { name = a.blank.name; parts = a.blank.parts }

@@ -1,5 +1,0 @@
--- The counter is that of the blank.
-use Rattle.test_state.proofs.rows.go.Given as goal
-
-abbrev pub ghosts-shift_once : goal.ghosts-shift_once
-ghosts-shift_once g a = record { name = a.blank.name; parts = a.blank.parts }

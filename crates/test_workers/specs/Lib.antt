@@ -1,0 +1,5 @@
+pub mod Laws
+pub mod Plays
+pub mod Rounds
+pub mod FirstPlans
+pub mod Passing
