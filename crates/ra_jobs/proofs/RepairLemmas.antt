@@ -14,12 +14,13 @@ use Rattle.ra_model.specs.Broken.{first_broken}
 use Rattle.ra_model.specs.Feasible.{Feasible}
 use Rattle.ra_model.proofs.BrokenLemmas.{unbroken_from_feasible}
 use Rattle.ra_repair.specs.declared.repair.Repair.{Repair}
+use Rattle.ra_repair.specs.declared.tries.Try.{Try}
 use Rattle.ra_repair.specs.Penalty.{penalty}
 use Rattle.ra_repair.specs.Repairs.{IsRepaired}
 use Rattle.ra_repair.specs.Runs.{Repaired, repair_run}
 use Rattle.ra_repair.proofs.ZeroLemmas as zero
 use Rattle.ra_repair.proofs.RunLemmas as run
-use Rattle.ra_report.specs.RepairTexts.{text_of_repair}
+use Rattle.ra_report.specs.RepairTexts.{text_of_repair, repair_lines}
 use Rattle.ra_io.specs.Outside.{Reading, Took}
 use Rattle.ra_jobs.specs.declared.refusals.File.TheVariants as file
 use Rattle.ra_jobs.specs.declared.refusals.Refusal.{Refusal}
@@ -69,6 +70,14 @@ tried i a0 lot r broken sent limits repaired instance initial of_lot fits is fea
     let all : r.tries.items ≡ (repair_run i a0 lot).tries = ap (λ (x : Repaired). x.tries) run_is in
     let first : first_broken i a0 (repair_run i a0 lot).assignment ≡ broken = ap (first_broken i a0) (sym last)
     ∙ sym is in
+    let now = r.kept.assignment.items in
+    let tries = r.tries.items in
+    let text_is : text_of_repair r ≡ repair_lines broken (repair_run i a0 lot).assignment (repair_run i a0 lot).tries =
+    ap (λ (t : Tables). repair_lines (first_broken t r.start.now.items now) now tries) instance
+    ∙ ap (λ (b : List Machine). repair_lines (first_broken i b now) now tries) initial
+    ∙ ap (λ (c : Option Cause). repair_lines c now tries) (sym is)
+    ∙ ap (λ (b : List Machine). repair_lines broken b tries) last
+    ∙ ap (λ (t : List Try). repair_lines broken (repair_run i a0 lot).assignment t) all in
     record {
       is = first;
       feasible = λ none. subst (Feasible i a0) last (feasible none);
@@ -76,7 +85,7 @@ tried i a0 lot r broken sent limits repaired instance initial of_lot fits is fea
           run.uses_its_budget i a0 lot
           (some_penalty i a0 (repair_run i a0 lot).assignment broken limits (subst (IsAssignment i) last fits) first
           some);
-      text = rw (instance, initial, sym is, last, all) at text;
+      text = subst sent text_is text;
     }
 
 -- what a run of tries gives, and the constraint that was found in its last list

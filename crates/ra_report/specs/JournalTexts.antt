@@ -20,6 +20,7 @@ use Rattle.ra_journal.specs.declared.journal.Journal.{Journal}
 use Rattle.ra_journal.specs.Entries.{entry_at}
 use Rattle.ra_journal.specs.States.{state}
 use Rattle.ra_journal.specs.Best.{best_of}
+use Rattle.ra_journal.specs.Journals.{entries_in, lots_in, start_in, tables_in}
 use Rattle.ra_report.specs.Texts.{space, line_end, number_text, number_line, parts_text, with_one, cause_text}
 pub use Rattle.ra_report.specs.Texts.{machine_word}
 unfoldable pub use Rattle.ra_report.specs.Texts.{machines_text, assignment_line}
@@ -109,21 +110,21 @@ report_head i a0 l h =
 -- the best state of a journal, its report, and the ten lines before the entries
 unfoldable pub best_state : Journal → List Machine
 best_state j =
-    state j.a0.now.items j.book.entries.items
-    (best_of j.inst.now.tables j.a0.now.items j.book.entries.items)
+    state (start_in j) (entries_in j)
+    (best_of (tables_in j) (start_in j) (entries_in j))
 
 -- the parts of an assignment's cost, and the bound of the start with the load of the pinned processes
 abbrev pub parts_in : Journal → List Machine → Parts
-parts_in j a = parts_of j.inst.now.tables j.a0.now.items a
+parts_in j a = parts_of (tables_in j) (start_in j) a
 
 abbrev pub bound_in : Journal → Bound
-bound_in j = pinned_bound_of j.inst.now.tables j.a0.now.items
+bound_in j = pinned_bound_of (tables_in j) (start_in j)
 
 unfoldable pub text_of : Journal → List ℕ
-text_of j = report_text j.inst.now.tables j.a0.now.items j.lots.now j.book.entries.items
+text_of j = report_text (tables_in j) (start_in j) (lots_in j) (entries_in j)
 
 unfoldable pub head_of : Journal → List ℕ
-head_of j = report_head j.inst.now.tables j.a0.now.items j.lots.now j.book.entries.items
+head_of j = report_head (tables_in j) (start_in j) (lots_in j) (entries_in j)
 
 -- the line for a report that was found right: the number of its entries
 abbrev pub accepted_line : ℕ → List ℕ

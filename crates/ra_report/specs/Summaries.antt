@@ -11,6 +11,7 @@ use Rattle.ra_journal.specs.declared.entries.Entry.{Entry}
 use Rattle.ra_journal.specs.declared.journal.Journal.{Journal}
 use Rattle.ra_journal.specs.States.{state}
 use Rattle.ra_journal.specs.Best.{best_of}
+use Rattle.ra_journal.specs.Journals.{entries_in, start_in, tables_in}
 use Rattle.ra_report.specs.JournalTexts.{outcome_text}
 use Rattle.ra_report.specs.Texts.{number_line}
 
@@ -40,4 +41,4 @@ summary_text i a0 h =
     summary_lines (parts_of i a0 (state a0 h j)) (pinned_bound_of i a0).total j h
 
 unfoldable pub summary_of : Journal → List ℕ
-summary_of j = summary_text j.inst.now.tables j.a0.now.items j.book.entries.items
+summary_of j = summary_text (tables_in j) (start_in j) (entries_in j)

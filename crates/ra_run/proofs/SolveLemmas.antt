@@ -1,5 +1,5 @@
 -- What is printed of a run meets the headline.
-use Rattle.std.proofs.Common.{◌≡◌, ℕ, suc, List, length, Option, Some, IsSome, refl, sym, ap₂, ◌∙◌, arith, Result, IfSome}
+use Rattle.std.proofs.Common.{◌≡◌, ℕ, suc, List, length, Option, Some, IsSome, refl, sym, ap, ap₂, ◌∙◌, subst, arith, Result, IfSome}
 use Rattle.ra_base.specs.Searches.{least_place}
 use Rattle.ra_base.specs.declared.ids.Machine.{Machine}
 use Rattle.ra_base.proofs.Least.{least_means, least_there}
@@ -48,7 +48,12 @@ run_told i a0 l run sent is start text = record {
   journal = run.journal.book.entries.items;
   legal = is.legal;
   whole = is.whole;
-  text = rw (is.instance, is.initial, is.lots) at text;
+  text = subst sent
+      (ap (λ (t : Tables). report_text t run.journal.a0.now.items run.journal.lots.now
+      run.journal.book.entries.items) is.instance
+      ∙ ap (λ (a : List Machine). report_text i a run.journal.lots.now run.journal.book.entries.items) is.initial
+      ∙ ap (λ (x : Lots). report_text i a0 x run.journal.book.entries.items) is.lots)
+      text;
 }
 
 -- what the report asks for is what is known of a run

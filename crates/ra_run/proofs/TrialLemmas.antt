@@ -7,6 +7,7 @@ use Rattle.ra_draws.specs.declared.budgets.Lots.{Lots}
 use Rattle.ra_draws.specs.declared.sources.Lot.{Lot}
 use Rattle.ra_draws.specs.declared.sources.Source.TheVariants.{Seed, Written}
 use Rattle.ra_draws.specs.Lots.{IsLots, lot_at}
+use Rattle.ra_journal.specs.declared.entries.Entry.{Entry}
 use Rattle.ra_journal.specs.Entries.{worker_count}
 use Rattle.ra_journal.specs.Solo.{solo}
 use Rattle.ra_journal.proofs.SoloLemmas.{one_lot}
@@ -18,7 +19,7 @@ use Rattle.ra_assign.specs.Lists.{IsAssignmentOf}
 use Rattle.ra_assign.proofs.AssignLemmas.{assign_accepts}
 use Rattle.ra_worker.specs.declared.solved.Solved.{Solved as Run}
 use Rattle.ra_worker.specs.Runs.{IsRun}
-use Rattle.ra_report.specs.Summaries.{summary_of}
+use Rattle.ra_report.specs.Summaries.{summary_of, summary_text}
 use Rattle.ra_trial.specs.Instances.{IsTrial, start_list}
 use Rattle.ra_trial.specs.Numbers.{trial_word}
 use Rattle.ra_trial.specs.Trials.{trial_model_text, start_text}
@@ -154,7 +155,11 @@ unfolding summary_of
 summarized i a0 l run sent is one text =
     let alone : run.journal.book.entries.items ≡ solo i a0 l =
     (one_lot i a0 l one).no_other run.journal.book.entries.items (record { legal = is.legal; whole = is.whole }) in
-    rw (is.instance, is.initial, alone) at text
+    subst sent
+    (ap (λ (t : Tables). summary_text t run.journal.a0.now.items run.journal.book.entries.items) is.instance
+    ∙ ap (λ (a : List Machine). summary_text i a run.journal.book.entries.items) is.initial
+    ∙ ap (λ (h : List Entry). summary_text i a0 h) alone)
+    text
 
 pub trial_printed : (number : ℕ) (i : Tables) (a0 : List Machine) (l : Lots) (sent : List ℕ → Type 0) →
     IsTrialStart number i a0 → IsTrialLots number l → IsSummarized i a0 l sent → TrialPrinted number sent

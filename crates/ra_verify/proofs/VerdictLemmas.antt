@@ -40,7 +40,10 @@ head_at bytes head place n k is within =
 pub head_is : (i : Tables) (a0 : List Machine) (l : Lots) (j : Journal) → j.inst.now.tables ≡ i → j.a0.now.items ≡ a0 →
     j.lots.now ≡ l → head_of j ≡ report_head i a0 l j.book.entries.items
 unfolding head_of
-head_is i a0 l j inst initial lots = rw (inst, initial, lots) refl
+head_is i a0 l j inst initial lots =
+    ap (λ (t : Tables). report_head t j.a0.now.items j.lots.now j.book.entries.items) inst
+    ∙ ap (λ (a : List Machine). report_head i a j.lots.now j.book.entries.items) initial
+    ∙ ap (λ (x : Lots). report_head i a0 x j.book.entries.items) lots
 
 pub accepted : (i : Tables) (a0 : List Machine) (l : Lots) (bytes head : List ℕ) (place lines n : ℕ) (j : Journal) →
     j.inst.now.tables ≡ i → j.a0.now.items ≡ a0 → j.lots.now ≡ l → IsHead bytes place lines head →

@@ -5,6 +5,7 @@ use Rattle.ra_journal.specs.declared.entries.Entry.{Entry}
 use Rattle.ra_journal.specs.declared.replies.Reply.TheVariants.{Recorded, Stale}
 use Rattle.ra_journal.specs.Entries.{entry_at, worker_count}
 use Rattle.ra_journal.specs.Legal.{Legal}
+use Rattle.ra_journal.specs.Journals.{entries_in, initial_in, instance_in, lots_in, start_in, tables_in}
 use Rattle.ra_report.specs.JournalTexts.{entry_line}
 use Rattle.ra_worker.specs.declared.events.CoreReply.{CoreReply}
 use Rattle.ra_worker.specs.declared.events.CoreReply.TheVariants.{Took, Answer, Skipped}
@@ -22,19 +23,19 @@ pub record NoneIsPast (l : Lots) (h : List Entry) (c : Core) : Type 0 where
 
 -- the entries of a checker, and its core
 abbrev pub checker_entries : Checker → List Entry
-checker_entries c = c.journal.book.entries.items
+checker_entries c = entries_in c.journal
 
 abbrev pub checker_core : Checker → Core
-checker_core c = core_of c.journal.book.entries.items c.replicas.items
+checker_core c = core_of (entries_in c.journal) c.replicas.items
 
 -- a checker can take entries in
 abbrev pub IsOpen : Checker → Type 0
-IsOpen c = NoneIsPast c.journal.lots.now (checker_entries c) (checker_core c)
+IsOpen c = NoneIsPast (lots_in c.journal) (checker_entries c) (checker_core c)
 
 -- entry e may follow the entries of a checker
 abbrev pub MayFollow : Checker → Entry → Type 0
 MayFollow c e =
-    Legal c.journal.inst.now.tables c.journal.a0.now.items c.journal.lots.now
+    Legal (tables_in c.journal) (start_in c.journal) (lots_in c.journal)
     (checker_entries c ++ e ∷ [])
 
 -- a checker has taken in an entry that may follow, and can take in the next
@@ -50,9 +51,9 @@ pub record HasTakenSomeEntry (before after : Checker) : Type 0 where
 
 -- a checker has the same instance, initial assignment and lots as another
 pub record IsSameRun (before after : Checker) : Type 0 where
-  pub instance : after.journal.inst.now ≡ before.journal.inst.now
-  pub initial : after.journal.a0.now ≡ before.journal.a0.now
-  pub lots : after.journal.lots.now ≡ before.journal.lots.now
+  pub instance : instance_in after.journal ≡ instance_in before.journal
+  pub initial : initial_in after.journal ≡ initial_in before.journal
+  pub lots : lots_in after.journal ≡ lots_in before.journal
 
 -- a checker has taken in an entry whose line this is
 pub record HasTakenLine (before after : Checker) (line : List ℕ) : Type 0 where
@@ -62,7 +63,7 @@ pub record HasTakenLine (before after : Checker) (line : List ℕ) : Type 0 wher
 
 -- a worker exists, and its replica hasn't gone past a place of the journal
 pub record MayStand (c : Checker) (w q : ℕ) : Type 0 where
-  pub worker : w < worker_count c.journal.lots.now
+  pub worker : w < worker_count (lots_in c.journal)
   pub place : q ≤ length (checker_entries c)
   pub ahead : core_place_of (checker_core c) w ≤ q
 

@@ -10,6 +10,7 @@ use Rattle.ra_token.specs.Lines.{lines_of}
 use Rattle.ra_token.specs.Reading.{Reads}
 use Rattle.ra_token.specs.LineStanding.{Standing}
 use Rattle.ra_journal.specs.declared.entries.Entry.{Entry}
+use Rattle.ra_journal.specs.Journals.{lots_in, start_in, tables_in}
 use Rattle.ra_model.specs.Situations.{Situation, situation}
 use Rattle.ra_verify.specs.declared.checker.Checker.{Checker}
 use Rattle.ra_verify.specs.declared.faults.VerifyFault.{VerifyFault}
@@ -34,17 +35,17 @@ pub record TellsVerdict (i : Tables) (a0 : List Machine) (l : Lots) (files : Rea
 -- this holds of the run of a checker
 abbrev pub TellsOf : Checker → Reading → List ℕ → Result ℕ VerifyFault → Type 0
 TellsOf c files name told =
-    TellsVerdict c.journal.inst.now.tables c.journal.a0.now.items c.journal.lots.now files name told
+    TellsVerdict (tables_in c.journal) (start_in c.journal) (lots_in c.journal) files name told
 
 -- a checker has taken in no entry, and a world is at the start of its run, which has this bound
 pub record AreAtStart (checker : Checker) (world : Situation) (bound : Bound) : Type 0 where
   pub ready : IsOpen checker
   pub none : checker_entries checker ≡ []
   pub at_start :
-      world ≡ situation checker.journal.inst.now.tables checker.journal.a0.now.items
-      checker.journal.a0.now.items
+      world ≡ situation (tables_in checker.journal) (start_in checker.journal)
+      (start_in checker.journal)
   pub bounded :
-      bound ≡ pinned_bound_of checker.journal.inst.now.tables checker.journal.a0.now.items
+      bound ≡ pinned_bound_of (tables_in checker.journal) (start_in checker.journal)
 
 -- the first ten lines of a report were read, or all if it has fewer, and their number is told; or the first one that is
 -- over long is told
@@ -68,15 +69,15 @@ pub record ReadsEntries (files : Reading) (name : List ℕ) (lines : ℕ) (befor
     (told : Result (Unit {0}) VerifyFault) : Type 0 where
   pub right :
       IfSome (files.held name) (λ bytes. OnOk told
-      (AreAllRight before.journal.inst.now.tables before.journal.a0.now.items
-      before.journal.lots.now bytes (checker_entries after)))
+      (AreAllRight (tables_in before.journal) (start_in before.journal)
+      (lots_in before.journal) bytes (checker_entries after)))
   pub all :
       IfSome (files.held name) (λ bytes. OnOk told
       (length (lines_of bytes) ≡ lines + length (checker_entries after)))
   pub wrong :
       IfSome (files.held name) (λ bytes. (n : ℕ) → told ≡ Err (why.Wrong n) → (h : List Entry) ×
-      IsWrongNext before.journal.inst.now.tables before.journal.a0.now.items
-      before.journal.lots.now bytes h n)
+      IsWrongNext (tables_in before.journal) (start_in before.journal)
+      (lots_in before.journal) bytes h n)
   pub fault : told ≡ Err why.ReadFault → ReadFailed files name
   pub memory : told ≢ Err why.NoMemory
   pub same : IsSameRun before after
@@ -85,7 +86,7 @@ pub record ReadsEntries (files : Reading) (name : List ℕ) (lines : ℕ) (befor
 -- the bytes up to the place of a reader are the head and the lines of the entries of a checker, in the run of another
 abbrev pub AreReadBy : Checker → List ℕ → ℕ → Checker → Type 0
 AreReadBy before bytes place after =
-    AreRead before.journal.inst.now.tables before.journal.a0.now.items before.journal.lots.now bytes
+    AreRead (tables_in before.journal) (start_in before.journal) (lots_in before.journal) bytes
     place (checker_entries after)
 
 -- the next entry line was read, if there is one, and its entry was taken in; or the line is that of no entry that may
@@ -103,8 +104,8 @@ pub record ReadsEntry (files : Reading) (old new : Standing) (before after : Che
       → length (lines_of bytes) ≡ 10 + length (checker_entries before))
   pub wrong :
       IfSome (files.held old.name) (λ bytes. (n : ℕ) → told ≡ Err (why.Wrong n)
-      → IsWrongNext before.journal.inst.now.tables before.journal.a0.now.items
-      before.journal.lots.now bytes (checker_entries before) n)
+      → IsWrongNext (tables_in before.journal) (start_in before.journal)
+      (lots_in before.journal) bytes (checker_entries before) n)
   pub fault : told ≡ Err why.ReadFault → ReadFailed files old.name
   pub memory : told ≢ Err why.NoMemory
   pub same : IsSameRun before after

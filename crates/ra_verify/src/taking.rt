@@ -2,6 +2,7 @@ ghost use Rattle.std.specs.Prelude.{◌≡◌, ◌≢◌, ◌≤◌, ◌↔◌, 
 ghost use Rattle.ra_topology.specs.Starts.{IsFeasibleStart};
 ghost use Rattle.ra_journal.specs.declared.entries.Entry.{Entry as Recorded};
 ghost use Rattle.ra_journal.specs.Committing.{next_entry};
+ghost use Rattle.ra_journal.specs.Journals.{initial_in, instance_in, lots_in, start_in, tables_in, topology_in};
 ghost use Rattle.ra_report.specs.JournalTexts.{entry_line};
 ghost use Rattle.ra_verify.specs.Checking.{checker_entries, IsOpen, MayFollow, HasTakenEntry, HasTakenLine, IsSameRun, MayStand, is_recorded};
 
@@ -26,10 +27,10 @@ impl<'a> Checker<'a> {
         lots: &'a Lots,
     ) -> Result<Checker<'a>, NoMemory>
         requires { IsFeasibleStart inst.now.tables topo.now a0.now.items start }
-        ensures instance { IfOk result (λ c. c.journal.inst.now ≡ inst.now) }
-        ensures topology { IfOk result (λ c. c.journal.topo.now ≡ topo.now) }
-        ensures initial { IfOk result (λ c. c.journal.a0.now ≡ a0.now) }
-        ensures lots { IfOk result (λ c. c.journal.lots.now ≡ lots.now) }
+        ensures instance { IfOk result (λ c. instance_in c.journal ≡ inst.now) }
+        ensures topology { IfOk result (λ c. topology_in c.journal ≡ topo.now) }
+        ensures initial { IfOk result (λ c. initial_in c.journal ≡ a0.now) }
+        ensures lots { IfOk result (λ c. lots_in c.journal ≡ lots.now) }
         ensures entries { IfOk result (λ c. checker_entries c ≡ []) }
         ensures ready { IfOk result (λ c. IsOpen c) }
     {
@@ -82,8 +83,8 @@ impl<'a> Checker<'a> {
     fn take(&mut self, worker: u32, q: u64) -> bool
         requires ready { IsOpen self.old }
         ensures right { result ≡ true → HasTakenEntry self.old self.new
-            (next_entry self.old.journal.inst.now.tables self.old.journal.a0.now.items
-            self.old.journal.lots.now (checker_entries self.old) worker q) }
+            (next_entry (tables_in self.old.journal) (start_in self.old.journal)
+            (lots_in self.old.journal) (checker_entries self.old) worker q) }
         ensures wrong { result ≡ false → (e : Recorded) → MayFollow self.old e
             → e.worker ≡ worker → e.q ≡ q → ⊥ }
         ensures same { IsSameRun self.old self.new }

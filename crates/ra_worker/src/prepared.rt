@@ -3,6 +3,7 @@ ghost use Rattle.ra_model.specs.Costs.{parts_of};
 ghost use Rattle.ra_topology.specs.Starts.{IsFeasibleStart};
 ghost use Rattle.ra_journal.specs.Best.{best_of};
 ghost use Rattle.ra_journal.specs.States.{state};
+ghost use Rattle.ra_journal.specs.Journals.{entries_in, initial_in, start_in, tables_in};
 ghost use Rattle.ra_check.specs.Made.{IsMadeFor};
 ghost use Rattle.ra_worker.specs.Ready.{IsFor};
 ghost use Rattle.ra_worker.specs.Runs.{IsRun};
@@ -97,16 +98,16 @@ fn bring_to_best(
     best: &mut Assignment,
     scratch: &mut Scratch,
 ) -> Parts
-    requires initial { a0.now ≡ journal.now.a0.now }
-    requires at_start { best.old.items ≡ journal.now.a0.now.items }
-    requires made { IsMadeFor scratch.old journal.now.inst.now.tables }
+    requires initial { a0.now ≡ initial_in journal.now }
+    requires at_start { best.old.items ≡ start_in journal.now }
+    requires made { IsMadeFor scratch.old (tables_in journal.now) }
     ensures best { best.new.items ≡
-        state journal.now.a0.now.items journal.now.book.entries.items
-        (best_of journal.now.inst.now.tables journal.now.a0.now.items
-        journal.now.book.entries.items) }
+        state (start_in journal.now) (entries_in journal.now)
+        (best_of (tables_in journal.now) (start_in journal.now)
+        (entries_in journal.now)) }
     ensures parts { result ≡
-        parts_of journal.now.inst.now.tables journal.now.a0.now.items best.new.items }
-    ensures made { IsMadeFor scratch.new journal.now.inst.now.tables }
+        parts_of (tables_in journal.now) (start_in journal.now) best.new.items }
+    ensures made { IsMadeFor scratch.new (tables_in journal.now) }
 {
     restore(journal, journal.best_at(), best);
     parts(journal.instance(), a0, best, scratch)

@@ -3,6 +3,7 @@ ghost use Rattle.std.specs.Prelude.{◌≡◌, ◌<◌, None};
 ghost use Rattle.ra_model.specs.Assignments.{IsAssignment};
 ghost use Rattle.ra_model.specs.Broken.{first_broken};
 ghost use Rattle.ra_model.specs.Costs.{parts_of};
+ghost use Rattle.ra_journal.specs.Journals.{initial_in, instance_in, lots_in, start_in, tables_in};
 ghost use Rattle.test_workers.specs.FirstPlans.{IsFirstPlan};
 
 use ra_base::{Assignment, Parts, Steps};
@@ -52,11 +53,11 @@ pub(super) fn first_plan<L: Ledger>(
 
 /// Hands in a worker's first plan, if the worker has some budget and has made no entry so far.
 pub(super) fn hand_in(journal: &mut Journal<'_>, worker: u32, plan: &Plan) -> Option<Reply>
-    requires { IsFirstPlan journal.old.inst.now.tables journal.old.a0.now.items
-        journal.old.lots.now worker plan.now }
-    ensures instance { journal.new.inst.now ≡ journal.old.inst.now }
-    ensures initial { journal.new.a0.now ≡ journal.old.a0.now }
-    ensures lots { journal.new.lots.now ≡ journal.old.lots.now }
+    requires { IsFirstPlan (tables_in journal.old) (start_in journal.old)
+        (lots_in journal.old) worker plan.now }
+    ensures instance { instance_in journal.new ≡ instance_in journal.old }
+    ensures initial { initial_in journal.new ≡ initial_in journal.old }
+    ensures lots { lots_in journal.new ≡ lots_in journal.old }
 {
     let lots = journal.lots();
     if worker >= lots.len() {
