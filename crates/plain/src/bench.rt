@@ -1,4 +1,5 @@
 ghost use Rattle.std.specs.Prelude.{◌≡◌, ℕ, ◌<◌, ◌≤◌, length, IfOk};
+ghost use Rattle.ra_draws.specs.Shown.{drawing_in};
 ghost use Rattle.ra_model.specs.Numbers.{process_count, machine_count};
 ghost use Rattle.ra_model.specs.Assignments.{IsAssignment};
 ghost use Rattle.ra_model.specs.Situations.{situation};
@@ -55,7 +56,7 @@ impl Bench {
         requires can { CanTry inst.now.tables a0.now.items lots.now entries.now e.now.q e.now }
         ensures planned { result ≡ plan_of (situation inst.now.tables a0.now.items
             (state a0.now.items entries.now e.now.q))
-            (words lots.now e.now.worker e.now.k) lots.now.drawing
+            (words lots.now e.now.worker e.now.k) (drawing_in lots.now)
             (allowed lots.now e.now.worker e.now.k) }
         ensures kept { IsBenchFor self.new inst.now.tables }
     {

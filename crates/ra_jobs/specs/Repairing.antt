@@ -4,6 +4,7 @@ use Rattle.ra_base.specs.declared.causes.Cause.{Cause}
 use Rattle.ra_base.specs.declared.ids.Machine.{Machine}
 use Rattle.ra_draws.specs.declared.budgets.Lots.{Lots}
 use Rattle.ra_draws.specs.declared.sources.Lot.{Lot}
+use Rattle.ra_draws.specs.Shown.{lots_shown}
 use Rattle.ra_model.specs.declared.raw.Tables.{Tables}
 use Rattle.ra_model.specs.Broken.{first_broken}
 use Rattle.ra_model.specs.Feasible.{Feasible}
@@ -36,7 +37,7 @@ pub record RepairPrinted (held : Held) (names : Names) (l : Lots) (broken : Opti
   pub a0 : List Machine
   pub accepts : Accepts held names tables a0 a0
   pub lot : Lot
-  pub one : l.lots.items ≡ lot ∷ []
+  pub one : lots_shown l ≡ lot ∷ []
   pub run : IsTried tables a0 lot broken sent
 
 -- its own refusals: the output took the text of a run whose last list breaks a constraint; or it took a front of a text
@@ -51,7 +52,7 @@ RepairOwn held names l took broke_off refusal = ⊥
 -- the last list of the run of the one lot breaks this constraint first, or none
 abbrev pub LeavesBroken : Tables → List Machine → Lots → Option Cause → Type 0
 LeavesBroken i a0 l broken =
-    (lot : Lot) → l.lots.items ≡ lot ∷ []
+    (lot : Lot) → lots_shown l ≡ lot ∷ []
     → first_broken i a0 (repair_run i a0 lot).assignment ≡ broken
 
 -- for the lots that were asked for: when each of its own statuses comes. No list has to be feasible. It holds for any

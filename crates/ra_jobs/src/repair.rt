@@ -3,6 +3,7 @@ ghost use Rattle.std.specs.Option.{option_copied};
 ghost use Rattle.ra_io.specs.Outside.{reading, writing, Took};
 ghost use Rattle.ra_check.specs.Made.{IsMadeFor};
 ghost use Rattle.ra_draws.specs.Lots.{IsLots};
+ghost use Rattle.ra_draws.specs.Shown.{lots_shown};
 ghost use Rattle.ra_model.specs.Assignments.{IsAssignment};
 ghost use Rattle.ra_topology.specs.Fits.{IsTopologyOf};
 ghost use Rattle.ra_jobs.specs.Commands.{These, over};
@@ -39,7 +40,7 @@ pub fn repair_run<'n, F: Files, O: Sink, E: Sink>(
     out: &mut O,
     err: &mut E,
 ) -> Status
-    requires one { length lots.now.lots.items ≡ 1 }
+    requires one { length (lots_shown lots.now) ≡ 1 }
     ensures { Does (repair_command model.now initial.now
         (option_copied closed.entry) (These lots.now))
         (reading F.Files files.old files.new) (output O.Sink out.old out.new)
@@ -58,7 +59,7 @@ pub fn repair_job<F: Files, O: Sink, E: Sink>(
 ) -> Status
     requires initial { IsNamed (names_of names.now) File.Initial }
     requires last { EndsAt (names_of names.now) File.Initial }
-    requires one { length lots.now.lots.items ≡ 1 }
+    requires one { length (lots_shown lots.now) ≡ 1 }
     ensures { DoesOutside F.Files O.Sink E.Sink
         (over (repaired (names_of names.now) (These lots.now))) outside.entry outside.exit result }
 {
@@ -77,7 +78,7 @@ fn mend<F: Files, O: Sink>(
 ) -> Result<(), Refusal>
     requires initial { IsNamed (names_of names.now) File.Initial }
     requires last { EndsAt (names_of names.now) File.Initial }
-    requires one { length lots.now.lots.items ≡ 1 }
+    requires one { length (lots_shown lots.now) ≡ 1 }
     ensures { Tries (over (repaired (names_of names.now) (These lots.now)))
         (reading F.Files files.old files.new) (output O.Sink out.old out.new) result }
 {

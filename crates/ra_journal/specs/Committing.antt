@@ -4,6 +4,7 @@ use Rattle.std.specs.Prelude.{◌≡◌, ℕ, ◌<◌, ◌≤◌, List, [], ◌�
 use Rattle.ra_base.specs.declared.ids.Guard.{Guard}
 use Rattle.ra_base.specs.declared.ids.Machine.{Machine}
 use Rattle.ra_draws.specs.declared.budgets.Lots.{Lots}
+use Rattle.ra_draws.specs.Shown.{drawing_in}
 use Rattle.ra_model.specs.declared.raw.Tables.{Tables}
 use Rattle.ra_model.specs.Situations.{situation}
 use Rattle.ra_moves.specs.declared.steps.Step.{Step}
@@ -30,7 +31,7 @@ next_number h w = entries_of h (length h) w
 unfoldable pub next_move : Tables → List Machine → Lots → List Entry → ℕ → ℕ → MoveSteps
 next_move i a0 l h w q =
     let k = next_number h w in
-    plan_of (situation i a0 (state a0 h q)) (words l w k) l.drawing (allowed l w k)
+    plan_of (situation i a0 (state a0 h q)) (words l w k) (drawing_in l) (allowed l w k)
 
 -- the entry of worker w's next proposal, judged at the end of the journal
 unfoldable pub next_entry : Tables → List Machine → Lots → List Entry → ℕ → ℕ → Entry
@@ -75,7 +76,7 @@ pub record IsCommit (i : Tables) (a0 : List Machine) (l : Lots) (h : List Entry)
   pub place : plan.q ≤ length h
   pub seen : (j : ℕ) → j < length h → (entry_at h j).worker ≡ w → j < plan.q
   pub planned :
-      plan.mv ≡ plan_of (situation i a0 (state a0 h plan.q)) (words l w plan.k) l.drawing
+      plan.mv ≡ plan_of (situation i a0 (state a0 h plan.q)) (words l w plan.k) (drawing_in l)
       (allowed l w plan.k)
   pub weighed : plan.weighed ≡ weighed_of (situation i a0 (state a0 h plan.q)) plan.mv.steps
 

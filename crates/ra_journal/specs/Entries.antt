@@ -4,6 +4,7 @@ use Rattle.ra_base.specs.Sums.{total, count}
 use Rattle.ra_base.specs.declared.causes.Cause.TheVariants.{Repeat}
 use Rattle.ra_draws.specs.declared.budgets.Lots.{Lots}
 use Rattle.ra_draws.specs.Lots.{budget_of, words_of, allowance_of}
+use Rattle.ra_draws.specs.Shown.{lots_shown, slack_in}
 use Rattle.ra_moves.specs.declared.steps.MoveKind.TheVariants.{Shift}
 use Rattle.ra_moves.specs.declared.steps.Step.{Step}
 use Rattle.ra_moves.specs.declared.verdicts.Verdict.{Verdict}
@@ -41,10 +42,10 @@ entries_of h n w = count n (λ j. (entry_at h j).worker == w)
 
 -- how many lots there are, one for each worker, and a worker's budget
 unfoldable pub worker_count : Lots → ℕ
-worker_count l = length l.lots.items
+worker_count l = length (lots_shown l)
 
 unfoldable pub budget : Lots → ℕ → ℕ
-budget l w = budget_of l.lots.items w
+budget l w = budget_of (lots_shown l) w
 
 -- how many proposals all workers together make
 unfoldable pub proposal_count : Lots → ℕ
@@ -52,7 +53,7 @@ proposal_count l = total (worker_count l) (budget l)
 
 -- the words of proposal k of worker w, and by how much it may raise the cost
 unfoldable pub words : Lots → ℕ → ℕ → List ℕ
-words l w k = words_of l.lots.items w k
+words l w k = words_of (lots_shown l) w k
 
 unfoldable pub allowed : Lots → ℕ → ℕ → ℕ
-allowed l w k = allowance_of l.slack l.lots.items w k
+allowed l w k = allowance_of (slack_in l) (lots_shown l) w k

@@ -3,6 +3,7 @@
 use Rattle.std.specs.Prelude.{◌≡◌, ℕ, ◌<◌, ◌≤◌, List, length}
 use Rattle.ra_base.specs.declared.ids.Machine.{Machine}
 use Rattle.ra_draws.specs.declared.budgets.Lots.{Lots}
+use Rattle.ra_draws.specs.Shown.{drawing_in}
 use Rattle.ra_model.specs.declared.raw.Tables.{Tables}
 use Rattle.ra_model.specs.Situations.{situation}
 use Rattle.ra_moves.specs.Judging.{judge}
@@ -33,7 +34,7 @@ pub record IsLegalAt (i : Tables) (a0 : List Machine) (l : Lots) (h : List Entry
   pub placed : IsPlaced h j e
   -- its move is the plan at the state of place q, for its words and its allowance
   pub planned :
-      e.mv ≡ plan_of (situation i a0 (state a0 h e.q)) (words l e.worker e.k) l.drawing
+      e.mv ≡ plan_of (situation i a0 (state a0 h e.q)) (words l e.worker e.k) (drawing_in l)
       (allowed l e.worker e.k)
   -- no entry from place q on has touched a guard of its move
   pub untouched : Untouched i (made_in h) e.q j e.mv.steps

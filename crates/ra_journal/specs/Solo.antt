@@ -2,6 +2,7 @@
 use Rattle.std.specs.Prelude.{ℕ, zero, suc, List, [], ◌∷◌, ◌++◌}
 use Rattle.ra_base.specs.declared.ids.Machine.{Machine}
 use Rattle.ra_draws.specs.declared.budgets.Lots.{Lots}
+use Rattle.ra_draws.specs.Shown.{drawing_in}
 use Rattle.ra_model.specs.declared.raw.Tables.{Tables}
 use Rattle.ra_model.specs.Situations.{situation}
 use Rattle.ra_moves.specs.Judging.{judge}
@@ -14,7 +15,7 @@ use Rattle.ra_journal.specs.States.{state}
 unfoldable pub solo_entry : Tables → List Machine → Lots → List Entry → ℕ → Entry
 solo_entry i a0 l h k =
     let a = state a0 h k in
-    let mv = plan_of (situation i a0 a) (words l 0 k) l.drawing (allowed l 0 k) in
+    let mv = plan_of (situation i a0 a) (words l 0 k) (drawing_in l) (allowed l 0 k) in
     record {
       worker = 0;
       k = k;

@@ -8,6 +8,7 @@ use Rattle.ra_bounds.specs.Bounds.{bound_of}
 use Rattle.ra_bounds.specs.PinnedBounds.{pinned_bound_of}
 use Rattle.ra_draws.specs.declared.budgets.Lots.{Lots}
 use Rattle.ra_draws.specs.declared.sources.Lot.{Lot}
+use Rattle.ra_draws.specs.Shown.{drawing_in, lots_shown, slack_in}
 use Rattle.ra_journal.specs.declared.entries.Entry.{Entry}
 use Rattle.ra_journal.specs.Legal.{Legal}
 use Rattle.ra_journal.specs.Solo.{solo}
@@ -41,9 +42,9 @@ pub record AreAlike (i j : Tables) : Type 0 where
 
 -- two values are equal lots, whatever room their lists have
 pub record AreAlikeLots (l k : Lots) : Type 0 where
-  pub slack : l.slack ≡ k.slack
-  pub drawing : l.drawing ≡ k.drawing
-  pub lots : l.lots.items ≡ k.lots.items
+  pub slack : slack_in l ≡ slack_in k
+  pub drawing : drawing_in l ≡ drawing_in k
+  pub lots : lots_shown l ≡ lots_shown k
 
 -- jobs compute equal results from two instances
 pub record RunAlike (i j : Tables) : Type 0 where

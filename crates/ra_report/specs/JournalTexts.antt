@@ -6,6 +6,7 @@ use Rattle.ra_base.specs.declared.causes.Drawing.TheVariants.{One, Two}
 use Rattle.ra_base.specs.declared.costs.Parts.{Parts}
 use Rattle.ra_base.specs.declared.ids.Machine.{Machine}
 use Rattle.ra_draws.specs.declared.budgets.Lots.{Lots}
+use Rattle.ra_draws.specs.Shown.{drawing_in}
 use Rattle.ra_bounds.specs.declared.costs.Bound.{Bound}
 use Rattle.ra_bounds.specs.PinnedBounds.{pinned_bound_of}
 use Rattle.ra_model.specs.declared.raw.Tables.{Tables}
@@ -98,14 +99,14 @@ unfoldable pub report_text : Tables → List Machine → Lots → List Entry →
 report_text i a0 l h =
     let j = best_of i a0 h in
     let best = state a0 h j in
-    report_lines (parts_of i a0 best) (pinned_bound_of i a0).total j best l.drawing h
+    report_lines (parts_of i a0 best) (pinned_bound_of i a0).total j best (drawing_in l) h
 
 -- the ten lines before its entries
 unfoldable pub report_head : Tables → List Machine → Lots → List Entry → List ℕ
 report_head i a0 l h =
     let j = best_of i a0 h in
     let best = state a0 h j in
-    head_text (parts_of i a0 best) (pinned_bound_of i a0).total j best l.drawing
+    head_text (parts_of i a0 best) (pinned_bound_of i a0).total j best (drawing_in l)
 
 -- the best state of a journal, its report, and the ten lines before the entries
 unfoldable pub best_state : Journal → List Machine

@@ -8,7 +8,7 @@ use Rattle.ra_model.specs.declared.raw.Tables.{Tables}
 use Rattle.ra_model.specs.Broken.{first_broken}
 use Rattle.ra_repair.specs.declared.repair.Repair.{Repair}
 use Rattle.ra_repair.specs.declared.tries.Try.{Try}
-use Rattle.ra_repair.specs.Repairs.{try_in}
+use Rattle.ra_repair.specs.Repairs.{try_in, tables_repaired, start_repaired, assignment_repaired, tries_made}
 use Rattle.ra_repair.specs.Runs.{repair_run}
 use Rattle.ra_report.specs.Pieces.{joined}
 use Rattle.ra_report.specs.Texts.{space, line_end, number_text, cause_text}
@@ -55,13 +55,13 @@ repair_lines broken a tries =
 -- the first broken constraint of the last assignment of a repair, if one is broken
 abbrev pub broken_after : Repair → Option Cause
 broken_after r =
-    first_broken r.inst.now.tables r.start.now.items r.kept.assignment.items
+    first_broken (tables_repaired r) (start_repaired r) (assignment_repaired r)
 
 -- the output of a repair
 unfoldable pub text_of_repair : Repair → List ℕ
 text_of_repair r =
-    repair_lines (first_broken r.inst.now.tables r.start.now.items r.kept.assignment.items)
-    r.kept.assignment.items r.tries.items
+    repair_lines (first_broken (tables_repaired r) (start_repaired r) (assignment_repaired r))
+    (assignment_repaired r) (tries_made r)
 
 -- the output of the run of a lot from a0
 unfoldable pub repair_text : Tables → List Machine → Lot → List ℕ

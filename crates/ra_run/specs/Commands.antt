@@ -2,6 +2,7 @@
 use Rattle.std.specs.Prelude.{◌≡◌, ◌↔◌, ℕ, List, [], ◌∷◌, Option, None, map}
 use Rattle.ra_base.specs.declared.causes.Drawing.{Drawing}
 use Rattle.ra_draws.specs.declared.budgets.Lots.{Lots}
+use Rattle.ra_draws.specs.Shown.{drawing_in, lots_shown, slack_in}
 use Rattle.ra_words.specs.Jobs.{JobSays, Checks, Bounds, Solves, Trials, Verifies, Repairs, Edits}
 use Rattle.ra_words.specs.LotTexts.{LotSays}
 use Rattle.ra_words.specs.Said.{said_lot}
@@ -21,9 +22,9 @@ use Rattle.ra_run.specs.Verifying.{verify_command}
 
 -- the lots are those in the words
 pub record AreLots (slack : ℕ) (drawing : Drawing) (lots : List LotSays) (l : Lots) : Type 0 where
-  pub slack_is : l.slack ≡ slack
-  pub drawing_is : l.drawing ≡ drawing
-  pub lots_are : map said_lot l.lots.items ≡ lots
+  pub slack_is : slack_in l ≡ slack
+  pub drawing_is : drawing_in l ≡ drawing
+  pub lots_are : map said_lot (lots_shown l) ≡ lots
 
 abbrev pub command_of : JobSays → Command
 command_of (Checks model initial changed closed) = check_command model initial changed closed

@@ -8,6 +8,7 @@ use Rattle.ra_model.specs.Costs.{parts_of, objective}
 use Rattle.ra_model.specs.Feasible.{Feasible}
 use Rattle.ra_bounds.specs.PinnedBounds.{pinned_bound_of}
 use Rattle.ra_draws.specs.declared.budgets.Lots.{Lots}
+use Rattle.ra_draws.specs.Shown.{drawing_in}
 use Rattle.ra_journal.specs.declared.entries.Entry.{Entry}
 use Rattle.ra_journal.specs.Entries.{worker_count}
 use Rattle.ra_journal.specs.Laws.{IsSoundAt}
@@ -55,7 +56,7 @@ pub record SolvePrinted (held : Held) (names : Names) (l : Lots) (sent : List �
   pub best : IsFirstLeast tables a0 journal best_at
   pub lines :
       bytes ≡ report_lines (parts_of tables a0 (state a0 journal best_at))
-      (pinned_bound_of tables a0).total best_at (state a0 journal best_at) l.drawing journal
+      (pinned_bound_of tables a0).total best_at (state a0 journal best_at) (drawing_in l) journal
   -- no assignment that is feasible with respect to the start costs less than the bound
   pub least : (a : List Machine) → IsAssignment tables a → Feasible tables a0 a
       → (pinned_bound_of tables a0).total ≤ objective tables a0 a

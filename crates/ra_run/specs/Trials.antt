@@ -4,6 +4,7 @@ use Rattle.ra_base.specs.declared.causes.Drawing.TheVariants.{Two}
 use Rattle.ra_base.specs.declared.ids.Machine.{Machine}
 use Rattle.ra_draws.specs.declared.budgets.Lots.{Lots}
 use Rattle.ra_draws.specs.declared.sources.Source.TheVariants.{Seed}
+use Rattle.ra_draws.specs.Shown.{drawing_in, lots_shown, slack_in}
 use Rattle.ra_journal.specs.Solo.{solo}
 use Rattle.ra_model.specs.declared.raw.Tables.{Tables}
 use Rattle.ra_report.specs.Summaries.{summary_text}
@@ -35,9 +36,9 @@ pub record IsTrialStart (number : ℕ) (i : Tables) (a0 : List Machine) : Type 0
 -- the one lot of a number: its words are those of the generator that the number seeds, and it makes 2,000 proposals;
 -- the slack is 1,000, and the drawing is the second
 pub record IsTrialLots (number : ℕ) (l : Lots) : Type 0 where
-  pub slack : l.slack ≡ 1000
-  pub drawing : l.drawing ≡ Two
-  pub lots : l.lots.items ≡ record { source = Seed number; budget = 2000 } ∷ []
+  pub slack : slack_in l ≡ 1000
+  pub drawing : drawing_in l ≡ Two
+  pub lots : lots_shown l ≡ record { source = Seed number; budget = 2000 } ∷ []
 
 -- the summary of the run of one worker alone was sent
 abbrev pub IsSummarized : Tables → List Machine → Lots → (List ℕ → Type 0) → Type 0

@@ -3,6 +3,7 @@ ghost use Rattle.clap.specs.Words.{app_of, first_value, found_of, kind_of, rule_
 ghost use Rattle.clap.specs.declared.error.kind.ErrorKind.TheVariants.{OutOfMemory};
 ghost use Rattle.ra_words.specs.Words.{texts, word_at};
 ghost use Rattle.ra_draws.specs.Lots.{IsLots};
+ghost use Rattle.ra_draws.specs.Shown.{drawing_in, lots_shown, slack_in};
 ghost use Rattle.ra_words.specs.Lines.{Line, Spells, Finds, line_app, option_rule, plain_of};
 ghost use Rattle.ra_words.specs.LotTexts.{are_lots, lot_says};
 ghost use Rattle.ra_words.specs.Jobs.{is_slack, slack_says, drawing_says};
@@ -132,11 +133,11 @@ pub(crate) fn run_lots(
 ) -> Result<Lots, NoMemory>
     requires slack { is_slack (first_value (found_of taken.now) (codes "slack")) ≡ true }
     requires lots { are_lots (drop place (plain_of (found_of taken.now))) ≡ true }
-    ensures slack { IfOk result (λ l. l.slack ≡ slack_says
+    ensures slack { IfOk result (λ l. slack_in l ≡ slack_says
         (first_value (found_of taken.now) (codes "slack"))) }
-    ensures drawing { IfOk result (λ l. l.drawing ≡ drawing_says
+    ensures drawing { IfOk result (λ l. drawing_in l ≡ drawing_says
         (first_value (found_of taken.now) (codes "draws"))) }
-    ensures lots { IfOk result (λ l. map said_lot l.lots.items ≡
+    ensures lots { IfOk result (λ l. map said_lot (lots_shown l) ≡
         map lot_says (drop place (plain_of (found_of taken.now)))) }
 {
     let lots = lots(alloc, taken, place)?;

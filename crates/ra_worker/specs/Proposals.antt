@@ -3,6 +3,7 @@ use Rattle.std.specs.Prelude.{◌≡◌, ℕ, ◌+◌, ◌%◌, ◌<◌, ◌≤�
 use Rattle.ra_draws.specs.declared.budgets.Lots.{Lots}
 use Rattle.ra_draws.specs.Drawn.{Drawn}
 use Rattle.ra_draws.specs.Lots.{lot_at}
+use Rattle.ra_draws.specs.Shown.{lots_shown}
 use Rattle.ra_journal.specs.Entries.{worker_count, budget, words}
 
 -- worker w has made k proposals; the words of the next sixteen are drawn, or fewer if the budget ends before, and no
@@ -10,7 +11,7 @@ use Rattle.ra_journal.specs.Entries.{worker_count, budget, words}
 pub record AreDrawn (l : Lots) (w : ℕ) (drawn : Drawn) (k : ℕ) (ring : List (List ℕ)) : Type 0 where
   pub worker : w < worker_count l
   pub within : k ≤ budget l w
-  pub lot : drawn.lot ≡ lot_at l.lots.items w
+  pub lot : drawn.lot ≡ lot_at (lots_shown l) w
   pub made : k + 15 < budget l w → drawn.made ≡ k + 16
   pub words :
       (n : ℕ) → k ≤ n → n < k + 16 → n < budget l w

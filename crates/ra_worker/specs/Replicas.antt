@@ -3,6 +3,7 @@ use Rattle.std.specs.Prelude.{◌≡◌, ℕ, ◌+◌, ◌<◌, ◌≤◌, ◌==
 use Rattle.ra_base.specs.Sums.{one_if}
 use Rattle.ra_base.specs.declared.ids.Machine.{Machine}
 use Rattle.ra_draws.specs.declared.budgets.Lots.{Lots}
+use Rattle.ra_draws.specs.Shown.{drawing_in}
 use Rattle.ra_model.specs.declared.raw.Tables.{Tables}
 use Rattle.ra_moves.specs.declared.verdicts.Plan.{Plan}
 use Rattle.ra_moves.specs.Options.{plan_of}
@@ -49,7 +50,7 @@ pub record IsPlanAt (r : Replica) (k : ℕ) (plan : Plan) : Type 0 where
   pub place : plan.q ≡ place_at r
   pub number : plan.k ≡ k
   pub planned :
-      plan.mv ≡ plan_of r.world (words (lots_at r) (worker_at r) k) (lots_at r).drawing
+      plan.mv ≡ plan_of r.world (words (lots_at r) (worker_at r) k) (drawing_in (lots_at r))
       (allowed (lots_at r) (worker_at r) k)
   pub weighed : plan.weighed ≡ weighed_of r.world plan.mv.steps
 

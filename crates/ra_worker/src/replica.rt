@@ -1,6 +1,7 @@
 ghost use Rattle.std.specs.Prelude.{◌≡◌, ◌+◌, ◌*◌, ◌^◌, ◌<◌, ◌≤◌, ◌-◌, ◌==◌, true, List, length, IfOk};
 ghost use Rattle.ra_base.specs.Sums.{one_if};
 ghost use Rattle.ra_base.specs.declared.causes.Drawing.TheVariants.{One, Two};
+ghost use Rattle.ra_draws.specs.Shown.{drawing_in};
 ghost use Rattle.ra_model.specs.Numbers.{resource_count};
 ghost use Rattle.ra_journal.specs.declared.entries.Entry.{Entry as Recorded};
 ghost use Rattle.ra_journal.specs.Entries.{worker_count, budget, allowed};
@@ -116,9 +117,9 @@ impl<'a> Replica<'a> {
     pub fn offer<L: Ledger>(&self, steps: &mut Steps<L>) -> Plan
         requires left { next_at self.now < budget_at self.now }
         ensures next { IsNextPlan self.now result }
-        ensures counted_one { (lots_at self.now).drawing ≡ One →
+        ensures counted_one { drawing_in (lots_at self.now) ≡ One →
             steps.new ≤ steps.old + 24 * resource_count (tables_at self.now) }
-        ensures counted_two { (lots_at self.now).drawing ≡ Two →
+        ensures counted_two { drawing_in (lots_at self.now) ≡ Two →
             steps.new ≤ steps.old + 384 * resource_count (tables_at self.now) }
     {
         self.offer_at(self.proposals.number, steps)
@@ -131,9 +132,9 @@ impl<'a> Replica<'a> {
         requires near { number < next_at self.now + 16 }
         requires left { number < budget_at self.now }
         ensures plan { IsPlanAt self.now number result }
-        ensures counted_one { (lots_at self.now).drawing ≡ One →
+        ensures counted_one { drawing_in (lots_at self.now) ≡ One →
             steps.new ≤ steps.old + 24 * resource_count (tables_at self.now) }
-        ensures counted_two { (lots_at self.now).drawing ≡ Two →
+        ensures counted_two { drawing_in (lots_at self.now) ≡ Two →
             steps.new ≤ steps.old + 384 * resource_count (tables_at self.now) }
     {
         let lots = self.proposals.lots;

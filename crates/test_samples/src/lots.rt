@@ -1,6 +1,7 @@
 //! Lots of written words.
 ghost use Rattle.std.specs.Prelude.{◌≡◌, ◌*◌, ◌+◌, ◌≤◌, [], ◌∷◌, IfOk, length};
 ghost use Rattle.ra_draws.specs.Lots.{IsFitting};
+ghost use Rattle.ra_draws.specs.Shown.{drawing_in, lots_shown, slack_in};
 ghost use Rattle.test_samples.specs.WrittenLots.{AreWords, AreWritten};
 
 use crate::lists::list;
@@ -26,11 +27,11 @@ pub fn written(alloc: Global, words: &[u64], budget: u64) -> Result<Lot, NoMemor
 pub fn one_lot(alloc: Global, slack: u64, budget: u64, words: &[u64]) -> Result<Lots, NoMemory>
     requires words { length words.now ≡ 8 * budget }
     requires few { budget ≤ 1000000 }
-    ensures slack { IfOk result (λ lots. lots.slack ≡ slack) }
-    ensures drawing { IfOk result (λ lots. lots.drawing ≡ Drawing.One) }
-    ensures one { IfOk result (λ lots. length lots.lots.items ≡ 1) }
+    ensures slack { IfOk result (λ lots. slack_in lots ≡ slack) }
+    ensures drawing { IfOk result (λ lots. drawing_in lots ≡ Drawing.One) }
+    ensures one { IfOk result (λ lots. length (lots_shown lots) ≡ 1) }
     ensures written { IfOk result (λ lots.
-        AreWritten lots.lots.items (words.now ∷ []) budget) }
+        AreWritten (lots_shown lots) (words.now ∷ []) budget) }
 {
     let mut lots = Vec::new(alloc);
     lots.push(written(alloc, words, budget)?)?;
@@ -48,11 +49,11 @@ pub fn two_lots(
     requires first { length first.now ≡ 8 * budget }
     requires second { length second.now ≡ 8 * budget }
     requires few { budget + budget ≤ 1000000 }
-    ensures slack { IfOk result (λ lots. lots.slack ≡ slack) }
-    ensures drawing { IfOk result (λ lots. lots.drawing ≡ Drawing.One) }
-    ensures two { IfOk result (λ lots. length lots.lots.items ≡ 2) }
+    ensures slack { IfOk result (λ lots. slack_in lots ≡ slack) }
+    ensures drawing { IfOk result (λ lots. drawing_in lots ≡ Drawing.One) }
+    ensures two { IfOk result (λ lots. length (lots_shown lots) ≡ 2) }
     ensures written { IfOk result (λ lots.
-        AreWritten lots.lots.items (first.now ∷ second.now ∷ []) budget) }
+        AreWritten (lots_shown lots) (first.now ∷ second.now ∷ []) budget) }
 {
     let mut lots = Vec::new(alloc);
     lots.push(written(alloc, first, budget)?)?;
