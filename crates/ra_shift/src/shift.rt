@@ -113,7 +113,8 @@ impl<'w, 'a> Shift<'w, 'a> {
         }
     }
 
-    /// Whether the shift to a machine breaks nothing.
+    /// Whether the shift to a machine breaks nothing. On a machine that costs little the service most often lacks what it
+    /// needs, so that is tested first.
     #[inline(always)]
     fn fits(&self, to: Machine) -> bool
         requires { to.0 < machine_count self.now.world.now.tables }
@@ -122,7 +123,10 @@ impl<'w, 'a> Shift<'w, 'a> {
         if to.0 == self.from.0 {
             return false;
         }
-        if !self.is_admitted(to) {
+        if !self.finds_needs(to) {
+            return false;
+        }
+        if !self.keeps_dependants(to) {
             return false;
         }
         if !self.has_room(to) {
@@ -137,10 +141,7 @@ impl<'w, 'a> Shift<'w, 'a> {
         if !self.keeps_spread(to) {
             return false;
         }
-        if !self.keeps_dependants(to) {
-            return false;
-        }
-        self.finds_needs(to)
+        self.is_admitted(to)
     }
 
     /// The cost after the shift to a machine, if it breaks nothing and costs less than a bound.
