@@ -10,7 +10,7 @@ use crate::best::Best;
 use crate::flaws::flaw_of;
 use ra_base::{Drawing, Steps};
 use ra_moves::{Move, options, resolve};
-use ra_weigh::{cost_after_move, has_room, is_unbroken};
+use ra_weigh::{cost_after_move, has_room, is_dear_by_ways, is_unbroken};
 use ra_world::{World, requirements};
 use std::sync::ledger::Ledger;
 
@@ -43,9 +43,9 @@ pub(crate) fn best_move<L: Ledger>(
     best
 }
 
-/// The cost after a move, if it breaks nothing and costs less than a bound. Room on the machines that it enters is
-/// tested first, since that takes the least time, then the cost; the other constraints are tested only for a move that
-/// can still win.
+/// The cost after a move, if it breaks nothing and costs less than a bound. Its ways are tested first, since they refuse
+/// most exchanges in the least time, then room on the machines that it enters, then the cost; the other constraints are
+/// tested only for a move that can still win.
 #[inline(always)]
 fn cost_below<L: Ledger>(
     world: &World<'_>,
@@ -59,6 +59,9 @@ fn cost_below<L: Ledger>(
         + 2 * (length mv.now.steps * resource_count world.now.tables) }
 {
     if let Some(_cause) = flaw_of(mv) {
+        return None;
+    }
+    if is_dear_by_ways(world, mv, bound) {
         return None;
     }
     let mut required = [0; 60];

@@ -83,24 +83,26 @@ cost_is st steps kept rows_added rows_taken places_added places_taken service_ad
     let places = places_change st steps move in
     omega arith
 
--- without what the processes cost on the machines that they enter, and a part of the service cost, it is no higher
+-- without the service cost, and with no more than what the machines and the ways add, it is no higher
 pub cost_least : (st : Situation) (steps : List Step)
-    (kept rows_added rows_taken places_taken service_added service_taken bound : ℕ) → WellFormed st.tables →
+    (kept rows_added rows_taken places_added places_taken service_taken bound : ℕ) → WellFormed st.tables →
     MayMove st steps → kept ≡ cost_at st →
-    rows_added ≡ total (end_count steps) (fresh (end_in steps) (row_cost st.tables (applied st.here steps))) →
+    rows_added ≤ total (end_count steps) (fresh (end_in steps) (row_cost st.tables (applied st.here steps))) →
     rows_taken ≡ total (end_count steps) (fresh (end_in steps) (row_cost st.tables st.here)) →
+    places_added ≤ total (length steps) (come (place_cost st.tables st.start) steps) →
     places_taken ≡ total (length steps) (gone (place_cost st.tables st.start) steps) →
-    service_added ≤ service_cost_at (after_move st steps) → service_taken ≡ service_cost_at st →
-    bound + (rows_taken + service_taken + places_taken) ≤ kept + rows_added + service_added →
+    service_taken ≡ service_cost_at st →
+    bound + (rows_taken + service_taken + places_taken) ≤ kept + rows_added + places_added →
     bound ≤ cost_at (after_move st steps)
-cost_least st steps kept rows_added rows_taken places_taken service_added service_taken bound limits move now
-    rows_come rows_go places_go service_comes service_goes high =
+cost_least st steps kept rows_added rows_taken places_added places_taken service_taken bound limits move now
+    rows_come rows_go places_come places_go service_goes high =
     omega (
       arith,
       high,
-      service_comes,
-      cost_is st steps kept rows_added rows_taken _ places_taken (service_cost_at (after_move st steps)) service_taken
-          limits move now rows_come rows_go refl places_go refl service_goes,
+      rows_come,
+      places_come,
+      cost_is st steps kept _ rows_taken _ places_taken (service_cost_at (after_move st steps)) service_taken
+          limits move now refl rows_go refl places_go refl service_goes,
     )
 
 -- the service cost is a part of the cost

@@ -1,13 +1,13 @@
 -- What a move can't break holds if each step keeps it: capacity on machines that are entered, conflict of a process
 -- that enters a machine, spread of services that move, and closed machines of processes that move.
-use Rattle.std.proofs.Common.{◌≡◌, ◌≢◌, ◌↔◌, ℕ, ◌+◌, ◌<◌, ◌≤◌, true, false, eqb, ltb, nat_le, ◌&&◌, ◌||◌, List, Option, Some, None, length, sym, refl, ap, ◌∙◌, ⊎_elim, arith, ne_eqb, le-ltb}
+use Rattle.std.proofs.Common.{◌≡◌, ◌≢◌, ◌↔◌, ℕ, ◌+◌, ◌<◌, ◌≤◌, Bool, true, false, not, is_some, eqb, ltb, nat_le, ◌&&◌, ◌||◌, List, Option, Some, None, length, sym, refl, ap, ◌∙◌, ⊎_elim, arith, ne_eqb, le-ltb}
 use Rattle.std.proofs.lemmas.Bool.{cases_Bool, cases_lt, cond-false, and_left, and_right, and_parts, or_from, ltb-false, eqb-true, both_ways, leb-true, le-leb}
 use Rattle.ra_base.specs.Sums.{count, is_named}
 use Rattle.ra_base.specs.Searches.{or_else, first}
 use Rattle.ra_base.specs.declared.ids.Machine.{Machine}
 use Rattle.ra_base.specs.declared.causes.Cause.{Cause}
-use Rattle.ra_base.proofs.Sums.{total_zero, total_le}
-use Rattle.ra_base.proofs.Counts.{one_if_false, count_zero_at, count_positive}
+use Rattle.ra_base.proofs.Sums.{total_zero, total_le, total_only}
+use Rattle.ra_base.proofs.Counts.{one_if_false, one_if_le, count_zero_at, count_positive}
 use Rattle.ra_base.proofs.Named.{is_named_at, is_named_from}
 use Rattle.ra_base.proofs.Searches.{first_none_at, first_none_from, or_else_none, or_else_some}
 use Rattle.ra_model.specs.declared.raw.Tables.{Tables}
@@ -25,7 +25,8 @@ use Rattle.ra_moves.proofs.ValueLemmas.{use_elsewhere}
 use Rattle.ra_moves.specs.Touched.{service_in, moves_service}
 use Rattle.ra_moves.specs.Moving.{IsMove}
 use Rattle.ra_moves.specs.Laws.{OnlyWhere, AreLocal}
-use Rattle.ra_moves.proofs.StayLemmas.{tally_applied}
+use Rattle.ra_moves.proofs.StayLemmas.{tally_applied, of_other}
+use Rattle.ra_weigh.specs.Flowing.{MoveAlone}
 
 -- nothing is found at the first n names
 pub record NoneAt (f : ℕ → Option Cause) (e : ℕ → ℕ) (n : ℕ) : Type 0 where
@@ -57,6 +58,12 @@ told_true holds = (λ same. holds, λ fact. refl)
 
 pub told_false : {P : Type 0} → (P → ⊥) → (false ≡ true) ↔ P
 told_false fails = (λ same. absurd (cc), λ fact. absurd (fails fact))
+
+pub told_if_none : (o p : Option Cause) (told : Bool) → is_some o ≡ not told → o ≡ p → (told ≡ true) ↔ (p ≡ None)
+told_if_none None p true is same = (λ yes. sym same, λ none. refl)
+told_if_none None p false is same = absurd (cc)
+told_if_none (Some x) p true is same = absurd (cc)
+told_if_none (Some x) p false is same = (λ yes. absurd (cc), λ none. absurd (cc (same, none)))
 
 pub found_somewhere : (m x : ℕ) (f : ℕ → Option Cause) → x < m → f x ≢ None → first m f ≡ None → ⊥
 found_somewhere m x f within some none = some (first_none_at x m f within none)
@@ -192,6 +199,25 @@ conflict_free : (i : Tables) (a : List Machine) (s m : ℕ) → on_machine i a s
 unfolding conflict_test
 conflict_free i a s m few = cause_free _ _ (le-ltb 1 (on_machine i a s m) few)
 
+-- a process that comes where none of its service was, and no other of it moves
+pub conflict_alone : (i : Tables) (a : List Machine) (steps : List Step) (j s m n : ℕ) → IsMove i a steps →
+    j < length steps → MoveAlone i steps j s (length steps) → n ≡ on_machine i a s m → n ≡ 0 →
+    conflict_test i (applied a steps) s m ≡ None
+unfolding on_machine members_at come of_service service_in
+conflict_alone i a steps j s m n move within alone n_is none =
+    let f = of_service i s (λ p at. eqb at m) in
+    conflict_free i (applied a steps) s m
+    (omega (
+      arith,
+      n_is,
+      none,
+      tally_applied i a steps f move,
+      total_only (length steps) j (come f steps) within
+          (λ k below apart. of_other i s (λ p at. eqb at m) (process_in steps k) (to_in steps k)
+          (alone.others k below apart)),
+      one_if_le (is_of i s (process_in steps j) && eqb (to_in steps j) m),
+    ))
+
 conflict_at : (i : Tables) (a0 a : List Machine) (steps : List Step) (s m : ℕ) → IsMove i a steps → Fine i a0 a →
     NoConflict i (applied a steps) steps (length steps) → s < service_count i → m < machine_count i →
     conflict_test i (applied a steps) s m ≡ None
@@ -236,18 +262,14 @@ conflict_entered i a0 a steps s move fine s_in = record {
       ));
 }
 
-pub conflict_somewhere : (i : Tables) (b : List Machine) (s m : ℕ) → s < service_count i → m < machine_count i →
-    conflict_test i b s m ≢ None → broken_conflict i b ≡ None → ⊥
+pub conflict_nowhere : (i : Tables) (b : List Machine) (s m : ℕ) → s < service_count i → m < machine_count i →
+    broken_conflict i b ≡ None → conflict_test i b s m ≡ None
 unfolding broken_conflict service_conflict
-conflict_somewhere i b s m s_in m_in some none =
-    some (first_none_at m (machine_count i) (conflict_test i b s) m_in (first_none_at s (service_count i) _ s_in none))
+conflict_nowhere i b s m s_in m_in none =
+    first_none_at m (machine_count i) (conflict_test i b s) m_in (first_none_at s (service_count i) _ s_in none)
 
 pub found_there : (m x : ℕ) (f : ℕ → Option Cause) (cause : Cause) → x < m → Some cause ≡ f x → first m f ≡ None → ⊥
 found_there m x f cause within is none = absurd (cc (is, first_none_at x m f within none))
-
-pub conflict_there : (i : Tables) (b : List Machine) (s m : ℕ) (cause : Cause) → s < service_count i →
-    m < machine_count i → Some cause ≡ conflict_test i b s m → broken_conflict i b ≡ None → ⊥
-conflict_there i b s m cause s_in m_in is none = conflict_somewhere i b s m s_in m_in (λ no. absurd (cc (is, no))) none
 
 -- spread, by the names of the services that move
 pub spread_moved : {i : Tables} {a0 b : List Machine} {steps : List Step} → AreLocal i a0 b steps →

@@ -1,10 +1,10 @@
 -- A service of which one process moves stays in as many locations if others of it stay where that leaves, or if none are
--- where it comes.
-use Rattle.std.proofs.Common.{◌≡◌, ◌≢◌, ℕ, ◌+◌, ◌^◌, ◌<◌, ◌≤◌, eqb, ltb, ◌&&◌, List, length, sym, ap, ◌∙◌, arith, ⊎_elim, eq-eqb, ne_eqb, lt-ltb, refl, None, subst}
-use Rattle.std.proofs.lemmas.Bool.{cases_eq, cases_lt}
+-- where it comes, and loses at most one in any case.
+use Rattle.std.proofs.Common.{◌≡◌, ◌≢◌, ℕ, ◌+◌, ◌^◌, ◌<◌, ◌≤◌, cond, eqb, ltb, ◌&&◌, List, length, sym, ap, ◌∙◌, arith, ⊎_elim, eq-eqb, ne_eqb, lt-ltb, refl, None, subst}
+use Rattle.std.proofs.lemmas.Bool.{cases_eq, cases_lt, cond-true, cond-false}
 use Rattle.ra_base.specs.Sums.{one_if}
 use Rattle.ra_base.specs.declared.ids.Machine.{Machine}
-use Rattle.ra_base.proofs.Sums.{total_le, total_only, total_change_two}
+use Rattle.ra_base.proofs.Sums.{total_le, total_only, total_change, total_change_two}
 use Rattle.ra_base.proofs.Counts.{one_if_true, one_if_le}
 use Rattle.ra_model.specs.declared.raw.Tables.{Tables}
 use Rattle.ra_model.specs.Numbers.{service_count, service_of, location_of, spread_of}
@@ -156,6 +156,41 @@ stays_by_coming i a steps j s small move within is alone apart none =
           ))),
     )
 
+-- it loses at most the location that the process leaves
+loses_one : (i : Tables) (a : List Machine) (steps : List Step) (j s : ℕ) → Small i → IsMove i a steps →
+    j < length steps → service_in i steps j ≡ s → MoveAlone i steps j s (length steps) →
+    locations_of i a s ≤ locations_of i (applied a steps) s + 1
+unfolding location_holds
+loses_one i a steps j s small move within is alone =
+    let left = location_of i (from_in steps j) in
+    let f = location_holds i a s in
+    let h = λ (label : ℕ). cond (eqb label left) 0 (f label) in
+    let h_left : h left ≡ 0 = cond-true (eqb left left) 0 (f left) (eq-eqb left left refl) in
+    let h_other = λ (label : ℕ) (d : label ≢ left). cond-false (eqb label left) 0 (f label) (ne_eqb label left d) in
+    omega (
+      arith,
+      locations_are i a s,
+      locations_are i (applied a steps) s,
+      total_change (2 ^ 32) left f h (small.locations (from_in steps j)) (λ label below d. sym (h_other label d)),
+      h_left,
+      held_few i a s left,
+      total_le (2 ^ 32) h (location_holds i (applied a steps) s) (λ label below. ⊎_elim
+          (λ (here : label ≡ left).
+          omega (arith, cond-true (eqb label left) 0 (f label) (eq-eqb label left here)))
+          (λ (there : label ≢ left).
+          omega (
+            arith,
+            h_other label there,
+            one_grows (in_location i a s label) (in_location i (applied a steps) s label)
+                (omega (
+                  arith,
+                  location_moves i a steps j s label move within is alone,
+                  one_apart left label (λ same. there (sym same)),
+                )),
+          ))
+          (cases_eq label left)),
+    )
+
 -- so it has no fewer than it wants
 enough_stay : (i : Tables) (a0 a b : List Machine) (s : ℕ) → Fine i a0 a → s < service_count i →
     locations_of i a s ≤ locations_of i b s → spread_test i b s ≡ None
@@ -164,6 +199,13 @@ enough_stay i a0 a b s fine s_in more =
     (omega (arith, more, spread_met i a fine.spread s s_in)))
 
 -- each way, with the counts as they are read
+pub spread_to_spare : (i : Tables) (a : List Machine) (steps : List Step) (j s wants before : ℕ) → Small i →
+    IsMove i a steps → j < length steps → service_in i steps j ≡ s → MoveAlone i steps j s (length steps) →
+    wants ≡ spread_of i s → before ≡ locations_of i a s → wants < before → spread_test i (applied a steps) s ≡ None
+spread_to_spare i a steps j s wants before small move within is alone wants_is before_is more =
+    sym (spread_enough i (applied a steps) s (locations_of i (applied a steps) s) wants refl wants_is
+    (omega (arith, more, before_is, loses_one i a steps j s small move within is alone)))
+
 pub spread_there : (i : Tables) (a0 a : List Machine) (steps : List Step) (j s left come : ℕ) → IsMove i a steps →
     Fine i a0 a → s < service_count i → j < length steps → service_in i steps j ≡ s →
     MoveAlone i steps j s (length steps) → left ≡ location_of i (from_in steps j) →

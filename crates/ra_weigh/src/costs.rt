@@ -6,14 +6,15 @@ ghost use Rattle.ra_moves.specs.Replacing.{after_move};
 ghost use Rattle.ra_moves.specs.Moving.{MayMove};
 
 use crate::counts::counts_of;
-use crate::ends::change_at_ends;
+use crate::ends::{change_at_ends, cost_now};
+use crate::exchanges::is_exchange;
 use crate::ways::{cost_entered, cost_left};
 use ra_moves::Move;
 use ra_world::World;
 
 /// The cost after a move, whatever it breaks, if it is below a bound, from what its processes require. The service cost
-/// and the costs of the processes on the machines that they enter are computed last, since most moves cost too much
-/// without them. The time grows only with the number of resources, and no memory is taken.
+/// is computed last, since it takes the most time, and before it the costs of the processes on the machines that they
+/// enter: most moves cost too much without. The time grows only with the number of resources, and no memory is taken.
 pub fn cost_after_move(
     world: &World<'_>,
     mv: &Move,
@@ -32,15 +33,32 @@ pub fn cost_after_move(
     if is_high(bound, rows, taken) {
         return None;
     }
-    let added = rows + service_after(world, mv);
+    let added = rows + cost_entered(world, mv);
     if is_high(bound, added, taken) {
         return None;
     }
-    let cost = added + cost_entered(world, mv) - taken;
+    let cost = added + service_after(world, mv) - taken;
     if cost >= bound {
         return None;
     }
     Some(cost)
+}
+
+/// Whether an exchange costs at least a bound by its ways alone, even if its machines cost nothing after it. Most
+/// exchanges do, and what their processes require need not be read to find it out.
+#[inline(always)]
+pub fn is_dear_by_ways(world: &World<'_>, mv: &Move, bound: u128) -> bool
+    requires { MayMove world.now mv.now.steps }
+    ensures { result ≡ true → bound ≤ cost_at (after_move world.now mv.now.steps) }
+{
+    if !is_exchange(mv) {
+        return false;
+    }
+    let parts = world.parts();
+    let step = mv.step(0);
+    let machines = cost_now(world, step.from) + cost_now(world, step.to);
+    let taken = machines + parts.service + cost_left(world, mv);
+    is_high(bound, parts.total + cost_entered(world, mv), taken)
 }
 
 /// Whether what is added, minus what is taken away, is at least a bound.

@@ -175,7 +175,7 @@ fn cost_of_row(inst: &Instance, m: Machine, row: &[u64]) -> u128
 
 /// What a machine costs now.
 #[inline(always)]
-fn cost_now(world: &World<'_>, m: Machine) -> u128
+pub(crate) fn cost_now(world: &World<'_>, m: Machine) -> u128
     requires machine { m.0 < machine_count world.now.tables }
     ensures value { result ≡ row_cost world.now.tables world.now.here m.0 }
     ensures few { result ≤ 2 ^ 106 }

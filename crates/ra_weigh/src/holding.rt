@@ -1,9 +1,11 @@
-ghost use Rattle.std.specs.Prelude.{◌≡◌, ◌↔◌, ◌<◌, true, None};
+ghost use Rattle.std.specs.Prelude.{◌≡◌, ◌↔◌, ◌<◌, true, None, length};
 ghost use Rattle.ra_model.specs.Numbers.{machine_count, service_count, neighbourhood_of};
 ghost use Rattle.ra_weigh.specs.Holding.{FitsAll};
 ghost use Rattle.ra_weigh.specs.Nearness.{FindsNeeds, LeavesNone};
-ghost use Rattle.ra_model.specs.Broken.{first_broken, broken_conflict, broken_spread, broken_dependency, broken_closed};
-ghost use Rattle.ra_weigh.specs.Trials.{tables_of, initial_of, after_of};
+ghost use Rattle.ra_moves.specs.Steps.{to_in};
+ghost use Rattle.ra_moves.specs.Touched.{service_in};
+ghost use Rattle.ra_model.specs.Broken.{conflict_test, first_broken, broken_conflict, broken_spread, broken_dependency, broken_closed};
+ghost use Rattle.ra_weigh.specs.Trials.{tables_of, initial_of, steps_of, after_of};
 
 use crate::marks::Mark;
 use crate::trial::Trial;
@@ -50,12 +52,28 @@ impl<'a, 'b> Trial<'a, 'b> {
             (broken_conflict (tables_of self.now) (after_of self.now) ≡ None) }
     {
         for j in 0..self.steps() {
-            let step = self.step(j);
-            if let Some(_cause) = self.conflict_test(self.inst.service_of(step.process), step.to) {
+            if !self.enters_apart(j) {
                 return false;
             }
         }
         true
+    }
+
+    /// Whether the machine that a step enters has no other process of its service. In most cases it had none before, and
+    /// no other step moves one.
+    #[inline(always)]
+    fn enters_apart(&self, j: u32) -> bool
+        requires { j < length (steps_of self.now) }
+        ensures { (result ≡ true) ↔ (conflict_test (tables_of self.now) (after_of self.now)
+            (service_in (tables_of self.now) (steps_of self.now) j)
+            (to_in (steps_of self.now) j) ≡ None) }
+    {
+        let step = self.step(j);
+        let s = self.inst.service_of(step.process);
+        if self.cells.on_machine(s, step.to) == 0 && self.moves_alone(j, s) {
+            return true;
+        }
+        self.conflict_test(s, step.to).is_none()
     }
 
     /// Whether each service that moves is in enough locations.

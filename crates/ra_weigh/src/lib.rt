@@ -27,5 +27,5 @@ mod ways;
 
 pub use broken::{first_broken, is_unbroken};
 pub use changes::changed_by;
-pub use costs::cost_after_move;
+pub use costs::{cost_after_move, is_dear_by_ways};
 pub use room::has_room;

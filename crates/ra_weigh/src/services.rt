@@ -110,8 +110,8 @@ impl<'a, 'b> Trial<'a, 'b> {
         self.spread_test(s)
     }
 
-    /// Whether it is plain that a service with one moving process is in as many locations after the move: others of it
-    /// stay in the location that the process leaves, or none are in the location where it comes.
+    /// Whether it is plain that a service with one moving process is in enough locations after the move: it is in more
+    /// than it needs, others of it stay in the location that the process leaves, or none are in the one where it comes.
     #[inline(always)]
     fn stays_spread(&self, j: u32, s: Service, step: Step) -> bool
         requires step { step ≡ step_at (steps_of self.now) j }
@@ -122,6 +122,9 @@ impl<'a, 'b> Trial<'a, 'b> {
     {
         if !self.moves_alone(j, s) {
             return false;
+        }
+        if self.inst.spread_min(s) < self.cells.locations(s) {
+            return true;
         }
         let left = self.inst.location(step.from);
         let come = self.inst.location(step.to);
@@ -136,7 +139,7 @@ impl<'a, 'b> Trial<'a, 'b> {
 
     /// Whether no step but one moves a process of a service.
     #[inline(always)]
-    fn moves_alone(&self, j: u32, s: Service) -> bool
+    pub(crate) fn moves_alone(&self, j: u32, s: Service) -> bool
         ensures { (result ≡ true) ↔ MoveAlone (tables_of self.now) (steps_of self.now) j s.0
             (length (steps_of self.now)) }
     {

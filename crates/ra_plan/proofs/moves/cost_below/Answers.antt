@@ -4,6 +4,9 @@ use Rattle.ra_plan.proofs.Below.{none_below, some_below, unfit_below, room_free}
 use Rattle.ra_plan.proofs.Weighed.{flawed, flawless, flawless_move, processes_known}
 use Rattle.ra_plan.proofs.moves.cost_below.Goals as goal
 
+pub is_dear_by_ways-requires : goal.is_dear_by_ways-requires
+is_dear_by_ways-requires g c = flawless_move _ _ _ c.requires.offered c.in_default.ensures
+
 pub requirements-requires : goal.requirements-requires
 requirements-requires g c =
     rw c.instance.ensures.value (processes_known _ _ _ (flawless_move _ _ _ c.requires.offered c.in_default.ensures))
@@ -28,6 +31,11 @@ is_unbroken-requires-clause-required g c = rw c.instance.ensures.value at c.requ
 
 pub returns-in-Some-clause-below : goal.returns-in-Some-clause-below
 returns-in-Some-clause-below g c = none_below _ _ _ (λ none. absurd (cc (none, flawed _ _ _ c.in-Some.ensures)))
+
+pub returns-then-is_dear_by_ways-clause-below : goal.returns-then-is_dear_by_ways-clause-below
+returns-then-is_dear_by_ways-clause-below g c =
+    none_below c.args.world.now c.args.mv.now.steps c.args.bound
+    (λ none. c.is_dear_by_ways.ensures c.if-is_dear_by_ways.true)
 
 pub returns-then-not-has_room-clause-below : goal.returns-then-not-has_room-clause-below
 returns-then-not-has_room-clause-below g c =

@@ -73,9 +73,9 @@ returns-then-is_high c =
     ap (λ (x : Parts). x.service) c.parts-parts.ensures.value in
     let ends = c.change_at_ends-ends.ensures in
     none_below _ _
-    (cost_least world c.args.mv.now.steps c.parts-parts.result.total _ _ _ 0 _ c.args.bound
-    c.parts-parts.ensures.sound.well_formed c.requires.moves kept ends.added ends.taken c.cost_left.ensures.value
-    (omega arith) now
+    (cost_least world c.args.mv.now.steps c.parts-parts.result.total c.change_at_ends-ends.result.added _ 0 _ _
+    c.args.bound c.parts-parts.ensures.sound.well_formed c.requires.moves kept (omega (arith, ends.added)) ends.taken
+    (omega arith) c.cost_left.ensures.value now
     (omega (arith, c.is_high.ensures.0 c.if-is_high.true)))
 
 pub overflow_add-added : goal.overflow_add-added
@@ -89,7 +89,7 @@ overflow_add-added c =
       kept,
       objective_under world.tables world.start world.here sound.well_formed sound.small,
       c.change_at_ends-ends.ensures.added_few,
-      c.service_after.ensures.few,
+      c.cost_entered.ensures.few,
     )
 
 pub is_high-requires-2 : goal.is_high-requires-2
@@ -103,7 +103,7 @@ is_high-requires-2 c =
       kept,
       objective_under world.tables world.start world.here sound.well_formed sound.small,
       c.change_at_ends-ends.ensures.added_few,
-      c.service_after.ensures.few,
+      c.cost_entered.ensures.few,
     )
 
 pub returns-then-is_high-2 : goal.returns-then-is_high-2
@@ -115,9 +115,10 @@ returns-then-is_high-2 c =
     ap (λ (x : Parts). x.service) c.parts-parts.ensures.value in
     let ends = c.change_at_ends-ends.ensures in
     none_below _ _
-    (cost_least world c.args.mv.now.steps c.parts-parts.result.total _ _ _ c.service_after.result _ c.args.bound
-    c.parts-parts.ensures.sound.well_formed c.requires.moves kept ends.added ends.taken c.cost_left.ensures.value
-    (omega (arith, c.service_after.ensures.value)) now (omega (arith, c.is_high-2.ensures.0 c.if-is_high-2.true)))
+    (cost_least world c.args.mv.now.steps c.parts-parts.result.total c.change_at_ends-ends.result.added _
+    c.cost_entered.result _ _ c.args.bound c.parts-parts.ensures.sound.well_formed c.requires.moves kept
+    (omega (arith, ends.added)) ends.taken (omega (arith, c.cost_entered.ensures.value)) c.cost_left.ensures.value now
+    (omega (arith, c.is_high-2.ensures.0 c.if-is_high-2.true)))
 
 pub overflow_add-cost : goal.overflow_add-cost
 unfolding parts_of
@@ -130,8 +131,8 @@ overflow_add-cost c =
       kept,
       objective_under world.tables world.start world.here sound.well_formed sound.small,
       c.change_at_ends-ends.ensures.added_few,
-      c.service_after.ensures.few,
       c.cost_entered.ensures.few,
+      c.service_after.ensures.few,
     )
 
 pub overflow_sub-cost : goal.overflow_sub-cost

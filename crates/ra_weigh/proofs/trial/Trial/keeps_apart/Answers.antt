@@ -1,46 +1,38 @@
 -- Two processes of a service are on one machine only if one of them enters it.
-use Rattle.std.proofs.Common.{◌≡◌, length, sym, arith}
+use Rattle.std.proofs.Common.{◌≡◌, ◌<◌, length, refl, arith}
+use Rattle.std.proofs.lemmas.Bool.{both_ways}
+use Rattle.ra_moves.specs.Steps.{to_in}
+use Rattle.ra_moves.specs.Touched.{service_in}
 use Rattle.ra_weigh.specs.Trials.{tables_of, initial_of, steps_of, before_of, after_of}
-use Rattle.ra_weigh.proofs.StepLemmas.{step_process, step_to, to_read, service_read, service_there}
-use Rattle.ra_weigh.proofs.HoldLemmas.{conflict_start, conflict_more, conflict_all, conflict_there, told_true, told_false}
+use Rattle.ra_weigh.proofs.StepLemmas.{service_within}
+use Rattle.ra_weigh.proofs.HoldLemmas.{conflict_start, conflict_more, conflict_all, conflict_nowhere, told_true, told_false}
 use Rattle.ra_weigh.proofs.trial.Trial.keeps_apart.Goals as goal
-
-pub service_of-requires : goal.service_of-requires
-service_of-requires c = step_process (tables_of c.args.self.now) (before_of c.args.self.now) (steps_of c.args.self.now)
-    c.loop-j.j c.step-step.result c.args.self.now.moves c.step-step.ensures
-    (omega (arith, c.loop-j-test.true, c.steps-j-end.ensures.value))
-
-pub conflict_test-requires : goal.conflict_test-requires
-conflict_test-requires c = record {
-  service = service_there (tables_of c.args.self.now) c.step-step.result.process.0 c.service_of.result.0
-      c.args.self.now.inst.now.well_formed
-      (step_process (tables_of c.args.self.now) (before_of c.args.self.now) (steps_of c.args.self.now) c.loop-j.j
-      c.step-step.result c.args.self.now.moves c.step-step.ensures
-      (omega (arith, c.loop-j-test.true, c.steps-j-end.ensures.value))) c.service_of.ensures;
-}
 
 pub loop-j-init : goal.loop-j-init
 loop-j-init c = conflict_start (tables_of c.args.self.now) (after_of c.args.self.now) (steps_of c.args.self.now)
 
-pub returns-in-Some : goal.returns-in-Some
-returns-in-Some c =
-    told_false (conflict_there (tables_of c.args.self.now) (after_of c.args.self.now) c.service_of.result.0
-    c.step-step.result.to.0 c.in-Some._cause
-    (service_there (tables_of c.args.self.now) c.step-step.result.process.0 c.service_of.result.0
-    c.args.self.now.inst.now.well_formed
-    (step_process (tables_of c.args.self.now) (before_of c.args.self.now) (steps_of c.args.self.now) c.loop-j.j
-    c.step-step.result c.args.self.now.moves c.step-step.ensures
-    (omega (arith, c.loop-j-test.true, c.steps-j-end.ensures.value))) c.service_of.ensures)
-    (step_to (tables_of c.args.self.now) (before_of c.args.self.now) (steps_of c.args.self.now) c.loop-j.j
-    c.step-step.result c.args.self.now.moves c.step-step.ensures
-    (omega (arith, c.loop-j-test.true, c.steps-j-end.ensures.value))) c.in-Some.ensures)
+pub enters_apart-requires : goal.enters_apart-requires
+enters_apart-requires c = omega (arith, c.loop-j-test.true, c.steps-j-end.ensures.value)
+
+pub returns-then-not-enters_apart : goal.returns-then-not-enters_apart
+returns-then-not-enters_apart c =
+    let t = c.args.self.now in
+    let within : c.loop-j.j < length (steps_of t) = omega (arith, c.loop-j-test.true, c.steps-j-end.ensures.value) in
+    told_false (λ none.
+    both_ways c.enters_apart.result c.if-not-enters_apart.true
+    (c.enters_apart.ensures.1
+    (conflict_nowhere (tables_of t) (after_of t) (service_in (tables_of t) (steps_of t) c.loop-j.j)
+    (to_in (steps_of t) c.loop-j.j)
+    (service_within (tables_of t) (before_of t) (steps_of t) c.loop-j.j t.inst.now.well_formed t.moves within)
+    (t.moves.reaches c.loop-j.j within) none)))
 
 pub loop-j-preserved : goal.loop-j-preserved
 loop-j-preserved c = conflict_more (tables_of c.args.self.now) (after_of c.args.self.now) (steps_of c.args.self.now)
-    c.loop-j.j c.service_of.result.0 c.step-step.result.to.0 c.loop-j.invariant
-    (service_read (tables_of c.args.self.now) (steps_of c.args.self.now) c.loop-j.j c.step-step.result
-    c.service_of.result.0 c.step-step.ensures c.service_of.ensures)
-    (to_read (steps_of c.args.self.now) c.loop-j.j c.step-step.result c.step-step.ensures) (sym c.in_default.ensures)
+    c.loop-j.j
+    (service_in (tables_of c.args.self.now) (steps_of c.args.self.now) c.loop-j.j)
+    (to_in (steps_of c.args.self.now) c.loop-j.j)
+    c.loop-j.invariant refl refl
+    (c.enters_apart.ensures.0 c.if-not-enters_apart.false)
 
 pub returns : goal.returns
 returns c =

@@ -4,8 +4,31 @@ use Rattle.std.proofs.lemmas.Bool.{eqb-true}
 use Rattle.ra_model.specs.Numbers.{location_of}
 use Rattle.ra_weigh.specs.Trials.{tables_of, initial_of, steps_of, before_of}
 use Rattle.ra_weigh.proofs.StepLemmas.{step_process, step_from, step_to, from_read, to_read, service_there, service_read}
-use Rattle.ra_weigh.proofs.SpreadLemmas.{spread_there, spread_by_others, spread_by_coming}
+use Rattle.ra_weigh.proofs.SpreadLemmas.{spread_to_spare, spread_there, spread_by_others, spread_by_coming}
 use Rattle.ra_weigh.proofs.trial.Trial.stays_spread.Goals as goal
+
+pub spread_min-requires : goal.spread_min-requires
+spread_min-requires c =
+    let t = c.args.self.now in
+    service_there (tables_of t) c.args.step.process.0 c.args.s.0 t.inst.now.well_formed
+    (step_process (tables_of t) (before_of t) (steps_of t) c.args.j c.args.step t.moves c.requires.step c.requires.named)
+    c.requires.service
+
+pub locations-requires : goal.locations-requires
+locations-requires c =
+    let t = c.args.self.now in
+    rw t.cells_tables (service_there (tables_of t) c.args.step.process.0 c.args.s.0 t.inst.now.well_formed
+    (step_process (tables_of t) (before_of t) (steps_of t) c.args.j c.args.step t.moves c.requires.step c.requires.named)
+    c.requires.service)
+
+pub returns-then-spread_min-locations : goal.returns-then-spread_min-locations
+returns-then-spread_min-locations c = λ told.
+    let t = c.args.self.now in
+    spread_to_spare (tables_of t) (before_of t) (steps_of t) c.args.j c.args.s.0 c.spread_min.result c.locations.result
+    t.inst.now.small t.moves c.requires.named
+    (service_read (tables_of t) (steps_of t) c.args.j c.args.step c.args.s.0 c.requires.step c.requires.service)
+    (c.moves_alone.ensures.0 c.if-not-moves_alone.false) c.spread_min.ensures
+    (c.locations.ensures.count (tables_of t) (initial_of t) (before_of t) t.cells_stand) c.if-spread_min-locations.true
 
 pub location-left-requires : goal.location-left-requires
 location-left-requires c =
