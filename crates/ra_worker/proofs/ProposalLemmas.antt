@@ -38,10 +38,10 @@ ring_more lot m ring x room drawn more n near left =
     ∙ ap (λ (j : ℕ). proposal_words lot.source j) is)
     (cases_lt n m)
 
--- the words of the first sixteen proposals are drawn
+-- the words of the first 64 proposals are drawn
 pub drawn_first : (l : Lots) (w : ℕ) (lot : Lot) (before after : Drawn) (ring : List (List ℕ)) → w < worker_count l →
-    lot ≡ lot_at l.lots.items w → before.lot ≡ lot → after.lot ≡ before.lot → (15 < lot.budget → after.made ≡ 16) →
-    ((n : ℕ) → n < 16 → n < lot.budget → slice_index_or ring n [] ≡ proposal_words lot.source n) →
+    lot ≡ lot_at l.lots.items w → before.lot ≡ lot → after.lot ≡ before.lot → (63 < lot.budget → after.made ≡ 64) →
+    ((n : ℕ) → n < 64 → n < lot.budget → slice_index_or ring n [] ≡ proposal_words lot.source n) →
     AreDrawn l w after 0 ring
 drawn_first l w lot before after ring exists lot_is before_lot after_lot made drawn =
     let same = lot_budget l w lot lot_is in
@@ -51,32 +51,32 @@ drawn_first l w lot before after ring exists lot_is before_lot after_lot made dr
       lot = after_lot ∙ before_lot ∙ lot_is;
       made = λ left. made (omega (arith, left, same));
       words = λ n from near left.
-          ap (λ (j : ℕ). slice_index_or ring j []) {x = n % 16} {y = n} (omega (arith, near))
+          ap (λ (j : ℕ). slice_index_or ring j []) {x = n % 64} {y = n} (omega (arith, near))
           ∙ drawn n near (omega (arith, left, same)) ∙ lot_words l w n lot lot_is;
     }
 
--- and then those of the one after sixteen, in the place of the first
+-- and then those of the one after 64, in the place of the first
 pub drawn_more : (l : Lots) (w k : ℕ) (lot : Lot) (before after : Drawn) (ring : List (List ℕ)) (x : List ℕ) →
-    AreDrawn l w before k ring → k < budget l w → length ring ≡ 16 → lot ≡ lot_at l.lots.items w →
-    after.lot ≡ before.lot → (k + 16 < lot.budget → after.made ≡ k + 16 + 1) →
-    (k + 16 < lot.budget → x ≡ proposal_words lot.source (k + 16)) →
-    AreDrawn l w after (k + 1) (slice_set ring (k % 16) x)
+    AreDrawn l w before k ring → k < budget l w → length ring ≡ 64 → lot ≡ lot_at l.lots.items w →
+    after.lot ≡ before.lot → (k + 64 < lot.budget → after.made ≡ k + 64 + 1) →
+    (k + 64 < lot.budget → x ≡ proposal_words lot.source (k + 64)) →
+    AreDrawn l w after (k + 1) (slice_set ring (k % 64) x)
 drawn_more l w k lot before after ring x are some long lot_is after_lot made drawn =
     let same = lot_budget l w lot lot_is in
-    let later : (n : ℕ) → k + 1 ≤ n → n < k + 17 → n < budget l w →
-    slice_index_or (slice_set ring (k % 16) x) (n % 16) [] ≡ words l w n =
+    let later : (n : ℕ) → k + 1 ≤ n → n < k + 65 → n < budget l w →
+    slice_index_or (slice_set ring (k % 64) x) (n % 64) [] ≡ words l w n =
     λ n from near left.
     ⊎_elim
-    (λ (old : n < k + 16).
-    get_or-set_other ring (k % 16) (n % 16) x [] (λ at. omega (arith, at, from, old))
+    (λ (old : n < k + 64).
+    get_or-set_other ring (k % 64) (n % 64) x [] (λ at. omega (arith, at, from, old))
     ∙ are.words n (omega (arith, from)) old left)
-    (λ (new : k + 16 ≤ n).
-    let is : k + 16 ≡ n = omega (arith, new, near) in
-    get_or-set_at ring (k % 16) (n % 16) x [] (omega (arith, is)) (omega (arith, long))
+    (λ (new : k + 64 ≤ n).
+    let is : k + 64 ≡ n = omega (arith, new, near) in
+    get_or-set_at ring (k % 64) (n % 64) x [] (omega (arith, is)) (omega (arith, long))
     ∙ drawn (omega (arith, is, left, same))
     ∙ ap (λ (j : ℕ). proposal_words lot.source j) is
     ∙ lot_words l w n lot lot_is)
-    (cases_lt n (k + 16))
+    (cases_lt n (k + 64))
     in
     record {
       worker = are.worker;

@@ -30,10 +30,10 @@ pub record HasPlaced (before after : Ahead) (place : ℕ) : Type 0 where
   pub others :
       (j : ℕ) (d : Plan) → (j + 1 ≡ before.at → ⊥) → ahead_at after j d ≡ ahead_at before j d
 
--- at most 15 plans were made ahead, those of a replica's proposals from number n on; each is the plan that would be made
+-- at most 63 plans were made ahead, those of a replica's proposals from number n on; each is the plan that would be made
 -- at its place
 pub record AreAhead (r : Replica) (n : ℕ) (ahead : Ahead) : Type 0 where
-  pub few : ahead.made ≤ 15
+  pub few : ahead.made ≤ 63
   pub within : n + ahead.made ≤ budget_at r
   pub each :
       (j : ℕ) (d : Plan) → j < ahead.made

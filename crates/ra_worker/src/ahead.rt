@@ -8,7 +8,7 @@ use ra_moves::{Move, Plan, Step, Weighed};
 /// after it that are made ahead. As soon as a move is done the rest of the round is dropped.
 #[derive(Drop)]
 pub(crate) struct Ahead {
-    pub(crate) plans: [Plan; 15],
+    pub(crate) plans: [Plan; 63],
     /// How many plans of this round were made ahead.
     pub(crate) made: u64,
     /// Which plan of this round comes next. Plan 0 is the one that was not made ahead.
@@ -19,12 +19,12 @@ pub(crate) struct Ahead {
 }
 
 impl Ahead {
-    /// Room for what one of this number of workers plans ahead. A round has at most 16 plans, and one if the worker is
+    /// Room for what one of this number of workers plans ahead. A round has at most 64 plans, and one if the worker is
     /// alone.
     pub(crate) fn make(workers: u32) -> Ahead {
-        let limit = if workers == 1 { 0 } else { 15 };
+        let limit = if workers == 1 { 0 } else { 63 };
         Ahead {
-            plans: [blank(); 15],
+            plans: [blank(); 63],
             made: 0,
             at: 0,
             most: 0,
@@ -34,18 +34,18 @@ impl Ahead {
 
     /// Begins a round, and gives how many plans are made ahead in it at most.
     pub(crate) fn begin(&mut self) -> u64
-        ensures few { result ≤ 15 }
+        ensures few { result ≤ 63 }
         ensures none { self.new.made ≡ 0 }
         ensures at { self.new.at ≡ 0 }
     {
         self.made = 0;
         self.at = 0;
-        self.most.min(15)
+        self.most.min(63)
     }
 
     /// Adds a plan.
     pub(crate) fn add(&mut self, plan: Plan)
-        requires { self.old.made < 15 }
+        requires { self.old.made < 63 }
         ensures { HasAdded self.old self.new plan }
     {
         self.plans[self.made as usize] = plan;
@@ -62,7 +62,7 @@ impl Ahead {
 
     /// Gives the next plan the place at which it is handed in. Plan 0 has this place already.
     pub(crate) fn place_next(&mut self, place: u64)
-        requires { self.old.at ≤ 15 }
+        requires { self.old.at ≤ 63 }
         ensures { HasPlaced self.old self.new place }
     {
         if self.at > 0 {
@@ -72,7 +72,7 @@ impl Ahead {
 
     /// The next plan of this round, whose plan 0 is `first`.
     pub(crate) fn next<'p>(&'p self, first: &'p Plan) -> &'p Plan
-        requires { self.now.at ≤ 15 }
+        requires { self.now.at ≤ 63 }
         ensures first { self.now.at ≡ 0 → result.now ≡ first.now }
         ensures later { (j : ℕ) → j + 1 ≡ self.now.at
             → result.now ≡ ahead_at self.now j result.now }
@@ -88,7 +88,7 @@ impl Ahead {
     /// round may be half as long if some plans were dropped, and one plan longer if none were.
     pub(crate) fn move_on(&mut self, quiet: bool)
         requires next { self.old.at ≤ self.old.made }
-        requires few { self.old.made ≤ 15 }
+        requires few { self.old.made ≤ 63 }
         ensures plans { self.new.plans ≡ self.old.plans }
         ensures made { self.new.made ≡ self.old.made }
         ensures next { quiet ≡ true → self.new.at ≡ self.old.at + 1 }

@@ -5,14 +5,14 @@ ghost use Rattle.ra_worker.specs.Proposals.{AreDrawn};
 
 use ra_draws::{Draws, Lot, Lots};
 
-/// The proposals of a worker: the number of the next one, and the words of the next sixteen.
+/// The proposals of a worker: the number of the next one, and the words of the next 64.
 #[derive(Drop)]
 pub(crate) struct Proposals<'a> {
     pub(crate) lots: &'a Lots,
     pub(crate) worker: u32,
     draws: Draws<'a>,
     pub(crate) number: u64,
-    ring: [[u64; 8]; 16],
+    ring: [[u64; 8]; 64],
     pub ghost drawn: { AreDrawn lots.now worker draws number ring },
 }
 
@@ -45,19 +45,19 @@ impl<'a> Proposals<'a> {
     {
         let _fits = self.budget();
         let lot = self.lots.lot(self.worker);
-        let words = draw(&mut self.draws, lot, self.number + 16);
-        self.ring[(self.number % 16) as usize] = words;
+        let words = draw(&mut self.draws, lot, self.number + 64);
+        self.ring[(self.number % 64) as usize] = words;
         self.number += 1;
     }
 
-    /// The words of one of the next sixteen proposals.
+    /// The words of one of the next 64 proposals.
     pub(crate) fn words(&self, number: u64) -> &[u64; 8]
         requires from { self.now.number ≤ number }
-        requires near { number < self.now.number + 16 }
+        requires near { number < self.now.number + 64 }
         requires left { number < budget self.now.lots.now self.now.worker }
         ensures { result.now ≡ words self.now.lots.now self.now.worker number }
     {
-        &self.ring[(number % 16) as usize]
+        &self.ring[(number % 64) as usize]
     }
 
     /// How many proposals the worker makes.
@@ -70,17 +70,17 @@ impl<'a> Proposals<'a> {
     }
 }
 
-/// The words of the first sixteen proposals, or of fewer if the budget is smaller.
-fn draw_first(draws: &mut Draws<'_>, lot: &Lot) -> [[u64; 8]; 16]
+/// The words of the first 64 proposals, or of fewer if the budget is smaller.
+fn draw_first(draws: &mut Draws<'_>, lot: &Lot) -> [[u64; 8]; 64]
     requires lot { draws.old.lot ≡ lot.now }
     requires made { draws.old.made ≡ 0 }
     ensures lot { draws.new.lot ≡ draws.old.lot }
-    ensures made { 15 < lot.now.budget → draws.new.made ≡ 16 }
-    ensures words { (n : ℕ) → n < 16 → n < lot.now.budget
+    ensures made { 63 < lot.now.budget → draws.new.made ≡ 64 }
+    ensures words { (n : ℕ) → n < 64 → n < lot.now.budget
         → slice_index_or result n [] ≡ proposal_words lot.now.source n }
 {
-    let mut ring = [[0; 8]; 16];
-    for number in 0..16 {
+    let mut ring = [[0; 8]; 64];
+    for number in 0..64 {
         let words = draw(draws, lot, number);
         ring[number as usize] = words;
     }

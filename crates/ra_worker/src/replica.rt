@@ -125,11 +125,11 @@ impl<'a> Replica<'a> {
         self.offer_at(self.proposals.number, steps)
     }
 
-    /// Plans one of its worker's next sixteen proposals, as if no move were done before it. The plan has the proposal's
+    /// Plans one of its worker's next 64 proposals, as if no move were done before it. The plan has the proposal's
     /// number, and how many entries the replica has taken in.
     pub fn offer_at<L: Ledger>(&self, number: u64, steps: &mut Steps<L>) -> Plan
         requires from { next_at self.now ≤ number }
-        requires near { number < next_at self.now + 16 }
+        requires near { number < next_at self.now + 64 }
         requires left { number < budget_at self.now }
         ensures plan { IsPlanAt self.now number result }
         ensures counted_one { drawing_in (lots_at self.now) ≡ One →

@@ -99,7 +99,7 @@ impl<'a> Worker<'a> {
 
     /// Plans a number of proposals after its next one, up to the first one that may be done.
     fn plan_more(&self, more: u64, ahead: &mut Ahead)
-        requires few { more ≤ 15 }
+        requires few { more ≤ 63 }
         requires left { next_at self.now.replica + more < budget_at self.now.replica }
         requires none { ahead.old.made ≡ 0 }
         ensures at { ahead.new.at ≡ ahead.old.at }
@@ -117,10 +117,10 @@ impl<'a> Worker<'a> {
         }
     }
 
-    /// Plans one of its next sixteen proposals.
+    /// Plans one of its next 64 proposals.
     fn plan_at(&self, number: u64) -> Plan
         requires from { next_at self.now.replica ≤ number }
-        requires near { number < next_at self.now.replica + 16 }
+        requires near { number < next_at self.now.replica + 64 }
         requires left { number < budget_at self.now.replica }
         ensures { IsPlanAt self.now.replica number result }
     {
@@ -226,13 +226,13 @@ fn shown_by(reply: &Reply) -> u64
     }
 }
 
-/// Plans one of a replica's next sixteen proposals.
+/// Plans one of a replica's next 64 proposals.
 fn offer_at<L: Ledger>(replica: &Replica<'_>, number: u64, blank: Blank) -> Plan
     requires name { blank.name ≡ L.name }
     requires parts { blank.parts ≡ L.parts }
     requires some { 0 < blank.parts }
     requires from { next_at replica.now ≤ number }
-    requires near { number < next_at replica.now + 16 }
+    requires near { number < next_at replica.now + 64 }
     requires left { number < budget_at replica.now }
     ensures { IsPlanAt replica.now number result }
 {
