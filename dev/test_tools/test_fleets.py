@@ -239,6 +239,22 @@ class Mistakes(FleetCase):
         self.assertEqual(lines, ["services.csv:50002: 50,001 services; at most 50,000 are possible",
                                  "processes.csv:50002: 50,001 processes; at most 50,000 are possible"])
 
+    def test_many_of_a_kind(self):
+        """The first 20 of each kind, how many more there are, and the count of all; in less than a minute of processor time."""
+        self.write_fleet("wrong", services="service,spread,depends_on,cpu,memory\n"
+                         + "".join(f"service-{at:05},1,,1,1Gi\n" for at in range(50000)),
+                         processes="process,service,machine,move_cost,cpu\n" + "".join(f"p{at},servize-{at:05},a1,x,\n" for at in range(50000)))
+        before = resource.getrusage(resource.RUSAGE_CHILDREN)
+        ran = run(tool_path("named"), "pack", "wrong", "nothing")
+        after = resource.getrusage(resource.RUSAGE_CHILDREN)
+        self.assertLess(after.ru_utime + after.ru_stime - before.ru_utime - before.ru_stime, 60)
+        lines = ran.stderr.splitlines()
+        self.assertEqual((ran.returncode, len(lines)), (4, 43))
+        self.assertEqual(lines[0], "processes.csv:2: process 'p0': no service 'servize-00000' (is it 'service-00000'?); column 2 'service'")
+        self.assertEqual(lines[39], "processes.csv: and 49,980 more of this kind; column 2 'service'")
+        self.assertEqual(lines[41:], ["processes.csv: and 49,980 more of this kind; column 4 'move_cost'",
+                                      "named: 100,000 mistakes, so nothing is written"])
+
     def test_call(self):
         put("fleet/machines.csv", "")
         with self.assertRaises(FleetMistakes) as raised:

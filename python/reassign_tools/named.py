@@ -36,8 +36,9 @@ from .words import Words, file_name
 PACK = """Makes a model from the tables of FLEET: OUT/model, OUT/initial (today's placement), OUT/closed (the closed machines)
 and OUT/names.json (all names, the tables, and which model they belong to).
 
-All mistakes of the tables are told at once, each with its file, line and column, and nothing is written then (status 4, or 3
-if a file can't be read). The settings that were used are printed, each word of them, as settings.toml has them; what is not
+All mistakes of the tables are told at once, each with its file, line and column (of more than 20 of a kind the first 20, and
+how many more there are), and nothing is written then (status 4, or 3 if a file can't be read). OUT is another folder than
+FLEET. The settings that were used are printed, each word of them, as settings.toml has them; what is not
 set has these defaults:
 
     neighbourhood = "zone"       the column that says in which neighbourhood a machine is: a service that depends on another

@@ -1,14 +1,20 @@
 """What is wrong in tables, all of it at once."""
 import difflib
-from dataclasses import dataclass
+import os
+import re
+from collections import Counter
+from dataclasses import dataclass, replace
 
 from ..problems import ProblemWithLines
 from ..texts import counted
 
-MOST_SOUGHT = 100  # names that are compared with all others, since each takes some time
+MOST_COMPARED = 100_000  # pairs of names that are compared, since each pair takes some time
+MOST_LETTERS = 100  # of a name that is compared
+MOST_TOLD = 20  # mistakes of a kind of which each gets its line
+NAMES_AND_NUMBERS = re.compile(r"'(?:[^'\\]|\\.)*'|\"(?:[^\"\\]|\\.)*\"|[0-9][0-9.,]*| \(is it .*?\?\)")
 
 
-@dataclass(frozen=True)
+@dataclass(frozen=True, slots=True)
 class Place:
     """Where something stands: a file, its line and its column, as far as they are known. Lines and columns count from 1."""
 
@@ -18,7 +24,7 @@ class Place:
     heading: str = ""
 
 
-@dataclass(frozen=True)
+@dataclass(frozen=True, slots=True)
 class Mistake:
     """One mistake: its place, and what is wrong there."""
 
@@ -32,20 +38,47 @@ class Mistake:
         column = f"; column {place.column}{heading}" if place.column else ""
         return f"{place.file}{line}: {self.text}{column}"
 
+    def kind(self):
+        """What mistakes have in common that are told alike: their file, their column, and the text without names and numbers."""
+        return self.place.file, self.place.column, NAMES_AND_NUMBERS.sub("", self.text)
+
+    def rest(self, count):
+        """The line that stands for so many more mistakes of this kind."""
+        return str(Mistake(replace(self.place, line=0), f"and {count:,} more of this kind"))
+
 
 class FleetMistakes(ProblemWithLines):
-    """Tables or settings that are no fleet. `mistakes` has all of them, in the order of files and lines."""
+    """Tables or settings that are no fleet. `mistakes` has all of them, in the order of files and lines; `lines` tells the first
+    of each kind, and how many more there are."""
 
     def __init__(self, mistakes, status=4):
-        super().__init__(mistakes, f"{counted(len(mistakes), 'mistake')}, so nothing is written", status)
+        super().__init__(list(cut_short(mistakes, Mistake.kind, str, Mistake.rest)),
+                         f"{counted(len(mistakes), 'mistake')}, so nothing is written", status)
         self.mistakes = mistakes
+
+    def within(self, folder):
+        """The mistakes, whose files have their folder."""
+        return [replace(one, place=replace(one.place, file=os.path.join(folder, one.place.file))) for one in self.mistakes]
+
+
+def cut_short(items, kind, line, rest):
+    """The lines of the first items of each kind, and then, if there are more, one line by `rest` of the last item and their
+    count."""
+    kinds = list(map(kind, items))
+    counts, seen = Counter(kinds), Counter()
+    for item, its_kind in zip(items, kinds):
+        seen[its_kind] += 1
+        if seen[its_kind] <= MOST_TOLD:
+            yield line(item)
+        if seen[its_kind] == MOST_TOLD < counts[its_kind]:
+            yield rest(item, counts[its_kind] - MOST_TOLD)
 
 
 class Mistakes:
     """Collects mistakes."""
 
     def __init__(self):
-        self.found, self.status, self.sought = [], 4, {}
+        self.found, self.status, self.sought, self.compared = [], 4, {}, 0
 
     def add(self, place, text):
         self.found.append(Mistake(place, text))
@@ -63,12 +96,14 @@ class Mistakes:
             raise FleetMistakes(self.found, self.status)
 
     def nearest(self, name, names):
-        """The name that was meant, as a question to put behind a mistake, or nothing."""
+        """The name that was meant, as a question to put after a mistake, or nothing."""
         key = name, id(names)
         if key not in self.sought:
-            if len(self.sought) >= MOST_SOUGHT:
+            if len(name) > MOST_LETTERS or self.compared and self.compared + len(names) > MOST_COMPARED:
                 return ""
+            self.compared += len(names)
             # The names are kept too, so that no others get their id.
-            self.sought[key] = difflib.get_close_matches(name, names, 1, 0.6), names
+            short = [one for one in names if len(one) <= MOST_LETTERS]
+            self.sought[key] = difflib.get_close_matches(name, short, 1, 0.6), names
         near, _ = self.sought[key]
         return f" (is it {near[0]!r}?)" if near else ""
