@@ -157,10 +157,49 @@ class Edits(FleetCase):
                          processes=PROCESSES.replace("web-1,web,a2,3", "web-1,web,a3,4"))
         printed, lines = self.named("diff", "fleet", "later", "--out", "no_edits", status=12)
         self.assertEqual((printed, os.path.exists("no_edits")), ("", False))
-        self.assertEqual(sorted(lines), sorted([
-            "[ways] of settings.toml differ", "machine 'a2' is gone", "machine 'a3' is new", "machine 'b1': its capacity differs",
-            "machine 'b1': its safety differs", "service 'web': its spread differs", "service 'web': depends_on differs",
-            "process 'web-1': its machine is 'a3' and was 'a2'", "process 'web-1': its move_cost is 4 and was 3"]))
+        self.assertEqual(lines, [
+            "settings.toml: [ways] elsewhere is 4 and was 5", "machine 'a2': only in the old fleet",
+            "machine 'b1': capacity of cpu is 32 and was 16", "machine 'a3': only in the new fleet",
+            "service 'web': spread is 1 and was 2", "service 'web': depends_on is '' and was 'db'",
+            "process 'web-1': machine is 'a3' and was 'a2'", "process 'web-1': move_cost is 4 and was 3"])
+
+    def test_differences_in_file_order(self):
+        """Machines, services and processes as their files have them, whatever the hashes of their names are."""
+        machines = MACHINES + "".join(f"m{at},a,r1,{at + 1},64Gi,\n" for at in range(9))
+        services = SERVICES + "".join(f"s{at},{at},,1,1Gi\n" for at in range(9))
+        processes = PROCESSES + "".join(f"p{at},s{at},m{at},{at},\n" for at in range(9))
+        self.write_fleet("fleet", machines=machines, services=services, processes=processes)
+        self.write_fleet("later", machines=machines.replace(",r1,", ",r1,9"), services=services.replace(",,1,1Gi", "1,,1,1Gi"),
+                         processes=processes.replace(",,\n", ",7,\n").replace(",\n", "0,\n"))
+        for seed in "12":
+            ran = run(tool_path("named"), "diff", "fleet", "later", env={**os.environ, "PYTHONHASHSEED": seed})
+            self.assertEqual(ran.returncode, 12, ran.stderr)
+            self.assertEqual([line.split(":")[0] for line in ran.stderr.splitlines()[:-1]],
+                             ["machine 'a1'", *(f"machine 'm{at}'" for at in range(9)), *(f"service 's{at}'" for at in range(9)),
+                              "process 'web-0'", "process 'web-1'", *(f"process 'p{at}'" for at in range(1, 9))])
+
+    def test_many_alike_are_one_line(self):
+        machines = MACHINES + "".join(f"m{at},a,r1,{at + 1},64Gi,\n" for at in range(300))
+        self.write_fleet("fleet", machines=machines)
+        self.write_fleet("later", machines=machines, settings=SETTINGS.replace('"1m"', '"1m"\nsafety = 0.9'))
+        self.assertEqual(self.named("diff", "fleet", "later", status=12)[1],
+                         ["resource 'cpu': safety is 0.9 and was 0.8, for each of 303 machines"])
+        self.write_fleet("later", machines=machines.replace("64Gi", "32Gi").replace("b1,b,r3,16,32Gi,", "b1,b,r3,16,32Gi,closed"))
+        self.assertEqual(self.named("diff", "fleet", "later", status=12)[1], [
+            "303 machines: capacity of memory is 32Gi and was 64Gi ('a1', 'a2', 'b1' and 300 others)",
+            "machine 'b1': state is closed and was open"])
+        self.write_fleet("later", machines=machines.replace(",64Gi,", "0,64Gi,"))
+        ran = run(tool_path("named"), "diff", "fleet", "later")
+        lines = ran.stderr.splitlines()
+        self.assertEqual(len(lines), 22)
+        self.assertTrue(lines[-2].startswith("machine: and 28"), lines)
+        self.assertTrue(lines[-1].startswith("named: 303 differences can't be an edit (edits add, retire and resize processes)"))
+
+    def test_mistakes_of_both_fleets(self):
+        self.write_fleet("fleet", machines=MACHINES.replace("a2,a,r2,16", "a2,a,r2,many"))
+        self.write_fleet("later", processes=PROCESSES.replace("web-1,web", "web-1,wob"))
+        _, lines = self.named("diff", "fleet", "later", status=4)
+        self.assertEqual([line.split(": ")[0] for line in lines], ["fleet/machines.csv:3", "later/processes.csv:3"])
 
     def test_no_output_over_an_input(self):
         self.write_fleet("later", processes=self.NEW)

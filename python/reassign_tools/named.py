@@ -22,7 +22,7 @@ import sys
 
 from .files import is_same, target, write_whole
 from .fleets import kubernetes
-from .fleets.changes import MOST_EDITS, changes, edits_text, obstacles
+from .fleets.changes import MOST_EDITS, changes, edits_text, obstacles, read_both
 from .fleets.fleet import Fleet
 from .fleets.packed import Packed, judge, unpack
 from .fleets.packing import FILES, pack
@@ -74,8 +74,9 @@ LIST = """Prints on which machine each process is in LIST, or in a report of `re
 UNPACK = """Writes the tables of the packed fleet OUT into the new folder FLEET2, with the machines of LIST (or of a report of
 `reassign solve`)."""
 DIFF = """Writes the file of edits (for `reassign edit`) that make the model of the fleet OLD that of NEW: processes that are
-added, retired, or require something else. Machines, services and settings have to be the same; what can't be an edit is told,
-and nothing is written then (status 12). The edits count processes as `named pack OLD` does.
+added, retired, or require something else. Nothing else can be an edit: no new, lost or closed machine, no other capacity, no
+other service, no process that moves or gets another service, no other cost or weight. All of that is told, and nothing is
+written then (status 12). What is the same for many rows is one line. The edits count processes as `named pack OLD` does.
 
 Who requires less comes first, then who is retired, then who is added, then who requires more. With --out the edits are
 printed by names."""
@@ -163,11 +164,11 @@ def unpack_list(words):
 
 
 def diff(words):
-    old, new = Fleet.read(words.old), Fleet.read(words.new)
-    wrong = list(obstacles(old, new))
-    if wrong:
-        raise ProblemWithLines(wrong, f"{counted(len(wrong), 'difference')} can't be an edit, so nothing is written; `named pack "
-                               f"{words.new}` makes a model of its own", 12)
+    old, new = read_both(Fleet.read, (words.old, words.new))
+    count, lines = obstacles(old, new)
+    if count:
+        raise ProblemWithLines(lines, f"{counted(count, 'difference')} can't be an edit (edits add, retire and resize processes), so "
+                               f"nothing is written; `named pack {words.new}` makes a model of its own", 12)
     found = changes(old, new)
     if len(found) > MOST_EDITS:
         raise Problem(f"{len(found):,} edits; at most {MOST_EDITS:,} are possible", 12)

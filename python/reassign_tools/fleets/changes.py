@@ -1,7 +1,13 @@
 """The edits that make the model of one fleet that of another (docs/FORMATS.md, "The file of edits")."""
-from dataclasses import dataclass
+from dataclasses import dataclass, fields
+from fractions import Fraction
+
+from ..texts import counted
+from .amounts import amount_text
+from .mistakes import FleetMistakes, cut_short
 
 MOST_EDITS = 100_000
+MOST_NAMED = 3  # rows that are named in a line about many
 ADD, RETIRE, RESIZE = 1, 2, 3
 
 
@@ -13,45 +19,151 @@ class Change:
     told: str
 
 
+@dataclass(frozen=True)
+class Difference:
+    """What differs between two fleets and can't be an edit: a row by its name, and what is said of it."""
+
+    row: str  # machine, service or process
+    name: str
+    word: str  # what differs
+    said: str
+
+
+def read_both(read, folders):
+    """The fleets of two folders, by the function that reads one. Raises FleetMistakes with the mistakes of both, whose files
+    have their folders."""
+    fleets, wrong, status = [], [], 4
+    for folder in folders:
+        try:
+            fleets.append(read(folder))
+        except FleetMistakes as fault:
+            wrong += fault.within(folder)
+            status = min(status, fault.status)
+    if wrong:
+        raise FleetMistakes(wrong, status)
+    return fleets
+
+
 def obstacles(old, new):
-    """What differs between two fleets and can't be an edit, each in one line."""
-    yield from differing("resource", old.resources, new.resources,
-                         ("unit", "transient", "load_weight", "safety"))
-    if old.settings.balances != new.settings.balances:
-        yield "the balances of settings.toml differ"
-    for word in ("ways", "weights"):
-        if getattr(old.settings, word) != getattr(new.settings, word):
-            yield f"[{word}] of settings.toml differ"
-    if sorted(map(repr, old.way_pairs)) != sorted(map(repr, new.way_pairs)):
-        yield f"{new.settings.ways.file} differs"
-    yield from differing("machine", old.machines, new.machines,
-                         ("neighbourhood", "location", "capacity", "safety", "closed"))
-    yield from differing("service", old.services, new.services, ("spread",))
-    needs = [{one.name: {fleet.services[at].name for at in one.depends_on} for one in fleet.services} for fleet in (old, new)]
-    for name in needs[0].keys() & needs[1].keys():
-        if needs[0][name] != needs[1][name]:
-            yield f"service {name!r}: depends_on differs"
-    before = {one.name: one for one in old.processes}
-    for one in new.processes:
-        if one.name in before:
-            was = before[one.name]
-            pairs = (("service", old.services[was.service].name, new.services[one.service].name),
-                     ("machine", old.machines[was.machine].name, new.machines[one.machine].name),
-                     ("move_cost", was.move_cost, one.move_cost))
-            yield from (f"process {one.name!r}: its {word} is {b!r} and was {a!r}" for word, a, b in pairs if a != b)
+    """What differs between two fleets and can't be an edit: how many differences there are, and the lines that tell them.
+    First come the settings, then machines, services and processes in the order of their files. What is the same for many rows
+    is one line."""
+    settings = [*differing_resources(old, new), *differing_settings(old, new)]
+    rows = [*differing_machines(old, new), *differing_services(old, new), *differing_processes(old, new)]
+    lines = cut_short(grouped(rows), lambda group: (group[0].row, group[0].word), told,
+                      lambda group, count: f"{group[0].row}: and {count:,} more lines of this kind")
+    return len(settings) + len(rows), [*settings, *lines]
 
 
-def differing(what, old, new, words):
-    """How two lists of things with names differ."""
-    before, after = ({one.name: one for one in some} for some in (old, new))
-    yield from (f"{what} {name!r} is gone" for name in before if name not in after)
-    yield from (f"{what} {name!r} is new" for name in after if name not in before)
-    if what == "resource" and list(before) != list(after) and before.keys() == after.keys():
+def grouped(differences):
+    """Differences in groups that say the same of several rows, in the order of their first ones. A few are told apart."""
+    groups = {}
+    for one in differences:
+        groups.setdefault((one.row, one.word, one.said), []).append(one)
+    found = []
+    for one in differences:
+        group = groups[one.row, one.word, one.said]
+        if len(group) <= MOST_NAMED:
+            found.append([one])
+        elif one is group[0]:
+            found.append(group)
+    return found
+
+
+def told(group):
+    """The line of a group of differences."""
+    first = group[0]
+    if len(group) == 1:
+        return f"{first.row} {first.name!r}: {first.said}"
+    named = ", ".join(repr(one.name) for one in group[:MOST_NAMED])
+    return (f"{counted(len(group), first.row, 'processes' if first.row == 'process' else '')}: {first.said} "
+            f"({named} and {counted(len(group) - MOST_NAMED, 'other')})")
+
+
+def setting_text(value):
+    """The value of a setting as it is told."""
+    if isinstance(value, Fraction):
+        return f"{float(value):.10g}"
+    return str(value).lower() if isinstance(value, bool) else repr(value)
+
+
+def differing_resources(old, new):
+    """The lines about resources and their settings."""
+    before, after = ({one.name: one for one in fleet.resources} for fleet in (old, new))
+    for name, was in before.items():
+        if name not in after:
+            yield f"resource {name!r}: only in the old fleet"
+            continue
+        one = after[name]
+        if one.unit != was.unit:
+            yield f"resource {name!r}: unit is {amount_text(one.unit)} and was {amount_text(was.unit)}"
+        for word in ("transient", "load_weight", "safety"):
+            if getattr(one, word) != getattr(was, word):
+                effect = f", for each of {counted(len(new.machines), 'machine')}" if word == "safety" else ""
+                yield (f"resource {name!r}: {word} is {setting_text(getattr(one, word))} and was "
+                       f"{setting_text(getattr(was, word))}{effect}")
+    yield from (f"resource {name!r}: only in the new fleet" for name in after if name not in before)
+    if list(before) != list(after) and before.keys() == after.keys():
         yield "the resources stand in another order"
-    for name in before.keys() & after.keys():
-        for word in words:
-            if getattr(before[name], word) != getattr(after[name], word):
-                yield f"{what} {name!r}: its {word} differs"
+
+
+def differing_settings(old, new):
+    """The lines about balances, ways and weights."""
+    if old.settings.balances != new.settings.balances:
+        yield "settings.toml: the balances differ"
+    for section in ("ways", "weights"):
+        was, one = getattr(old.settings, section), getattr(new.settings, section)
+        for word in (field.name for field in fields(one) if field.name != "file"):
+            if getattr(was, word) != getattr(one, word):
+                yield f"settings.toml: [{section}] {word} is {getattr(one, word)} and was {getattr(was, word)}"
+    if sorted(map(repr, old.way_pairs)) != sorted(map(repr, new.way_pairs)):
+        yield f"{new.settings.ways.file or old.settings.ways.file}: the costs of ways differ"
+
+
+def differing(row, old, new, words):
+    """The differences between two lists of things with names, by a function that gives the words of what is in both."""
+    before, after = ({one.name: one for one in some} for some in (old, new))
+    for name, was in before.items():
+        if name not in after:
+            yield Difference(row, name, "old", "only in the old fleet")
+            continue
+        for word, past, now in words(was, after[name]):
+            if past != now:
+                yield Difference(row, name, word, f"{word} is {now} and was {past}")
+    yield from (Difference(row, name, "new", "only in the new fleet") for name in after if name not in before)
+
+
+def differing_machines(old, new):
+    before, after = ({one.name: (at, one) for at, one in enumerate(fleet.resources)} for fleet in (old, new))
+    common = [(*before[name], *after[name]) for name in before if name in after and before[name][1].unit == after[name][1].unit]
+
+    def words(was, one):
+        yield "state", *("closed" if some.closed else "open" for some in (was, one))
+        for word in ("neighbourhood", "location"):
+            yield word, repr(getattr(was, word)), repr(getattr(one, word))
+        for past, resource, now, other in common:
+            amounts = lambda word: (amount_text(getattr(some, word)[at] * resource.unit) for some, at in ((was, past), (one, now)))
+            yield f"capacity of {resource.name}", *amounts("capacity")
+            if isinstance(resource.safety, str) and resource.safety == other.safety:  # else the settings say all of it
+                yield f"safety of {resource.name}", *amounts("safety")
+    return differing("machine", old.machines, new.machines, words)
+
+
+def differing_services(old, new):
+    def words(was, one):
+        yield "spread", was.spread, one.spread
+        needs = [sorted(fleet.services[at].name for at in some.depends_on) for fleet, some in ((old, was), (new, one))]
+        yield "depends_on", *map(repr, map(";".join, needs))
+    return differing("service", old.services, new.services, words)
+
+
+def differing_processes(old, new):
+    """Those of processes that are in both fleets: others are retired or added."""
+    def words(was, one):
+        yield "service", repr(old.services[was.service].name), repr(new.services[one.service].name)
+        yield "machine", repr(old.machines[was.machine].name), repr(new.machines[one.machine].name)
+        yield "move_cost", was.move_cost, one.move_cost
+    return (one for one in differing("process", old.processes, new.processes, words) if one.word not in ("old", "new"))
 
 
 def changes(old, new):
