@@ -97,6 +97,13 @@ class Packing(FleetCase):
         _, lines = self.named("pack", "fleet", "fleet", status=2)
         self.assertEqual((lines, text_of("fleet/machines.csv")), ([], MACHINES))
 
+    def test_no_output_into_the_input(self):
+        os.mkdir("links")
+        os.symlink("../fleet", "links/fleet")
+        for out in ("fleet", "./fleet/", "links/fleet"):
+            self.named("pack", "fleet", out, status=2)
+            self.assertEqual(sorted(os.listdir("fleet")), ["machines.csv", "processes.csv", "services.csv", "settings.toml"])
+
     def test_names_of_any_letters(self):
         self.write_fleet("fleet", processes=PROCESSES.replace("web-0", "wëb-0").replace("a2", "a2"))
         self.pack()

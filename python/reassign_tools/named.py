@@ -114,6 +114,8 @@ def parser():
 
 
 def pack_fleet(words):
+    if is_same(words.out, words.fleet):
+        raise Problem(f"{words.out} and {words.fleet} are one folder; name another for the model", 2)
     fleet = Fleet.read(words.fleet)
     for name in FILES:
         refuse_over(os.path.join(words.out, name), words.fleet, fleet.texts)
