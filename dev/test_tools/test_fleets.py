@@ -59,13 +59,13 @@ class Packing(FleetCase):
 
     def test_ring(self):
         self.write_fleet("fleet", services=SERVICES.replace("db,1,,", "db,1,web,"))
-        self.assertIn("note: services depend on each other in a ring: ", self.pack())
+        self.assertIn("note: services.csv:2: services depend on each other in a ring: 'web' > 'db' > 'web'; ", self.pack())
         self.assertEqual(Model.read("packed/model").needs, [[1], [0]])
 
     def test_rounding_is_told(self):
         self.write_fleet("fleet", settings=SETTINGS.replace('"1m"', '"1"'))
         self.assertIn("note: cpu: rounding up to whole units of 1 changes 2 amounts by more than a hundredth, most of all "
-                      "services.csv:2: 500m becomes 1; processes.csv:4: 2500m becomes 3\n", self.pack())
+                      "services.csv:2: 500m becomes 1 in column 4 'cpu'; processes.csv:4: 2500m becomes 3 in column 5 'cpu'\n", self.pack())
 
     def test_ways(self):
         settings = SETTINGS + '[ways]\nelsewhere = 9\nfile = "ways.csv"\n'
@@ -176,15 +176,11 @@ class Mistakes(FleetCase):
         self.assertEqual(self.mistakes(processes="process,service,machine,machine\n"),
                          ["processes.csv:1: the table has no process", "processes.csv:1: two columns are named 'machine'; column 4"])
         self.assertEqual(self.mistakes(processes=PROCESSES.replace(",", ";")),
-                         ["processes.csv:1: no column 'process' (columns are separated by commas, not by semicolons)",
-                          "processes.csv:1: no column 'service' (columns are separated by commas, not by semicolons)",
-                          "processes.csv:1: no column 'machine' (columns are separated by commas, not by semicolons)",
-                          "processes.csv:1: column 'process;service;machine;move_cost;cpu' means nothing here; if it is to be passed "
-                          "over, name it in `ignored` of settings.toml; column 1"])
+                         ["processes.csv:1: the columns are separated by semicolons; save the table with commas between them"])
 
     def test_cells(self):
         self.assertEqual(self.mistakes(machines=MACHINES.replace("a2,a,r2,16,64Gi,open", "a2,a,r2,16")),
-                         ["machines.csv:3: 4 cells in a table of 6 columns"])
+                         ["machines.csv:3: 4 cells in a table of 6 columns: none for 'memory', 'state'"])
         self.assertEqual(self.mistakes(processes=PROCESSES.replace("db-0,", '"db-0,')),
                          ["processes.csv:4: a quotation mark is not closed"])
         self.assertEqual(self.mistakes(services=SERVICES.replace("web,2,db,500m", "web,2,db,")),
@@ -206,7 +202,7 @@ class Mistakes(FleetCase):
         self.assertEqual(self.mistakes(machines=MACHINES.encode("utf-16")),
                          ["machines.csv:1: the file is written in UTF-16; save it as UTF-8; column 1"])
         self.assertEqual(self.mistakes(machines=MACHINES.encode().replace(b"a2", b"\xe42")),
-                         ["machines.csv:3: byte 0xe4 is no UTF-8; save the file as UTF-8; column 1"])
+                         ["machines.csv:3: character 1 of the line is the byte 0xe4, which is no UTF-8; save the file as UTF-8; column 1"])
 
     def test_settings(self):
         line, = self.mistakes(settings="[[resource]\n")

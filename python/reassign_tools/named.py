@@ -63,7 +63,8 @@ set has these defaults:
     [weights]                    of the costs of processes moved, of the most moved service, and of the ways
     process = 1, service = 10, machine = 1
 
-Services may depend on each other in a ring: it is packed as it is, and told."""
+Services may depend on each other in a ring, and a service may have no process: they are packed as they are, and told. Columns
+at the end that have neither a name nor a cell, as spreadsheets add them, are passed over."""
 CHECK = """Tells every rule that LIST breaks, by names: today's placement if there is no LIST. LIST may be a report of
 `reassign solve` too.
 

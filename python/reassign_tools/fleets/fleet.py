@@ -1,5 +1,6 @@
 """A fleet: what the tables of a folder say."""
-import graphlib
+import os
+import re
 from dataclasses import dataclass, field
 
 from ..models import LARGEST, MOST_RESOURCES
@@ -7,6 +8,7 @@ from ..texts import counted
 from .measures import Measure, unit_for
 from .mistakes import Mistakes, Place
 from .packing import model_of
+from .rings import rings
 from .settings import FILE as SETTINGS, Resource, Settings
 from .tables import Table, read_text
 from .way_tables import read_ways
@@ -14,6 +16,7 @@ from .way_tables import read_ways
 MACHINES, SERVICES, PROCESSES = "machines.csv", "services.csv", "processes.csv"
 MOST_MACHINES, MOST_SERVICES, MOST_PROCESSES, MOST_DEPENDENCIES = 5_000, 50_000, 50_000, 100_000
 STATES = ("open", "closed")
+MOST_OF_A_RING = 8  # services that are named
 
 
 @dataclass
@@ -82,30 +85,56 @@ class Fleet:
         return model_of(self)
 
 
+def is_faultless(table):
+    """Whether all rows of a table were read."""
+    return table.whole and not table.faulty
+
+
 class FleetReader:
     """Reads the tables of a folder, and collects what is wrong in them."""
 
     def __init__(self, folder):
         self.folder, self.mistakes, self.notes, self.texts = folder, Mistakes(), [], {}
+        self.remarks = Mistakes()  # what isn't wrong, with its place
 
     def read(self):
-        self.settings = Settings.read(self.text(SETTINGS, is_needed=False), self.mistakes)
+        if not os.path.isdir(self.folder):
+            self.mistakes.unreadable(Place(""), f"{self.folder} is no folder" if os.path.lexists(self.folder) else
+                                     f"there is no folder {self.folder}")
+            self.mistakes.close()
+        self.settings = self.read_settings()
         tables = {file: self.table(file) for file in (MACHINES, SERVICES, PROCESSES)}
         self.find_resources(tables)
         self.machines = self.read_machines(tables[MACHINES]) if tables[MACHINES] else None
         self.services = self.read_services(tables[SERVICES]) if tables[SERVICES] else None
         processes = self.read_processes(tables[PROCESSES]) if tables[PROCESSES] else []
-        ways_file = self.settings.ways.file
-        ways = self.table(ways_file) if ways_file else None
-        pairs = read_ways(ways, self.machines, self.mistakes) if ways and self.machines else []
+        ways = self.ways_table()
+        pairs = read_ways(ways, self.machines, self.mistakes) if ways and self.machines and is_faultless(tables[MACHINES]) else []
         self.mistakes.close()
         for measure in (*self.capacities, *self.requirements):
             self.notes += measure.notes()
         self.look_at_places()
-        self.look_for_cycles()
+        self.look_at_ignored(tables)
+        self.look_at_services(tables[SERVICES], processes)
+        self.notes += self.remarks.lines()
         return Fleet(self.settings, self.machines, self.services, processes, pairs, self.texts, self.notes)
 
     # Files and columns
+
+    def read_settings(self):
+        text = self.text(SETTINGS, is_needed=False)
+        settings = Settings.read(text, self.mistakes)
+        settings.sure = settings.sure and (text is not None or not self.mistakes.found)
+        return settings
+
+    def ways_table(self):
+        file = self.settings.ways.file
+        if file and not os.path.exists(os.path.join(self.folder, file)):
+            others = sorted({*os.listdir(self.folder)} - {MACHINES, SERVICES, PROCESSES, SETTINGS})
+            self.mistakes.unreadable(self.settings.place("ways", 0, "file"), f"there is no file {file!r} in the folder of the fleet"
+                                     f"{self.mistakes.nearest(file, others)}")
+            return None
+        return self.table(file) if file else None
 
     def text(self, file, is_needed=True):
         text = read_text(self.folder, file, self.mistakes, is_needed)
@@ -121,10 +150,11 @@ class FleetReader:
         """Looks which resources there are, what their units are, and whether their columns are there."""
         settings, machines = self.settings, tables[MACHINES]
         own = {"machine", "state", *settings.neighbourhood, *settings.location, *settings.ignored}
-        if not settings.resources and machines:
-            settings.resources = [Resource(name) for name in dict.fromkeys(machines.columns) if name not in own]
+        missing = self.missing_columns(tables)
+        if not settings.resources and machines and settings.sure:
+            settings.resources = [Resource(name) for name in dict.fromkeys(machines.columns) if name and name not in own]
         resources = settings.resources
-        if machines and machines.columns and not resources:
+        if machines and machines.columns and not resources and settings.sure:
             self.mistakes.add(Place(MACHINES, machines.header_line), "no column is a resource")
         if len(resources) > MOST_RESOURCES:
             self.mistakes.add(settings.place("resource", MOST_RESOURCES) if settings.places else Place(MACHINES, 1),
@@ -137,24 +167,52 @@ class FleetReader:
         self.look_at_balances()
         names = [one.name for one in resources]
         safeties = [one.safety for one in resources if isinstance(one.safety, str)]
-        if machines:
-            machines.needs("machine", *settings.neighbourhood, *settings.location, *names, *safeties)
-            machines.knows({*own, *names, *safeties})
+        named = [name for name in (*settings.neighbourhood, *settings.location, *names, *safeties) if name not in missing]
         services, processes = tables[SERVICES], tables[PROCESSES]
-        if services:
-            services.needs("service", "spread", "depends_on")
-            services.knows({"service", "spread", "depends_on", *names, *settings.ignored})
-        if processes:
-            processes.needs("process", "service", "machine")
-            processes.knows({"process", "service", "machine", "move_cost", *names, *settings.ignored})
+        for table, needed, known in (
+                (machines, ["machine"] + named * settings.sure, {*own, *names, *safeties}),
+                (services, ["service", "spread", "depends_on"], {"service", "spread", "depends_on", *names, *settings.ignored}),
+                (processes, ["process", "service", "machine"],
+                 {"process", "service", "machine", "move_cost", *names, *settings.ignored})):
+            if table:
+                table.needs(*needed)
+                if settings.sure:
+                    table.knows({*known, *missing.values()})
         if services and processes and services.columns and processes.columns:
-            services.needs(*[name for name in names if name not in processes.columns], why=", and processes.csv has none")
+            lacking = [name for name in names if name not in processes.columns and name not in missing]
+            services.needs(*lacking * settings.sure, why=", and processes.csv has none")
             for measure in self.requirements:
                 measure.has_failed = measure.resource.name not in {*services.columns, *processes.columns}
 
+    def missing_columns(self, tables):
+        """Those columns that the settings name and that aren't there, which is told: each with the column that may be meant, or
+        nothing."""
+        settings, missing = self.settings, {}
+        if not all(table and table.columns for table in tables.values()):
+            return missing
+        everywhere = list(dict.fromkeys(name for table in tables.values() for name in table.columns if name))
+        of_machines = [name for name in tables[MACHINES].columns if name]
+        used = {"machine", "state", "service", "spread", "depends_on", "process", "move_cost", *settings.neighbourhood,
+                *settings.location, *(name for one in settings.resources for name in (one.name, one.safety))}
+
+        def look(name, columns, where, key):
+            place = settings.place(*key)
+            if name not in columns and name not in missing and place.line:
+                free = [one for one in columns if one not in used]
+                missing[name] = self.mistakes.near(name, free)
+                self.mistakes.add(place, f"{where} column {name!r}{self.mistakes.nearest(name, free)}")
+        for word in ("neighbourhood", "location"):
+            for name in getattr(settings, word):
+                look(name, of_machines, f"{MACHINES} has no", ("", 0, word))
+        for at, one in enumerate(settings.resources):
+            look(one.name, everywhere, "no table has a", ("resource", at, "name"))
+            if isinstance(one.safety, str):
+                look(one.safety, of_machines, f"{MACHINES} has no", ("resource", at, "safety"))
+        return missing
+
     def look_at_balances(self):
         names = [one.name for one in self.settings.resources]
-        for at, balance in enumerate(self.settings.balances):
+        for at, balance in enumerate(self.settings.balances if names else []):
             for word in ("first", "second"):
                 name = getattr(balance, word)
                 if name not in names:
@@ -171,7 +229,7 @@ class FleetReader:
             self.mistakes.add(Place(table.file, table.rows[most].line), f"{several}; at most {most:,} are possible")
         if at is None:
             return None
-        if not table.rows and not table.faulty:
+        if not table.rows and not table.faulty and table.whole:
             self.mistakes.add(Place(table.file, table.header_line), f"the table has no {what}")
         lines = {}
         for row in table.rows:
@@ -248,9 +306,9 @@ class FleetReader:
             for needed in dict.fromkeys(word.strip() for word in words if word.strip()):
                 if needed in self.service_numbers:
                     needs.append(self.service_numbers[needed])
-                elif needed not in self.faulty_services:
+                elif self.faulty_services is not None and needed not in self.faulty_services:
                     self.mistakes.add(table.place(row, needs_at), f"service {name!r} depends on {needed!r}, and there is no "
-                                      f"such service{self.mistakes.nearest(needed, names)}")
+                                      f"such service{self.meant_services(needed, names)}")
             before, count = count, count + len(needs)
             if before <= MOST_DEPENDENCIES < count:
                 self.mistakes.add(table.place(row, needs_at), f"more than {MOST_DEPENDENCIES:,} dependencies in all")
@@ -259,6 +317,13 @@ class FleetReader:
                            for measure, column in zip(self.requirements, amounts)]
             services.append(Service(name, spread, needs, requirement))
         return services
+
+    def meant_services(self, text, names):
+        """What was meant by the name of a service that there isn't, or nothing: several need semicolons between them."""
+        several = [part for part in re.split(r"[,|/\s]+", text) if part]
+        if len(several) > 1 and ("," in text or all(name in self.service_numbers for name in several)):
+            return f" (is it {';'.join(several)!r}?); several services are separated by semicolons"
+        return self.mistakes.nearest(text, names)
 
     def read_processes(self, table):
         numbers = self.numbers(table, "process", "process", MOST_PROCESSES)
@@ -296,7 +361,7 @@ class FleetReader:
         def find(row, process):
             name = row.cells[at]
             number = numbers.get(name)
-            if number is None and name not in faulty:
+            if number is None and faulty is not None and name not in faulty:
                 self.mistakes.add(table.place(row, at), f"process {process!r}: no {what} {name!r}"
                                   f"{self.mistakes.nearest(name, names)}" if name else f"process {process!r} has no {what}")
             return number
@@ -320,14 +385,36 @@ class FleetReader:
             self.notes.append(f"service {wide[0]!r} asks for more locations than the {len(hoods)} that there "
                               f"are{self.more(wide)}")
 
-    def look_for_cycles(self):
-        graph = {at: one.depends_on for at, one in enumerate(self.services)}
-        try:
-            graphlib.TopologicalSorter(graph).prepare()
-        except graphlib.CycleError as fault:
-            names = " > ".join(self.services[at].name for at in reversed(fault.args[1]))
-            self.notes.append(f"services depend on each other in a ring: {names}; that is allowed, and each of them needs the "
-                              "next in its neighbourhood")
+    def look_at_ignored(self, tables):
+        """Tells names of columns to be passed over that no table has."""
+        columns = {name for table in tables.values() for name in table.columns}
+        for name in self.settings.ignored:
+            if name not in columns:
+                self.remarks.add(self.settings.place("", 0, "ignored"), f"no table has the column {name!r} that `ignored` names")
+
+    def look_at_services(self, table, processes):
+        """Tells services that depend on themselves, in rings, or on nothing that runs, and those without processes."""
+        used = {one.service for one in processes}
+
+        def remark(at, column, text):
+            self.remarks.add(table.place(table.rows[at], table.at(column)), text)
+        for at, one in enumerate(self.services):
+            if at in one.depends_on:
+                remark(at, "depends_on", f"service {one.name!r} depends on itself, which asks for nothing")
+            if at not in used:
+                asked = counted(one.spread, "location")
+                remark(at, "service", f"service {one.name!r} has no process" + (
+                    f", and its spread asks for {asked}: no list keeps that; leave it out, or set its spread to 0" if one.spread else ""))
+            for needed in one.depends_on:
+                if at in used and needed not in used:
+                    remark(at, "depends_on", f"service {one.name!r} depends on {self.services[needed].name!r}, which has no process: "
+                           "no list keeps that")
+        for ring, count in rings([one.depends_on for one in self.services]):
+            named = " > ".join(repr(self.services[at].name) for at in ring[:MOST_OF_A_RING])
+            end = f"and so on, {len(ring)} in all" if len(ring) > MOST_OF_A_RING else repr(self.services[ring[0]].name)
+            more = f" ({count} services depend on each other in this way)" if count > len(ring) else ""
+            remark(ring[0], "depends_on", f"services depend on each other in a ring: {named} > {end}{more}; that is allowed, and "
+                   "each of them needs the next in its neighbourhood")
 
     @staticmethod
     def more(items):

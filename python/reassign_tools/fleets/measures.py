@@ -4,6 +4,7 @@ from dataclasses import dataclass, field
 from fractions import Fraction
 
 from ..models import LARGEST
+from ..texts import counted
 from .amounts import NoAmount, amount, amount_text, in_units, loses_much, suffix_of
 
 MOST_TOLD = 3  # amounts that are named as losing by rounding
@@ -60,10 +61,16 @@ class Measure:
         if self.seen:
             unit, name = amount_text(self.resource.unit), self.resource.name
             most = sorted(self.seen, key=self.error, reverse=True)
-            told = "; ".join(f"{self.first[text].file}:{self.first[text].line}: {text} becomes {self.counts[text]:,}"
-                             for text in most[:MOST_TOLD])
-            yield (f"{name}: rounding {'up' if self.up else 'down'} to whole units of {unit} changes {sum(self.seen.values()):,} "
-                   f"amounts by more than a hundredth, most of all {told}")
+            told = "; ".join(map(self.rounded, most[:MOST_TOLD]))
+            yield (f"{name}: rounding {'up' if self.up else 'down'} to whole units of {unit} changes "
+                   f"{counted(sum(self.seen.values()), 'amount')} by more than a hundredth, most of all {told}")
+
+    def rounded(self, text):
+        """What becomes of an amount, and where. If it has no suffix and most have one, that one may have been meant."""
+        place, count = self.first[text], self.counts[text]
+        suffix, _ = Counter(map(suffix_of, self.counts)).most_common(1)[0]
+        hint = f" (is it '{text}{suffix}'?)" if suffix and not suffix_of(text) and count <= 1 else ""
+        return f"{place.file}:{place.line}: {text} becomes {count:,}{hint} in column {place.column} '{place.heading}'"
 
     def error(self, text):
         value = amount(text)

@@ -8,15 +8,15 @@ from dataclasses import dataclass, replace
 from ..problems import ProblemWithLines
 from ..texts import counted
 
-MOST_COMPARED = 100_000  # pairs of names that are compared, since each pair takes some time
-MOST_LETTERS = 100  # of a name that is compared
+MOST_COMPARED = 40_000_000  # pairs of letters that are compared to find names that were meant, which takes some seconds
 MOST_TOLD = 20  # mistakes of a kind of which each gets its line
 NAMES_AND_NUMBERS = re.compile(r"'(?:[^'\\]|\\.)*'|\"(?:[^\"\\]|\\.)*\"|[0-9][0-9.,]*| \(is it .*?\?\)")
 
 
 @dataclass(frozen=True, slots=True)
 class Place:
-    """Where something stands: a file, its line and its column, as far as they are known. Lines and columns count from 1."""
+    """Where something stands: a file, its line and its column, as far as they are known. Lines and columns count from 1. What is
+    wrong with a folder has no file."""
 
     file: str
     line: int = 0
@@ -33,10 +33,10 @@ class Mistake:
 
     def __str__(self):
         place = self.place
-        line = f":{place.line}" if place.line else ""
+        file = f"{place.file}{f':{place.line}' if place.line else ''}: " if place.file else ""
         heading = f" '{place.heading}'" if place.heading else ""
         column = f"; column {place.column}{heading}" if place.column else ""
-        return f"{place.file}{line}: {self.text}{column}"
+        return f"{file}{self.text}{column}"
 
     def kind(self):
         """What mistakes have in common that are told alike: their file, their column, and the text without names and numbers."""
@@ -58,7 +58,8 @@ class FleetMistakes(ProblemWithLines):
 
     def within(self, folder):
         """The mistakes, whose files have their folder."""
-        return [replace(one, place=replace(one.place, file=os.path.join(folder, one.place.file))) for one in self.mistakes]
+        return [replace(one, place=replace(one.place, file=os.path.join(folder, one.place.file))) if one.place.file else one
+                for one in self.mistakes]
 
 
 def cut_short(items, kind, line, rest):
@@ -88,6 +89,10 @@ class Mistakes:
         self.status = 3
         self.add(place, text)
 
+    def lines(self):
+        """What was found, of each kind the first, and how many more there are."""
+        return list(cut_short(self.found, Mistake.kind, str, Mistake.rest))
+
     def close(self):
         """Raises FleetMistakes if there was one."""
         if self.found:
@@ -97,13 +102,18 @@ class Mistakes:
 
     def nearest(self, name, names):
         """The name that was meant, as a question to put after a mistake, or nothing."""
+        near = self.near(name, names)
+        return f" (is it {near!r}?)" if near else ""
+
+    def near(self, name, names):
+        """The one of the names in a list that is nearest to a name, or nothing if none is near, or too many were compared."""
         key = name, id(names)
         if key not in self.sought:
-            if len(name) > MOST_LETTERS or self.compared and self.compared + len(names) > MOST_COMPARED:
+            cost = len(names) * len(name)**2
+            if self.compared + cost > MOST_COMPARED:
                 return ""
-            self.compared += len(names)
+            self.compared += cost
             # The names are kept too, so that no others get their id.
-            short = [one for one in names if len(one) <= MOST_LETTERS]
-            self.sought[key] = difflib.get_close_matches(name, short, 1, 0.6), names
+            self.sought[key] = difflib.get_close_matches(name, names, 1, 0.6), names
         near, _ = self.sought[key]
-        return f" (is it {near[0]!r}?)" if near else ""
+        return near[0] if near else ""

@@ -55,7 +55,8 @@ class Weights:
 
 @dataclass
 class Settings:
-    """The settings. No resources means that the columns of machines.csv decide."""
+    """The settings. No resources means that the columns of machines.csv decide. If one is wrong that may name columns, they
+    aren't `sure`: nobody knows then which columns there have to be."""
 
     neighbourhood: list = field(default_factory=lambda: ["zone"])
     location: list = field(default_factory=lambda: ["rack"])
@@ -67,6 +68,7 @@ class Settings:
     ways: Ways = field(default_factory=Ways)
     weights: Weights = field(default_factory=Weights)
     places: dict = field(default_factory=dict, repr=False)  # of sections and words in the file
+    sure: bool = True
 
     @classmethod
     def read(cls, text, mistakes):
@@ -75,9 +77,8 @@ class Settings:
         try:
             words = tomllib.loads(text or "", parse_float=Decimal)
         except tomllib.TOMLDecodeError as fault:
-            found = re.fullmatch(r"(.*) \(at line (\d+), column (\d+)\)", str(fault))
-            place = Place(FILE, int(found[2]), int(found[3])) if found else Place(FILE, text.count("\n") + 1)
-            mistakes.add(place, f"no TOML: {found[1] if found else fault}")
+            settings.sure = False
+            tell_no_toml(text, fault, mistakes)
             return settings
         settings.places = places_of(text or "")
         Reader(settings, mistakes).fill(words)
@@ -111,6 +112,46 @@ class Settings:
             yield f"file = {quoted(ways.file)}"
         yield from ("", "[weights]", f"process = {weights.process}", f"service = {weights.service}",
                     f"machine = {weights.machine}")
+
+
+def tell_no_toml(text, fault, mistakes):
+    """Tells where a text is no TOML: each value that has no quotation marks, with what to write, and the fault if it is another
+    line's."""
+    found = re.fullmatch(r"(.*) \(at line (\d+), column (\d+)\)", str(fault))
+    place = Place(FILE, int(found[2]), int(found[3])) if found else Place(FILE, text.count("\n") + 1)
+    lines = set()
+    for line, words in enumerate(text.splitlines(), 1):
+        setting = re.fullmatch(r"\s*([\w.-]+)\s*=\s*(.*?)\s*(?:#[^\"]*)?", words)
+        meant = meant_value(setting[2]) if setting else None
+        if meant:
+            lines.add(line)
+            mistakes.add(Place(FILE, line, setting.start(2) + 1),
+                         f"no TOML: {setting[2]!r} can't be read; write {setting[1]} = {meant}")
+    if place.line not in lines:
+        mistakes.add(place, f"no TOML: {found[1] if found else fault}")
+
+
+def meant_value(value):
+    """What a value has to be written as that TOML can't read, if it lacks its quotation marks or has others; else None."""
+    if is_value(value):
+        return None
+    if value.lower() in ("true", "false"):
+        return value.lower()
+    if len(value) > 1 and value[0] + value[-1] == "[]":
+        items = [item.strip() for item in value[1:-1].split(",") if item.strip()]
+        meant = f"[{', '.join(item if is_value(item) else meant_value(item) or item for item in items)}]"
+        return meant if is_value(meant) else None
+    plain = value.strip("\u201c\u201d\u201e\u2018\u2019")
+    return quoted(plain) if re.fullmatch(r"[\w./%:-]+( [\w./%:-]+)*", plain) else None
+
+
+def is_value(text):
+    """Whether TOML can read a text as a value."""
+    try:
+        tomllib.loads(f"value = {text}")
+    except tomllib.TOMLDecodeError:
+        return False
+    return True
 
 
 def quoted(text):
@@ -259,6 +300,8 @@ class Reader:
                 self.wrong((section, at, word), f"{word} has to be {wrong}")
 
     def wrong(self, key, text):
+        if key[0] in ("", "resource"):
+            self.settings.sure = False
         self.mistakes.add(self.settings.place(*key), text)
 
 

@@ -8,6 +8,8 @@ from ..texts import counted
 from .mistakes import Place
 
 csv.field_size_limit(1 << 24)
+SEPARATORS = {";": "semicolons", "\t": "tabs", "|": "bars"}
+BYTE_ORDER_MARK = b"\xef\xbb\xbf"
 
 
 @dataclass(frozen=True)
@@ -19,45 +21,67 @@ class Row:
 
 
 class Table:
-    """A table. `rows` are those that have a cell for each column; the others are `faulty`, and told as mistakes."""
+    """A table. `rows` are those that have a cell for each column; the others are `faulty`, and told as mistakes. Columns at the
+    end that have neither a name nor a cell are passed over. If the table can't be read to its end, it isn't `whole`."""
 
     def __init__(self, file, text, mistakes):
         self.file, self.text, self.mistakes = file, text, mistakes
         self.columns, self.rows, self.faulty = [], [], []
-        self.header_line = 1
+        self.header_line, self.whole = 1, True
         self.read()
 
     def read(self):
-        rows = rows_of(self.text, lambda line, why: self.mistakes.add(Place(self.file, line), why))
+        separator = other_separator(self.text)
+        if separator:
+            self.stop(1, f"the columns are separated by {separator}; save the table with commas between them")
+            return
+        rows = rows_of(self.text, self.stop)
         first = next(rows, None)
         if first is None:
-            self.mistakes.add(Place(self.file, 1), "the file is empty; its first line has to name the columns")
+            if self.whole:
+                self.stop(1, "the file is empty; its first line has to name the columns")
             return
-        self.header_line, self.columns = first.line, first.cells
+        width = len(first.cells)
+        named = max(at for at, name in enumerate(first.cells, 1) if name)
+        self.header_line, self.columns = first.line, first.cells[:named]
         for at, name in enumerate(self.columns, 1):
-            if name in self.columns[:at - 1]:
+            if not name:
+                self.mistakes.add(Place(self.file, first.line, at), "this column has no name")
+            elif name in self.columns[:at - 1]:
                 self.mistakes.add(Place(self.file, first.line, at), f"two columns are named {name!r}")
         for row in rows:
-            if len(row.cells) == len(self.columns):
-                self.rows.append(row)
+            extra = next((at for at, cell in enumerate(row.cells[named:width], named) if cell), None)
+            if extra is not None and len(row.cells) <= width:
+                self.faulty.append(row)
+                self.mistakes.add(Place(self.file, row.line, extra + 1), f"{row.cells[extra]!r} stands in a column without a name")
+            elif named <= len(row.cells) <= width:
+                self.rows.append(Row(row.line, row.cells[:named]))
             else:
                 self.faulty.append(row)
-                self.mistakes.add(Place(self.file, row.line), f"{counted(len(row.cells), 'cell')} in a table of "
-                                  f"{counted(len(self.columns), 'column')}")
+                self.mistakes.add(Place(self.file, row.line), self.miscounted(row.cells))
+
+    def stop(self, line, why):
+        """Tells why the table can't be read from a line on."""
+        self.whole = False
+        self.mistakes.add(Place(self.file, line), why)
+
+    def miscounted(self, cells):
+        """What is wrong with a row that has too few or too many cells."""
+        lacking, extra = self.columns[len(cells):], cells[len(self.columns):]
+        which = f"none for {', '.join(map(repr, lacking))}" if lacking else f"{', '.join(map(repr, extra))} in none"
+        return f"{counted(len(cells), 'cell')} in a table of {counted(len(self.columns), 'column')}: {which}"
 
     def needs(self, *names, why=""):
         """Tells those columns that are missing."""
         for name in dict.fromkeys(names):
             if self.columns and name not in self.columns:
-                hint = self.mistakes.nearest(name, self.columns)
-                if len(self.columns) == 1 and ";" in self.columns[0]:
-                    hint = " (columns are separated by commas, not by semicolons)"
-                self.mistakes.add(Place(self.file, self.header_line), f"no column {name!r}{why}{hint}")
+                self.mistakes.add(Place(self.file, self.header_line), f"no column {name!r}{why}"
+                                  f"{self.mistakes.nearest(name, self.columns)}")
 
     def knows(self, names):
         """Tells those columns that have no meaning."""
         for at, name in enumerate(self.columns, 1):
-            if name not in names:
+            if name and name not in names:
                 self.mistakes.add(Place(self.file, self.header_line, at), f"column {name!r} means nothing here"
                                   f"{self.mistakes.nearest(name, list(names))}; if it is to be passed over, name it in "
                                   "`ignored` of settings.toml")
@@ -67,11 +91,18 @@ class Table:
         return self.columns.index(name) if name in self.columns else None
 
     def faulty_names(self, at):
-        """The cells of a column in those rows that were told, so that nobody is told that they aren't there."""
-        return {row.cells[at] for row in self.faulty if at < len(row.cells)}
+        """The cells of a column in those rows that were told, so that nobody is told that they aren't there. None if the table
+        isn't whole, so that any name may be there."""
+        return {row.cells[at] for row in self.faulty if at < len(row.cells)} if self.whole else None
 
     def place(self, row, at):
         return Place(self.file, row.line, at + 1, self.columns[at])
+
+
+def other_separator(text):
+    """What separates the columns instead of commas, in words; None if it is commas, or nothing does."""
+    first = text.lstrip().split("\n", 1)[0]
+    return next((SEPARATORS[one] for one in SEPARATORS if one in first), None) if "," not in first else None
 
 
 def rows_of(text, tell=lambda line, why: None):
@@ -103,12 +134,14 @@ def read_text(folder, file, mistakes, is_needed=True):
     if read.startswith((b"\xff\xfe", b"\xfe\xff")):
         mistakes.add(Place(file, 1, 1), "the file is written in UTF-16; save it as UTF-8")
         return None
+    read = read.removeprefix(BYTE_ORDER_MARK)
     try:
-        return read.decode("utf-8-sig")
+        return read.decode()
     except UnicodeDecodeError as fault:
-        before = read[:fault.start]
-        line, column = before.count(b"\n") + 1, fault.start - before.rfind(b"\n")
-        mistakes.add(Place(file, line, column), f"byte {read[fault.start]:#04x} is no UTF-8; save the file as UTF-8")
+        *lines, start = read[:fault.start].decode().split("\n")
+        column = len(start) + 1 if file.endswith(".toml") else start.count(",") + 1
+        mistakes.add(Place(file, len(lines) + 1, column), f"character {len(start) + 1} of the line is the byte "
+                     f"{read[fault.start]:#04x}, which is no UTF-8; save the file as UTF-8")
         return None
 
 
