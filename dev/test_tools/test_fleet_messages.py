@@ -1,9 +1,14 @@
 """What is told of hostile tables: each mistake once, with its place and what was meant, and nothing that isn't one."""
+import os
+
 from common import put
 from fleet_cases import MACHINES, PROCESSES, SERVICES, SETTINGS, FleetCase
 from reassign_tools import Fleet
 from reassign_tools.fleets.mistakes import FleetMistakes
+from reassign_tools.fleets.packed import Packed
+from reassign_tools.fleets.packing import pack
 from reassign_tools.fleets.rings import rings
+from reassign_tools.problems import Problem
 
 COLUMNS = "service,spread,depends_on,cpu,memory\n"
 
@@ -146,3 +151,32 @@ class SettingsOfFleets(MessageCase):
         self.assertEqual(self.notes(settings='ignored = ["owner", "statee"]\n' + SETTINGS), [
             "settings.toml:1: no table has the column 'owner' that `ignored` names; column 1",
             "settings.toml:1: no table has the column 'statee' that `ignored` names; column 1"])
+
+
+class Folders(MessageCase):
+    def test_missing(self):
+        for command in (("pack", "nowhere", "out"), ("diff", "fleet", "nowhere")):
+            self.assertEqual(self.named(*command, status=3)[1], ["there is no folder nowhere"])
+        self.assertEqual(self.named("pack", "fleet/machines.csv", "out", status=3)[1], ["fleet/machines.csv is no folder"])
+        with self.assertRaisesRegex(Problem, "there is no folder .*/no/where to write into") as raised:
+            self.pack_here("no/where/out")
+        self.assertEqual(raised.exception.status, 7)
+        with self.assertRaisesRegex(Problem, "/machines.csv is no folder") as raised:
+            self.pack_here("fleet/machines.csv/out")
+        self.assertEqual(raised.exception.status, 7)
+        self.assertEqual(sorted(os.listdir("fleet")), ["machines.csv", "processes.csv", "services.csv", "settings.toml"])
+
+    def pack_here(self, out):
+        pack(Fleet.read("fleet"), out)
+
+    def test_lists(self):
+        self.pack_here("packed")
+        packed = Packed.read("packed")
+        for text, line in (("", "list is an empty list; one of packed has a machine for each of 3 processes"),
+                           ("\n", "list is an empty list; one of packed has a machine for each of 3 processes"),
+                           ("0 1\n", "list has 2 machines, and packed has 3 processes: they don't belong together"),
+                           ("0 1 3\n", "list puts db-0 on machine 3, and packed has 3 machines, counted from 0: they don't belong together")):
+            put("list", text)
+            with self.assertRaises(Problem) as raised:
+                packed.placement("list")
+            self.assertEqual((raised.exception.line, raised.exception.status), (line, 5))

@@ -8,6 +8,7 @@ from ..models import Model, closed_flags, same_sizes
 from ..names import Names
 from ..problems import Problem
 from ..reports import read_placement
+from ..texts import counted
 from .fleet import PROCESSES
 from .packing import whole_folder
 from .tables import rows_of, table_text
@@ -34,9 +35,17 @@ class Packed:
 
     def placement(self, name):
         """The machines of a list or report, which has to have one of this fleet for each process."""
-        found = read_placement(name)
-        if len(found) != len(self.names.processes) or any(machine >= len(self.names.machines) for machine in found):
-            raise Problem(f"{name}: the list and {self.folder} don't belong together", 5)
+        found, processes, machines = read_placement(name), self.names.processes, self.names.machines
+        if not found:
+            raise Problem(f"{name} is an empty list; one of {self.folder} has a machine for each of "
+                          f"{counted(len(processes), 'process', 'processes')}", 5)
+        if len(found) != len(processes):
+            raise Problem(f"{name} has {counted(len(found), 'machine')}, and {self.folder} has "
+                          f"{counted(len(processes), 'process', 'processes')}: they don't belong together", 5)
+        for process, machine in zip(processes, found):
+            if machine >= len(machines):
+                raise Problem(f"{name} puts {process} on machine {machine}, and {self.folder} has "
+                              f"{counted(len(machines), 'machine')}, counted from 0: they don't belong together", 5)
         return found
 
 

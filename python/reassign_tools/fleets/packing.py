@@ -111,9 +111,12 @@ class whole_folder:
         self.beside = os.path.join(above if self.is_new else self.folder, f".{name}.{os.getpid()}")
 
     def __enter__(self):
+        above = os.path.dirname(self.beside)
+        if not self.is_new and not os.path.isdir(self.folder):
+            raise Problem(f"{self.folder} is no folder", 2)
+        if not os.path.isdir(above):
+            raise Problem(f"{above} is no folder" if os.path.lexists(above) else f"there is no folder {above} to write into", 7)
         try:
-            if not self.is_new and not os.path.isdir(self.folder):
-                raise Problem(f"{self.folder} is no folder", 2)
             os.mkdir(self.beside)
         except OSError as fault:
             raise Problem(f"write fault: {self.folder}: {fault.strerror}", 7) from None
