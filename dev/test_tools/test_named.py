@@ -195,6 +195,13 @@ class Edits(FleetCase):
         self.assertTrue(lines[-2].startswith("machine: and 28"), lines)
         self.assertTrue(lines[-1].startswith("named: 303 differences can't be an edit (edits add, retire and resize processes)"))
 
+    def test_safety_of_the_same_capacity(self):
+        """A safety is a share of the capacity before it is rounded."""
+        self.write_fleet("fleet", machines=MACHINES.replace("b1,b,r3,16,64Gi", "b1,b,r3,16,63.8Mi"))
+        self.write_fleet("later", machines=MACHINES.replace("b1,b,r3,16,64Gi", "b1,b,r3,16,63Mi"))
+        self.assertEqual(self.named("diff", "fleet", "later", status=12)[1],
+                         ["machine 'b1': safety of memory is 50Mi and was 51Mi"])
+
     def test_mistakes_of_both_fleets(self):
         self.write_fleet("fleet", machines=MACHINES.replace("a2,a,r2,16", "a2,a,r2,many"))
         self.write_fleet("later", processes=PROCESSES.replace("web-1,web", "web-1,wob"))

@@ -121,15 +121,16 @@ def differing_settings(old, new):
 
 
 def differing(row, old, new, words):
-    """The differences between two lists of things with names, by a function that gives the words of what is in both."""
+    """The differences between two lists of things with names, by a function for what is in both. It gives words, each with its
+    value in both, and how the value is written."""
     before, after = ({one.name: one for one in some} for some in (old, new))
     for name, was in before.items():
         if name not in after:
             yield Difference(row, name, "old", "only in the old fleet")
             continue
-        for word, past, now in words(was, after[name]):
+        for word, past, now, text in words(was, after[name]):
             if past != now:
-                yield Difference(row, name, word, f"{word} is {now} and was {past}")
+                yield Difference(row, name, word, f"{word} is {text(now)} and was {text(past)}")
     yield from (Difference(row, name, "new", "only in the new fleet") for name in after if name not in before)
 
 
@@ -138,31 +139,32 @@ def differing_machines(old, new):
     common = [(*before[name], *after[name]) for name in before if name in after and before[name][1].unit == after[name][1].unit]
 
     def words(was, one):
-        yield "state", *("closed" if some.closed else "open" for some in (was, one))
+        yield "state", *("closed" if some.closed else "open" for some in (was, one)), str
         for word in ("neighbourhood", "location"):
-            yield word, repr(getattr(was, word)), repr(getattr(one, word))
+            yield word, getattr(was, word), getattr(one, word), repr
         for past, resource, now, other in common:
-            amounts = lambda word: (amount_text(getattr(some, word)[at] * resource.unit) for some, at in ((was, past), (one, now)))
-            yield f"capacity of {resource.name}", *amounts("capacity")
-            if isinstance(resource.safety, str) and resource.safety == other.safety:  # else the settings say all of it
-                yield f"safety of {resource.name}", *amounts("safety")
+            text = lambda count: amount_text(count * resource.unit)
+            yield f"capacity of {resource.name}", was.capacity[past], one.capacity[now], text
+            # Another setting is told once for all machines, and a share of another capacity goes without saying.
+            if resource.safety == other.safety and (isinstance(resource.safety, str) or was.capacity[past] == one.capacity[now]):
+                yield f"safety of {resource.name}", was.safety[past], one.safety[now], text
     return differing("machine", old.machines, new.machines, words)
 
 
 def differing_services(old, new):
     def words(was, one):
-        yield "spread", was.spread, one.spread
+        yield "spread", was.spread, one.spread, str
         needs = [sorted(fleet.services[at].name for at in some.depends_on) for fleet, some in ((old, was), (new, one))]
-        yield "depends_on", *map(repr, map(";".join, needs))
+        yield "depends_on", *needs, lambda names: repr(";".join(names))
     return differing("service", old.services, new.services, words)
 
 
 def differing_processes(old, new):
     """Those of processes that are in both fleets: others are retired or added."""
     def words(was, one):
-        yield "service", repr(old.services[was.service].name), repr(new.services[one.service].name)
-        yield "machine", repr(old.machines[was.machine].name), repr(new.machines[one.machine].name)
-        yield "move_cost", was.move_cost, one.move_cost
+        yield "service", old.services[was.service].name, new.services[one.service].name, repr
+        yield "machine", old.machines[was.machine].name, new.machines[one.machine].name, repr
+        yield "move_cost", was.move_cost, one.move_cost, str
     return (one for one in differing("process", old.processes, new.processes, words) if one.word not in ("old", "new"))
 
 
