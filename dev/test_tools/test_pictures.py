@@ -52,11 +52,12 @@ class Lists(ToolCase):
 
 
 class Machines(ToolCase):
-    def picture(self, machines, resources, name=str):
+    def picture(self, machines, resources, name=str, **how):
         from reassign_tools.machine_pictures import draw_machines
         from reassign_tools.machine_uses import ResourceUse
         use = lambda name: ResourceUse(name, [100] * machines, [70] * machines, [m % 90 for m in range(machines)], [45] * machines)
-        return draw_machines([use(f"kind {r}") for r in range(resources)], list(map(name, range(machines))), "title", "command")
+        names = list(map(name, range(machines)))
+        return draw_machines([use(f"kind {r}") for r in range(resources)], names, "title", "command", **how)
 
     def test_names(self):
         """Names that are too long to stand side by side stand upright, and the panels further apart."""
@@ -66,7 +67,33 @@ class Machines(ToolCase):
         self.assertEqual(long.count("rotate(-90"), 48)
         height = lambda picture: int(re.search(r'height="(\d+)"', picture)[1])
         self.assertGreater(height(long), height(short) + 100)
-        self.assertNotIn("node-", self.picture(51, 2, "node-{}".format))
+
+    def test_many_names(self):
+        """Names stand upright and small as long as there is room. Beyond that the fullest are told, if that is asked for."""
+        for machines, resources in ((51, 2), (91, 4), (71, 5)):
+            picture = self.picture(machines, resources, "node-{}".format)
+            self.assertEqual(picture.count("rotate(-90"), machines * resources)
+            self.assertEqual(picture.count('font-size="6.5"'), machines * resources)
+        for machines, resources in ((92, 4), (72, 5), (300, 2), (2000, 2)):
+            self.assertNotIn("node-", self.picture(machines, resources, "node-{}".format))
+            picture = self.picture(machines, resources, "node-{}".format, tells_fullest=True)
+            self.assertIn("named: the fullest machines", picture)
+            most = min(machines - 1, 89)
+            self.assertEqual(picture.count(f">fullest before: node-{most} {most} %, node-"), resources)
+            self.assertEqual(picture.count(">fullest after: node-0 45 %, node-1 45 %, "), resources)
+        self.assertNotIn("fullest", self.picture(91, 4, "node-{}".format, tells_fullest=True))
+        long = self.picture(300, 2, lambda machine: "x" * 200 + str(machine), tells_fullest=True)
+        self.assertNotIn("x" * 100, long)
+
+    def test_many_names_of_a_fleet(self):
+        """A picture of a fleet with names tells those of its fullest machines."""
+        from reassign_tools.names import Names, hash_of
+        model, initial = self.make_instance("many", 100, 400, 2, 1)
+        count = lambda word, many: [f"{word}-{at}" for at in range(many)]
+        services = int(text_of(model).splitlines()[104])
+        names = Names(hash_of(model), ["cpu", "memory"], [], count("node", 100), [], [], count("service", services), count("p", 400))
+        put("many.json", names.text())
+        self.assertRegex(self.expect(0, "plot", initial, model, initial, "--names", "many.json"), r">fullest after: node-\d+ \d+ %, ")
 
     def test_kinds(self):
         for machines, words in ((120, ">after<"), (121, "a bar for each machine"), (600, "a bar for each machine"), (601, "eight in ten")):

@@ -1,12 +1,16 @@
 """The picture of the machines: how much of each capacity is in use, before and after."""
+from .machine_uses import percents
 from .pictures import ACROSS, BLACK, BLUE, FAINT, GREEN, GRID, MIDDLE, ORANGE, PALE, PALE_GREEN, Picture, cut, grouped, wide
 from .words import shown
 
 MOST_DOTS = 120  # machines that are drawn as dots joined by lines
 MOST_SINGLE = 600  # machines that are drawn one by one
 GROUP, MOST_GROUPS = 20, 100  # more are drawn in groups of at least so many, of which there are at most so many
-MOST_NUMBERS = 50
+MOST_ABREAST = 50  # names that may stand side by side
+NARROWEST = 7  # what an upright name wants of an axis
 LONGEST_NAME = 120  # of an upright one
+MOST_FULL = 5  # of the fullest machines that are named if there is no room for all names
+FULL_SIZE, FULL_HEIGHT = 11, 32  # of the lines that name them
 ONE_COLUMN = 4  # resources; more stand in two columns
 HEIGHT, STEP, BESIDE, NARROW = 170, 236, 96, 500
 
@@ -32,16 +36,33 @@ class Groups:
 
 
 class MachineNames:
-    """How the machines' names stand under an axis: upright if there isn't room for them side by side."""
+    """How the machines' names stand under an axis: side by side, or upright if there isn't room for that. If there is no room at
+    all, and it is asked for, the fullest machines are named alone."""
 
-    def __init__(self, names, width):
-        self.size, room = 11 if len(names) <= 30 else 8, width / len(names)
-        self.are_upright = len(names) <= MOST_NUMBERS and max(wide(name, self.size) for name in names) > 1.4 * room
+    def __init__(self, names, width, tells_fullest):
+        count, self.names = len(names), names
+        self.size = 11 if count <= 30 else 8 if count <= MOST_ABREAST else 6.5
+        self.are_shown = count <= MOST_ABREAST or NARROWEST * count <= width
+        self.tells_fullest = tells_fullest and not self.are_shown
+        is_tight = count > MOST_ABREAST or max(wide(name, self.size) for name in names) > 1.4 * width / count
+        self.are_upright = self.are_shown and is_tight
         self.shown = [cut(name, self.size, LONGEST_NAME) for name in names] if self.are_upright else names
 
     def height(self):
-        """How much more room they need upright."""
-        return round(max(wide(name, self.size) for name in self.shown)) - 10 if self.are_upright else 0
+        """How much more room they need than names side by side."""
+        if self.are_upright:
+            return round(max(wide(name, self.size) for name in self.shown)) - 10
+        return FULL_HEIGHT if self.tells_fullest else 0
+
+    def fullest(self, when, shares, width):
+        """A line that names the fullest machines, as many as there is room for."""
+        line = f"fullest {when}:"
+        for at, machine in enumerate(sorted(range(len(shares)), key=lambda machine: (-shares[machine], machine))[:MOST_FULL]):
+            longer = f"{line}{',' * (at > 0)} {self.names[machine]} {percents(shares[machine])}"
+            if at and wide(longer, FULL_SIZE) > width:
+                break
+            line = longer
+        return cut(line, FULL_SIZE, width)
 
 
 class Panel:
@@ -64,6 +85,8 @@ class Panel:
             self.draw_groups(Groups(self.order))
         if len(self.order) > MOST_DOTS:
             self.draw_ends()
+        if self.names.tells_fullest:
+            self.draw_fullest()
 
     def down(self, part):
         return self.top + HEIGHT * (1 - min(part, self.high) / self.high)
@@ -99,7 +122,7 @@ class Panel:
     def draw_names(self):
         """The machines under the axis, if they aren't too many."""
         names, count = self.names, len(self.order)
-        for at, machine in enumerate(self.order if count <= MOST_NUMBERS else []):
+        for at, machine in enumerate(self.order if names.are_shown else []):
             x, y, name = self.across(at, count), self.top + HEIGHT + 14, names.shown[machine]
             if names.are_upright:
                 self.picture.text(x + names.size / 3, y - 6, name, "end", names.size, upright=True)
@@ -139,8 +162,15 @@ class Panel:
             self.picture.text(x, y + 18, grouped(at), "middle", 11)
 
 
-def draw_legend(picture, x, y, count):
-    """What the colours mean, one below the other."""
+    def draw_fullest(self):
+        """The names of the fullest machines, below the axis."""
+        for at, (when, shares) in enumerate((("before", self.before), ("after", self.after))):
+            line = self.names.fullest(when, shares, self.width)
+            self.picture.text(self.left, self.top + HEIGHT + 36 + 15 * at, line, size=FULL_SIZE)
+
+
+def draw_legend(picture, x, y, count, names):
+    """What the colours mean, one below the other. Answers where it ends."""
     rows = []
     if count <= MOST_DOTS:
         rows += [(lambda y: picture.dot(x + 8, y, 4, "white", FAINT), "before"),
@@ -157,6 +187,9 @@ def draw_legend(picture, x, y, count):
     for at, (shape, words) in enumerate(rows):
         shape(y + 24 * at)
         picture.text(x + 26, y + 4 + 24 * at, words)
+    if names.tells_fullest:
+        picture.text(x, y + 4 + 24 * len(rows), "named: the fullest machines")
+    return y + 24 * max(6, len(rows) + names.tells_fullest)
 
 
 def line_of(picture, x, colour, width, dash=""):
@@ -167,8 +200,8 @@ def bar_of(picture, x, colour):
     return lambda y: picture.bar(x, y - 7, 18, 14, colour)
 
 
-def draw_machines(uses, machine_names, title, command):
-    """The picture of the machines, a panel for each resource."""
+def draw_machines(uses, machine_names, title, command, tells_fullest=False):
+    """The picture of the machines, a panel for each resource. If there is no room for their names, the fullest may be told."""
     picture, count = Picture(80), len(machine_names)
     columns = 1 if len(uses) <= ONE_COLUMN else 2
     width = ACROSS if columns == 1 else NARROW
@@ -177,15 +210,15 @@ def draw_machines(uses, machine_names, title, command):
         groups = Groups(list(range(count)))
         in_groups = f", in {groups.count} groups of {'about ' * (count % groups.count > 0)}{groups.size()}"
     picture.heading(76, f"use of each machine, as a part of its capacity; machines in the order of their use before{in_groups}")
-    names = MachineNames(machine_names, width)
+    names = MachineNames(machine_names, width, tells_fullest)
     step = STEP + names.height()
     for at, use in enumerate(uses):
         left = picture.left + at % columns * (width + BESIDE)
         Panel(picture, use, names, left, 122 + step * (at // columns), width).draw()
     picture.right = max(picture.right, picture.left + columns * width + (columns - 1) * BESIDE + 16)
-    draw_legend(picture, picture.left + columns * width + (columns - 1) * BESIDE + 24, 132, count)
+    end = draw_legend(picture, picture.left + columns * width + (columns - 1) * BESIDE + 24, 132, count, names)
     bottom = 122 + step * -(-len(uses) // columns) - 26
-    return picture.written(max(bottom, 132 + 24 * 6), title, command)
+    return picture.written(max(bottom, end), title, command)
 
 
 def title_of(name, count):

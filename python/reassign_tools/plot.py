@@ -11,7 +11,7 @@ alone doesn't always tell what the start costs; MODEL and INITIAL do.
 
 The machines: for each resource the use of each machine as a part of its capacity, before and after, in the order of their use
 before. Up to 600 machines are drawn one by one, and more in groups of at least 20. With --names resources and machines have
-their names, as `named pack` writes them.
+their names, as `named pack` writes them; if there is no room for those of all machines, the fullest are named.
 
 A report that is cut off, or isn't one, is refused with its wrong line; so is one that costs something else than it says, from
 this start in this model. One that is cut between two entries, after its best state, can't be told. Whether a list is feasible
@@ -76,7 +76,8 @@ def machines(words, instance, end, command):
     model = instance.model
     names = Names.read(words.names, words.model) if words.names else Names.numbers(model)
     title = words.title or title_of(words.report, model.machines)
-    return draw_machines(uses_of(model, names, instance.start, end), names.machines, title, command)
+    uses = uses_of(model, names, instance.start, end)
+    return draw_machines(uses, names.machines, title, command, tells_fullest=bool(words.names))
 
 
 def picture_of(words):
