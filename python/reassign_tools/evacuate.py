@@ -12,7 +12,9 @@ others had to move, and which rule keeps them from going back.
 
 NEW has the list with the fewest processes on closed machines. If somebody stays there, the status is 11, and it is told
 which rule keeps each from each open machine, and what it would break on the machines with most room. Ctrl-C ends it well:
-NEW has the best list so far. For example
+NEW has the best list so far.
+
+With --names all this is told by names, and CLOSED may have the name of a machine in each line, in place of numbers. For example
 
     $ tools/evacuate examples/sample/model examples/sample/initial /tmp/closed --out /tmp/emptied"""
 import copy
@@ -24,13 +26,15 @@ from .files import Room, list_text, read_list, target, write_whole
 from .going_on import going_on
 from .lots import lot_of
 from .models import LARGEST, Model, closed_flags, same_sizes
-from .problems import Problem
+from .names import Names
+from .problems import Problem, telling
 from .program import COSTS, Program
 from .repair_words import Repair
 from .repair_words import parser as repair_parser
 from .running import no_more_stops, run_tool, say
 from .states import State
-from .words import LARGEST_SEED, MOST_LOTS, MOST_PROPOSALS, Words, file_name, number, processors
+from .texts import counted, print_in_utf8, some
+from .words import LARGEST_SEED, MOST_LOTS, MOST_PROPOSALS, Words, any_file_name, file_name, number, processors
 
 WINDOW = 64  # machines that a shift looks at
 MOST_TOLD, MOST_LOOKED = 10, 200  # processes that are told of, and that are looked at
@@ -43,6 +47,7 @@ def parser():
     words.add_argument("initial", metavar="INITIAL", type=file_name)
     words.add_argument("closed", metavar="CLOSED", type=file_name, help="the machines to be emptied")
     words.add_argument("--out", metavar="NEW", type=file_name, required=True, help="the new list")
+    words.add_argument("--names", metavar="FILE", type=any_file_name, help="the names of the model, as `named pack` writes them")
     words.add_argument("--budget", metavar="B", type=number(0, MOST_PROPOSALS), default=MOST_PROPOSALS,
                        help="proposals for all processes in a turn, if some stay (1000000); 0 moves nobody else")
     words.add_argument("--workers", metavar="W", type=number(1, MOST_LOTS), default=processors(),
@@ -55,16 +60,17 @@ def parser():
 
 
 class Evacuation:
-    def __init__(self, words, room):
+    def __init__(self, words, room, names):
         self.words, self.room, self.program = words, room, Program(words.program)
-        inputs = self.program.name, words.model, words.initial, words.closed
+        inputs = self.program.name, words.model, words.initial, words.closed, words.names
         self.out = target(words.out, *inputs)
         self.model_out = words.model_out and target(words.model_out, words.out, *inputs)
-        self.closing = ["--closed", words.closed]
+        self.closed = names.closed_file(words.closed, room) if names else words.closed
+        self.closing = ["--closed", self.closed]
         self.program.numbers("check", words.model, words.initial, words.initial, *self.closing)
         self.model, self.start = Model.read(words.model), read_list(words.initial)
         same_sizes(self.model, words.model, self.start)
-        self.flags = closed_flags(self.model, words.closed)
+        self.flags, self.names = closed_flags(self.model, self.closed), names or Names.numbers(self.model)
         self.changed = self.with_high_stays()
         if words.model_out:
             write_whole(self.model_out, self.changed.pieces())
@@ -208,7 +214,7 @@ class Evacuation:
         write_whole(self.room("model"), going_on(empty, self.start, self.now)[0].pieces())
         write_whole(self.room("list"), [list_text(self.now)])
         options = repair_parser().parse_args([
-            self.room("model"), self.room("list"), "--closed", self.words.closed, "--out", self.room("repaired"),
+            self.room("model"), self.room("list"), "--closed", self.closed, "--out", self.room("repaired"),
             "--seed", str(self.words.seed), "--program", self.program.name])
         self.turns += 1
         repair = Repair(options, self.room, tell=lambda line: None)
@@ -227,8 +233,9 @@ class Evacuation:
     def tell(self):
         """Tells what came. Answers the status."""
         staying, first, others = self.staying(), self.staying(self.start), self.others()
-        count = sum(self.flags)
-        print(f"went {len(first) - len(staying)} of {len(first)} processes of {count} closed machine{'s' * (count != 1)}")
+        closed = [name for name, is_closed in zip(self.names.machines, self.flags) if is_closed]
+        print(f"went {len(first) - len(staying)} of {len(first)} processes of {counted(len(closed), 'closed machine')}"
+              f"{f': {some(closed)}' if self.words.names else ''}")
         print(f"others {len(others)} of {self.model.processes - len(first)} had to move")
         costs = self.program.numbers("check", self.words.model, self.words.initial, self.out, *self.closing)
         print("".join(f"{name} {costs[name]}\n" for name in COSTS), end="")
@@ -239,13 +246,16 @@ class Evacuation:
             self.tell_staying(state, staying)
         return 11 if staying else 0
 
+    def named(self, process):
+        """A process with its service."""
+        return f"process {self.names.processes[process]} of service {self.names.services[self.model.service[process]]}"
+
     def tell_others(self, state, others):
         """Why the others can't go back."""
         causes = {process: state.breaks(process, self.start[process]) for process in others}
         for process in others[:MOST_TOLD]:
-            cause = " ".join(map(str, causes[process] or ["not tried"]))
-            print(f"process {process} of service {self.model.service[process]} can't go back to machine {self.start[process]}: "
-                  f"{cause}")
+            cause = self.names.cause(*causes[process]) if causes[process] else "not tried"
+            print(f"{self.named(process)} can't go back to machine {self.names.machines[self.start[process]]}: {cause}")
         print(f"all {len(others)} others: {told(Counter(cause[0] if cause else 'not tried' for cause in causes.values()))}")
 
     def tell_staying(self, state, staying):
@@ -257,10 +267,11 @@ class Evacuation:
             counts = Counter(cause[0] if cause else "nothing" for cause in causes.values())
             totals.update(counts)
             if at < MOST_TOLD:
-                print(f"process {process} of service {self.model.service[process]} stays on machine {self.now[process]}: "
+                print(f"{self.named(process)} stays on machine {self.names.machines[self.now[process]]}: "
                       f"of {len(machines)} open machines {told(counts)}")
                 for machine in machines[:3]:
-                    print(f"  machine {machine}: {' '.join(map(str, causes[machine] or ['takes it']))}")
+                    cause = self.names.cause(*causes[machine]) if causes[machine] else "takes it"
+                    print(f"  machine {self.names.machines[machine]}: {cause}")
         print(f"all {min(len(staying), MOST_LOOKED)} that were looked at: {told(totals)}")
 
 
@@ -275,8 +286,10 @@ def told(counts):
 
 
 def work(words):
-    with Room() as room:
-        evacuation = Evacuation(words, room)
+    print_in_utf8()
+    names = Names.read(words.names, words.model) if words.names else None
+    with Room() as room, telling(names.line if names else str):
+        evacuation = Evacuation(words, room, names)
         try:
             evacuation.go()
         except KeyboardInterrupt:
@@ -288,7 +301,7 @@ def work(words):
                 say(f"{words.out} has the best list so far")
             raise
         write_whole(evacuation.out, [list_text(evacuation.now)])
-    return evacuation.tell()
+        return evacuation.tell()
 
 
 def main(words=None):

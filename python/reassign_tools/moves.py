@@ -7,11 +7,14 @@ cost, and the share of the way from INITIAL's cost to that of all moves. Each li
 `reassign check`.
 
 A list of moves says who moves where, and not in which order: that the list is feasible is said of its end, and of transient
-resources while all are on their way. For example
+resources while all are on their way. With --names machines, services, processes and resources have their names, and the closed
+list may have the name of a machine in each line. Without --closed moves may go to closed machines; if `named pack` wrote MODEL
+and machines are closed, that is told on standard error. For example
 
     $ tools/moves /tmp/packed/model /tmp/packed/initial /tmp/report --names /tmp/packed/names.json --at-most 5"""
 import csv
 import json
+import os
 import sys
 from dataclasses import dataclass
 
@@ -20,11 +23,11 @@ from .choosing_moves import Choice
 from .files import Room, list_text, read_list, target, write_whole
 from .models import Model, closed_flags
 from .names import Names
-from .problems import Problem
+from .problems import Problem, telling
 from .program import Program, closed_words
 from .reports import read_placement
-from .running import run_tool
-from .texts import counted, print_in_utf8
+from .running import run_tool, say
+from .texts import counted, print_in_utf8, some
 from .words import Words, file_name, number
 
 MOST_PROCESSES = 50_000
@@ -135,12 +138,10 @@ class Judge:
         self.program, self.room, self.files, self.closing = program, room, (model, initial), closed_words(closed)
 
     def cost(self, machines, name):
-        """What a list costs. One that isn't feasible ends the tool, with its name in the program's line."""
+        """What a list costs. One that the program refuses ends the tool, with its name in the program's line."""
         write_whole(self.room("list"), [list_text(machines)])
-        status, lines, error = self.program.run("check", *self.files, self.room("list"), *self.closing, endings=(0, 6))
-        if status:
-            raise Problem(error.replace(self.room("list"), name, 1), status)
-        return int(lines[0].split()[1])
+        with telling(lambda line: line.replace(self.room("list"), name, 1)):
+            return self.program.numbers("check", *self.files, self.room("list"), *self.closing)["cost"]
 
     def confirm(self, kept):
         """Judges a list that is printed, whose cost is known."""
@@ -169,13 +170,17 @@ def moves(model, initial, new, at_most=None, closed=None, program=None):
 def work(words):
     print_in_utf8()
     out = words.out and target(words.out, words.model, words.initial, words.new, words.names, words.closed)
-    with Room() as room:
-        judge = Judge(Program(words.program), words.model, words.initial, words.closed, room)
+    names = Names.read(words.names, words.model) if words.names else None
+    with Room() as room, telling(names.line if names else str):
+        closed = names.closed_file(words.closed, room) if names else words.closed
+        judge = Judge(Program(words.program), words.model, words.initial, closed, room)
         start, new = read_list(words.initial), read_placement(words.new)
         costs = judge.cost(start, words.initial), judge.cost(new, words.new)
         model = Model.read(words.model)
-        names = Names.read(words.names, words.model) if words.names else Names.numbers(model)
-        found = Moves(model, start, new, closed_flags(model, words.closed), *costs)
+        names = names or Names.numbers(model)
+        if not closed:
+            tell_closed(words.model, names)
+        found = Moves(model, start, new, closed_flags(model, closed), *costs)
         most = found.all.count if words.at_most is None else words.at_most
         curve = [judge.confirm(one) for one in found.curve(most)] if words.curve else []
         kept = curve[-1] if curve else judge.confirm(found.at_most(most))
@@ -190,6 +195,16 @@ def work(words):
             tell(found, kept)
         if words.csv or kept.count:
             print_rows(move_rows(found, kept, names), words.csv)
+
+
+def tell_closed(model, names):
+    """Tells on standard error which machines are closed, if `named pack` wrote the model and closed any."""
+    folder = os.path.dirname(model)
+    name = os.path.join(folder, "closed")
+    if os.path.isfile(os.path.join(folder, "names.json")) and os.path.isfile(name):
+        closed = [names.machines[machine] for machine in read_list(name, 10) if machine < len(names.machines)]
+        if closed:
+            say(f"moves may go to closed machines ({some(closed)}); --closed {name} keeps them away")
 
 
 def move_rows(found, kept, names):

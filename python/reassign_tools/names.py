@@ -1,13 +1,18 @@
 """The names of a model's machines, services, processes and resources, as `named pack` writes them."""
 import hashlib
 import json
+import re
 from dataclasses import dataclass, field
 
+from .files import list_text, write_whole
 from .fleets.amounts import amount, amount_text
+from .fleets.mistakes import Mistakes
 from .problems import Problem
 
 PIECE = 1 << 20
 LISTS = ("resources", "units", "machines", "neighbourhoods", "locations", "services", "processes")
+BROKEN = re.compile(r"((?:infeasible|unrepaired): .*: )(capacity|transient|conflict|spread|dependency|closed)((?: [0-9]+)+)", re.S)
+NO_LIST = re.compile(r"(bad assignment: .*: (?:no machine for|missing) process )([0-9]+)(.*)", re.S)
 
 
 @dataclass
@@ -66,6 +71,54 @@ class Names:
 
     def neighbourhood(self, label):
         return self.neighbourhoods[label] if label < len(self.neighbourhoods) else str(label)
+
+    def cause(self, kind, *numbers):
+        """A broken rule in the program's words, with names in the place of its numbers."""
+        return " ".join((kind, *map(str, CAUSES[kind](self, *numbers) if self.model_sha256 else numbers)))
+
+    def line(self, line):
+        """The line with which the program refuses a list, by names; any other one as it stands."""
+        if found := BROKEN.fullmatch(line):
+            return found[1] + self.cause(found[2], *map(int, found[3].split()))
+        if found := NO_LIST.fullmatch(line):
+            return found[1] + self.processes[int(found[2])] + found[3]
+        return line
+
+    def closed_file(self, name, room):
+        """The name of a closed list with numbers, as the program reads it: of the file `name` itself, or of one in the room if
+        `name` has a machine's name in each line. None stays None. Raises Problem with status 3 if the file can't be read, and 10
+        if there is no machine of a name."""
+        if name is None:
+            return None
+        try:
+            with open(name, "rb") as file:
+                text = file.read()
+        except OSError as fault:
+            raise Problem(f"{name}: {fault.strerror}") from None
+        if not text.translate(None, b"0123456789 \t\r\n"):
+            return name
+        machines, closed = {machine: at for at, machine in enumerate(self.machines)}, []
+        for at, line in enumerate(text.decode("utf-8-sig", errors="replace").splitlines(), 1):
+            machine = line.strip()
+            if machine and machine not in machines:
+                raise Problem(f"{name}: line {at}: no machine {machine!r}{Mistakes().nearest(machine, self.machines)}", 10)
+            closed += [machines[machine]] if machine else []
+        write_whole(room("closed"), [list_text(closed)])
+        return room("closed")
+
+
+def room_words(names, machine, resource, used, capacity):
+    return names.machines[machine], names.resources[resource], names.amount(resource, used), names.amount(resource, capacity)
+
+
+CAUSES = {
+    "capacity": room_words,
+    "transient": room_words,
+    "conflict": lambda names, service, machine: (names.services[service], names.machines[machine]),
+    "spread": lambda names, service, has, wants: (names.services[service], has, wants),
+    "dependency": lambda names, service, needed, hood: (names.services[service], names.services[needed], names.neighbourhood(hood)),
+    "closed": lambda names, process, machine: (names.processes[process], names.machines[machine]),
+}
 
 
 def hash_of(name):

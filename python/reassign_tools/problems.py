@@ -1,4 +1,5 @@
 """What ends a tool before its aim."""
+from contextlib import contextmanager
 
 
 class Problem(Exception):
@@ -24,6 +25,16 @@ class ProblemWithLines(Problem):
     def __init__(self, lines, line, status):
         super().__init__(line, status)
         self.lines = lines
+
+
+@contextmanager
+def telling(tell):
+    """A problem that comes up in here goes on with the line that `tell` makes of its own."""
+    try:
+        yield
+    except Problem as problem:
+        problem.line = tell(problem.line)
+        raise
 
 
 class Stopped(KeyboardInterrupt):

@@ -8,7 +8,9 @@ after Ctrl-C.
 
 REPAIRED is then the initial list of what follows, since INITIAL, which breaks rules, can be none: move costs and transient
 use count from there. What the moves from INITIAL cost is told, as no later run will tell it; and whether they are feasible
-from INITIAL, that is in one go, or only as a new initial list. For example
+from INITIAL, that is in one go, or only as a new initial list.
+
+With --names all this is told by names, and the closed list may have the name of a machine in each line. For example
 
     $ tools/repair_words examples/sample/model examples/sample/initial --out /tmp/repaired"""
 import random
@@ -17,10 +19,12 @@ from collections import defaultdict
 from .files import Room, list_text, read_list, target, write_whole
 from .lots import lot_of
 from .models import Model, closed_flags, same_sizes
-from .problems import Problem, Stopped
+from .names import Names
+from .problems import Problem, Stopped, telling
 from .program import Program, closed_words
 from .running import run_tool, say
-from .words import LARGEST_SEED, Words, file_name, number
+from .texts import print_in_utf8
+from .words import LARGEST_SEED, Words, any_file_name, file_name, number
 
 MOST_TOLD = 4000  # proposals that a turn repeats, so that the rest of the lot is for new ones
 ONE_WAY = 20  # turns
@@ -35,6 +39,7 @@ def parser():
     words.add_argument("initial", metavar="INITIAL", type=file_name, help="the start, which breaks rules")
     words.add_argument("--out", metavar="REPAIRED", type=file_name, required=True, help="the repaired list")
     words.add_argument("--closed", metavar="FILE", type=file_name, help="machines that nobody may enter")
+    words.add_argument("--names", metavar="FILE", type=any_file_name, help="the names of the model, as `named pack` writes them")
     words.add_argument("--turns", metavar="N", type=number(1, 1_000_000), default=1_000_000, help="end after so many turns")
     words.add_argument("--idle", metavar="N", type=number(1, 1_000_000), default=100,
                        help="end if nothing has fallen in so many turns (100)")
@@ -156,7 +161,8 @@ class Result:
 
     def __init__(self, lines, proposals, error):
         try:
-            self.feasible, self.cause = lines[0] == "feasible", lines[0].partition(" ")[2]
+            self.feasible = lines[0] == "feasible"
+            self.cause = [int(word) if word.isdigit() else word for word in lines[0].split()[1:]]
             self.now = list(map(int, lines[1].split()[1:]))
             tries = [line.split() for line in lines[2:]]
             self.tries = len(tries)
@@ -181,14 +187,15 @@ class Result:
 class Repair:
     """The repair of a list; `tell` gets lines that say how far it is."""
 
-    def __init__(self, words, room, tell=say):
+    def __init__(self, words, room, names=None, tell=say):
         self.words, self.program, self.room, self.tell = words, Program(words.program), room, tell
-        self.out = target(words.out, self.program.name, words.model, words.initial, words.closed)
-        self.closing = closed_words(words.closed)
+        self.out = target(words.out, self.program.name, words.model, words.initial, words.closed, words.names)
+        closed = names.closed_file(words.closed, room) if names else words.closed
+        self.closing = closed_words(closed)
         self.program.run("bound", words.model, words.initial, *self.closing)
         self.model, self.first = Model.read(words.model), read_list(words.initial)
         same_sizes(self.model, words.model, self.first)
-        self.flags = closed_flags(self.model, words.closed)
+        self.flags, self.names = closed_flags(self.model, closed), names or Names.numbers(self.model)
         self.chance = random.Random(words.seed)
         self.start_name, self.start, self.now = words.initial, self.first, list(self.first)
         self.told, self.chained, self.tries = [], False, 0
@@ -255,21 +262,23 @@ class Repair:
         return judged, first, turns
 
     def breaks_from_first(self):
-        """The first transient capacity that the moves from the first list break."""
+        """The first rule that the moves from the first list break, or None."""
         model = self.model
         for machine, (used, held) in enumerate(zip(model.use(self.now), model.left_behind(self.first, self.now))):
             for r in range(model.resources):
                 if model.transient[r] and used[r] + held[r] > model.capacity[machine][r]:
-                    return f"transient {machine} {r} {used[r] + held[r]} {model.capacity[machine][r]}"
+                    return "transient", machine, r, used[r] + held[r], model.capacity[machine][r]
         for process, machine in enumerate(self.now):
             if self.flags[machine] and self.first[process] != machine:
-                return f"closed {process} {machine}"
+                return "closed", process, machine
         return None
 
 
 def work(words):
-    with Room() as room:
-        repair = Repair(words, room)
+    print_in_utf8()
+    names = Names.read(words.names, words.model) if words.names else None
+    with Room() as room, telling(names.line if names else str):
+        repair = Repair(words, room, names)
         try:
             judged, first, turns = repair.go()
         except Stopped:
@@ -277,25 +286,32 @@ def work(words):
                 write_whole(repair.out, [list_text(repair.now)])
                 raise Problem(f"stopped; {words.out} has the list so far, which breaks rules", 130) from None
             raise
-    write_whole(repair.out, [list_text(repair.now)])
+        write_whole(repair.out, [list_text(repair.now)])
+        tell(words, repair, judged, first, turns)
+    return 0 if judged.feasible else 11
+
+
+def tell(words, repair, judged, first, turns):
+    """Tells what came of the repair."""
+    names = repair.names
     count = sum(home != machine for home, machine in zip(repair.first, repair.now))
     process, service, machine = repair.model.moves_cost(repair.first, repair.now)
-    print("feasible" if judged.feasible else f"broken {judged.cause}")
+    print("feasible" if judged.feasible else f"broken {names.cause(*judged.cause)}")
     print(f"penalty {first} > {0 if judged.feasible else judged.penalty}, {turns} turns, {repair.tries} tries")
     print(f"moved {count} of {repair.model.processes} processes; their moves cost process {process}, service {service}, "
           f"machine {machine}")
     if judged.feasible:
         repair.program.numbers("check", words.model, words.out, words.out, *repair.closing)
         cause = repair.breaks_from_first()
-        print(f"feasible as a new initial list; from {words.initial} its moves break {cause}" if cause else
+        print(f"feasible as a new initial list; from {words.initial} its moves break {names.cause(*cause)}" if cause else
               f"feasible from {words.initial}, in one go")
         print(f"use {words.out} as the initial list from here on: move costs and transient use count from it")
-        return 0
+        return
     for m, r, used, capacity in repair.never[:10]:
-        print(f"on machine {m}, {used} of {capacity} of transient resource {r} stay in use whatever moves")
+        print(f"on machine {names.machines[m]}, {names.amount(r, used)} of {names.amount(r, capacity)} of transient "
+              f"{names.resources[r]} stay in use whatever moves")
     print(f"{words.out} breaks fewer rules; give room (a capacity, or one process less), or go on with it as the start and "
           "another --seed")
-    return 11
 
 
 def main(words=None):

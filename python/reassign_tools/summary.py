@@ -5,7 +5,8 @@ resource where most of them are. Then the cost of the start and of the end, the 
 bound that is left; for each resource the machines above their safety capacity, and the fullest; of a report the entries done,
 refused by cause, and planned at an earlier state, for each worker; the processes that move, from where to where and by which
 services; and the fullest machines before and after. With --json it is one object for scripts, which has every process that
-moves. With --names machines, services and resources have their names, as `named pack` writes them.
+moves. With --names machines, services and resources have their names, as `named pack` writes them, and the closed list may
+have the name of a machine in each line.
 
 A list is judged by `reassign check`. Of a report each line is read, the moves that were done are followed from INITIAL, and
 both lists are judged. One that is cut off or isn't one, or isn't one of these files, is told with the line, and nothing is
@@ -23,10 +24,11 @@ from .files import Room, list_text, read_list, write_whole
 from .machine_uses import headline, share_of, uses_of
 from .models import Model, same_sizes
 from .names import Names
-from .problems import Problem
+from .problems import Problem, telling
 from .program import COSTS, Program, closed_words
 from .reports import ENTRY, HEAD, STEP, STEPS, ReportHead, is_list
 from .running import run_tool
+from .texts import print_in_utf8
 from .words import Words, any_file_name, file_name, number
 
 
@@ -122,9 +124,10 @@ def fullest(model, use, top):
     return [{"machine": m, "resource": -r, "used": use[m][-r], "capacity": model.capacity[m][-r]} for _, r, m in shares[:top]]
 
 
-def summed(words):
-    """All that is told of a report or a list."""
-    program, closing = Program(words.program), closed_words(words.closed)
+def summed(words, names, room):
+    """All that is told of a report or a list, and the names, which are numbers if there are none."""
+    program = Program(words.program)
+    closing = closed_words(names.closed_file(words.closed, room) if names else words.closed)
     if words.lots is not None:
         verify(program, words)
     start = program.numbers("check", words.model, words.initial, words.initial, *closing)
@@ -135,10 +138,10 @@ def summed(words):
         costs = program.numbers("check", words.model, words.initial, words.report, *closing)
     model = Model.read(words.model)
     same_sizes(model, words.report, initial, end)
-    names = Names.read(words.names, words.model) if words.names else Names.numbers(model)
+    names = names or Names.numbers(model)
     bound = program.numbers("bound", words.model, words.initial, *closing)["bound"]
     if journal:
-        costs = judged_head(program, words, closing, journal.head, bound)
+        costs = judged_head(program, words, closing, journal.head, bound, room("end"))
     uses = uses_of(model, names, initial, end)
     moved = [(p, a, b) for p, (a, b) in enumerate(zip(initial, end)) if a != b]
     way = start["cost"] - bound
@@ -173,11 +176,11 @@ def verify(program, words):
     program.run("verify", words.model, words.initial, words.report, *lots)
 
 
-def judged_head(program, words, closing, head, bound):
-    """The costs that a report tells, which have to be those of its list with this model and start."""
-    with Room() as room:
-        write_whole(room("end"), [list_text(head.assignment)])
-        costs = program.numbers("check", words.model, words.initial, room("end"), *closing)
+def judged_head(program, words, closing, head, bound, name):
+    """The costs that a report tells, which have to be those of its list, written to the file `name`, with this model and start."""
+    write_whole(name, [list_text(head.assignment)])
+    with telling(lambda line: line.replace(name, words.report, 1)):
+        costs = program.numbers("check", words.model, words.initial, name, *closing)
     for at, name in enumerate(COSTS, 1):
         if costs[name] != head.numbers[name]:
             raise Problem(f"{words.report}: line {at}: {name} is {costs[name]} with this model and start", 9)
@@ -248,7 +251,10 @@ def tell_moved(moved, processes, names, top):
 
 
 def work(words):
-    found, names = summed(words)
+    print_in_utf8()
+    names = Names.read(words.names, words.model) if words.names else None
+    with Room() as room, telling(names.line if names else str):
+        found, names = summed(words, names, room)
     if words.json:
         json.dump(found, sys.stdout)
         print()

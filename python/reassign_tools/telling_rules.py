@@ -1,5 +1,5 @@
 """Broken rules by their names."""
-from .texts import counted
+from .texts import counted, some
 
 MOST_NAMED = 2  # processes that are named in a line
 
@@ -37,8 +37,7 @@ TOLD = {"capacity": room, "transient": room, "conflict": conflict, "spread": spr
 
 def named(processes, names):
     """Some processes by their names, and how many more there are."""
-    first = ", ".join(names.processes[p] for p in processes[:MOST_NAMED])
-    return first + (f" and {len(processes) - MOST_NAMED} more" if len(processes) > MOST_NAMED else "") or "no process"
+    return some([names.processes[p] for p in processes], MOST_NAMED) or "no process"
 
 
 def share_of(used, capacity):

@@ -7,6 +7,11 @@ def counted(count, word, several=""):
     return f"{count:,} {word if count == 1 else several or f'{word}s'}"
 
 
+def some(names, most=5):
+    """The first of some names, and how many more there are."""
+    return ", ".join(names[:most]) + (f" and {len(names) - most:,} more" if len(names) > most else "")
+
+
 def percent(share):
     """A share in per cents: 12.1 %."""
     return f"{100 * share:.1f} %"
