@@ -41,6 +41,8 @@ class Evacuate(ByNames):
             self.expect(11, "evacuate", *PACKED, "closing", *NAMES, "--out", "emptied", "--budget", 0)
             emptied.append(text_of("emptied"))
         self.assertEqual(len(set(emptied)), 1)
+        told = self.expect(0, "evacuate", *PACKED, "packed/closed", *NAMES, "--out", "emptied")
+        self.assertTrue(told.startswith("went 0 of 0 processes of 0 closed machines\n"), told)
 
     def test_others(self):
         put("tight", MODEL)
@@ -152,7 +154,8 @@ class ClosedMachines(FleetCase):
         self.write_fleet("fleet", machines=text_of("fleet/machines.csv").replace("a2,a,r2,16,64Gi,open", "a2,a,r2,16,64Gi,closed"))
         self.pack()
         put("new", "0 1 1\n")
-        line = "moves: moves may go to closed machines ({}); --closed packed/closed keeps them away\n"
+        line = ("moves: closed machines: {}; without --closed packed/closed moves may go there, and those away from there may be left "
+                "out\n")
         for words, told in ((NAMES, line.format("a2")), ((), line.format("1")), ((*NAMES, "--closed", "closed2"), "")):
             put("closed2", "0\n")
             ran = run(tool_path("moves"), *PACKED, "new", *words)

@@ -14,7 +14,8 @@ NEW has the list with the fewest processes on closed machines. If somebody stays
 which rule keeps each from each open machine, and what it would break on the machines with most room. Ctrl-C ends it well:
 NEW has the best list so far.
 
-With --names all this is told by names, and CLOSED may have the name of a machine in each line, in place of numbers. For example
+With --names all this is told by names, and CLOSED may have the name of a machine in each line. If it has nothing but numbers,
+these are those of the model, as elsewhere. For example
 
     $ tools/evacuate examples/sample/model examples/sample/initial /tmp/closed --out /tmp/emptied"""
 import copy
@@ -235,7 +236,7 @@ class Evacuation:
         staying, first, others = self.staying(), self.staying(self.start), self.others()
         closed = [name for name, is_closed in zip(self.names.machines, self.flags) if is_closed]
         print(f"went {len(first) - len(staying)} of {len(first)} processes of {counted(len(closed), 'closed machine')}"
-              f"{f': {some(closed)}' if self.words.names else ''}")
+              f"{f': {some(closed)}' if self.words.names and closed else ''}")
         print(f"others {len(others)} of {self.model.processes - len(first)} had to move")
         costs = self.program.numbers("check", self.words.model, self.words.initial, self.out, *self.closing)
         print("".join(f"{name} {costs[name]}\n" for name in COSTS), end="")

@@ -8,8 +8,8 @@ cost, and the share of the way from INITIAL's cost to that of all moves. Each li
 
 A list of moves says who moves where, and not in which order: that the list is feasible is said of its end, and of transient
 resources while all are on their way. With --names machines, services, processes and resources have their names, and the closed
-list may have the name of a machine in each line. Without --closed moves may go to closed machines; if `named pack` wrote MODEL
-and machines are closed, that is told on standard error. For example
+list may have the name of a machine in each line. Without --closed moves may go to closed machines, and those away from there
+may be left out; if `named pack` wrote MODEL and machines are closed, that is told on standard error. For example
 
     $ tools/moves /tmp/packed/model /tmp/packed/initial /tmp/report --names /tmp/packed/names.json --at-most 5"""
 import csv
@@ -204,7 +204,8 @@ def tell_closed(model, names):
     if os.path.isfile(os.path.join(folder, "names.json")) and os.path.isfile(name):
         closed = [names.machines[machine] for machine in read_list(name, 10) if machine < len(names.machines)]
         if closed:
-            say(f"moves may go to closed machines ({some(closed)}); --closed {name} keeps them away")
+            say(f"closed machines: {some(closed)}; without --closed {name} moves may go there, and those away from there may be "
+                "left out")
 
 
 def move_rows(found, kept, names):

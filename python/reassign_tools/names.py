@@ -85,9 +85,9 @@ class Names:
         return line
 
     def closed_file(self, name, room):
-        """The name of a closed list with numbers, as the program reads it: of the file `name` itself, or of one in the room if
-        `name` has a machine's name in each line. None stays None. Raises Problem with status 3 if the file can't be read, and 10
-        if there is no machine of a name."""
+        """The name of a closed list with numbers, as the program reads it: of the file `name` itself if it has nothing else, or
+        of one in the room if `name` has a machine's name in each line. None stays None. Raises Problem with status 3 if the file
+        can't be read, and 10 if there is no machine of a name."""
         if name is None:
             return None
         try:
