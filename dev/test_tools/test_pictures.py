@@ -22,6 +22,7 @@ class Lists(ToolCase):
         found = json.loads(self.expect(0, "summary", "new", "model", "initial", "--json", "--names", self.names()))
         self.assertEqual(found["end"]["cost"], 3510)
         self.assertEqual(found["moved"], [{"process": 1, "service": 0, "from": 3, "to": 2, "names": ["shop-1", "shop", "east-2", "east-1"]}])
+        self.assertEqual(found["fullest_after"][0], {"machine": 2, "resource": 0, "used": 10, "capacity": 15, "names": ["east-1", "cpu"]})
         self.assertNotIn("entries", found)
         self.assertIn("machine east-2 cpu 10 of 10", self.expect(0, "summary", "new", "model", "initial", "--names", "names.json"))
         report = self.expect(0, "summary", "report", "model", "initial", "--names", "names.json")

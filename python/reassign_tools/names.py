@@ -73,7 +73,7 @@ class Names:
         return self.neighbourhoods[label] if label < len(self.neighbourhoods) else str(label)
 
     def cause(self, kind, *numbers):
-        """A broken rule in the program's words, with names in the place of its numbers."""
+        """A broken rule in the program's words, with names in the place of its numbers; as it stands if there are no names."""
         return " ".join((kind, *map(str, CAUSES[kind](self, *numbers) if self.model_sha256 else numbers)))
 
     def line(self, line):

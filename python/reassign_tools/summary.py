@@ -162,6 +162,8 @@ def summed(words, names, room):
         for one in found["moved"]:
             one["names"] = [names.processes[one["process"]], names.services[one["service"]],
                             names.machines[one["from"]], names.machines[one["to"]]]
+        for one in (*found["fullest_before"], *found["fullest_after"]):
+            one["names"] = [names.machines[one["machine"]], names.resources[one["resource"]]]
     return found | (summed_journal(journal) if journal else {}), names
 
 
