@@ -108,6 +108,7 @@ class Names:
 
 
 def room_words(names, machine, resource, used, capacity):
+    """The words of a capacity that is broken, by names."""
     return names.machines[machine], names.resources[resource], names.amount(resource, used), names.amount(resource, capacity)
 
 
