@@ -14,11 +14,12 @@ from .words import processors
 MOST_ALONE = 1_000_000  # numbers of ways that one process computes alone
 
 
-def going_on(model, start, last, raised=False):
+def going_on(model, start, last, raised=False, held=None):
     """The model of a run that begins at the list `last` and makes only lists that are feasible from `start`. With the ways
     raised none of them costs more from there than the run says; with the ways as written none does if a detour is never
-    cheaper than the way. Answers it, and how many resources should have a twin and have none."""
-    held = model.left_behind(start, last)
+    cheaper than the way. What the processes that moved still hold, by machine, is that of the model's own if it isn't given.
+    Answers the new model, and how many resources should have a twin and have none."""
+    held = held or model.left_behind(start, last)
     is_held = [any(row[r] for row in held) for r in range(model.resources)]
     weighed = {r for first, second, _, weight in model.balances if weight for r in (first, second)}
     less, twins, left_out = [], [], 0
