@@ -1,5 +1,6 @@
 """rounds: when they end, what they tell, and how the next one is chosen."""
 import json
+import os
 
 from common import ToolCase, put, run, text_of
 
@@ -31,7 +32,7 @@ class Rounds(ToolCase):
         self.assertEqual([one["cost"] for one in lines_of("log2")], costs)
 
     def test_parts(self):
-        """Rounds go on with parts, of which each run is made again by the log."""
+        """Rounds go on with parts, of which each run is made again by the log. No run leaves a file but a better list."""
         model, initial = self.make_instance("parts", 20, 400, 3, 3)
         words = [model, initial, "--out", "parts/best", "--workers", 1, "--budget", 20_000, "--log", "parts/log"]
         self.expect(0, "rounds", *words, "--rounds", 2)
@@ -40,6 +41,8 @@ class Rounds(ToolCase):
         self.assertEqual((second["begins"], second["seed"]), ("parts", 17))
         self.assertGreater(second["runs"], 3)
         self.assertEqual(second["cost"], self.cost(model, initial, "parts/best"))
+        left = [name for name in os.listdir("parts/best.rounds") if not name.endswith(".list")]
+        self.assertEqual(set(left), {"lock", "log"})
         log = run("sh", "parts/best.rounds/log")
         accepted = [int(line.split()[1]) for line in log.stdout.splitlines() if line.startswith("accepted ")]
         self.assertEqual((log.returncode, len(accepted), sum(accepted)), (0, 1 + second["runs"], 40_000), log.stdout + log.stderr)
@@ -65,6 +68,8 @@ class Rounds(ToolCase):
         for more in (["--seconds", 0], ["--seconds", "x"], ["--seconds", 1, "--rounds", 1], ["--proposals", 0], ["--slack", "some"],
                      ["--log", "model"], ["--log", "x"], ["--part", 1], ["--model-from", "initial", "--part", 0]):
             self.expect(2, "rounds", *words, *more)
+        put("x.part", text_of("initial"))
+        self.expect(2, "rounds", *words, "--model-from", "x.part", "--part", 1)
 
     def test_call(self):
         from reassign_tools import Problem, rounds

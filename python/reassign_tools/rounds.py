@@ -48,6 +48,7 @@ from .texts import percent
 from .words import LARGEST_SEED, MOST_LOTS, MOST_PROPOSALS, Words, file_name, number, processors
 
 IDLE_ROUNDS = 4
+PART = ".part"  # after the name of a part's model, of the list from which the run begins
 PART_EACH = 50  # proposals of a run on a part for each of its processes,
 NUMBERS = 50  # or one for so many ways of the model if that is more, since reading them takes about as long
 
@@ -67,7 +68,7 @@ def parser():
     ends.add_argument("--model-from", metavar="LIST", type=file_name,
                       help="write the model of a run that begins at LIST to BEST, and end")
     words.add_argument("--part", metavar="N", type=number(1, 10**12),
-                       help="with --model-from: the model of run N, which goes on with a part")
+                       help="with --model-from: the model of run N, which goes on with a part, and its list in BEST.part")
     words.add_argument("--workers", metavar="W", type=number(1, MOST_LOTS), default=processors(),
                        help="workers of each run (as many as processors)")
     words.add_argument("--budget", metavar="B", type=number(1, MOST_PROPOSALS), default=MOST_PROPOSALS,
@@ -108,6 +109,8 @@ class Rounds:
         self.ends = Ends(words.rounds, words.proposals, words.seconds or (60 * words.minutes if words.minutes else None))
         if words.log:
             target(words.log, self.program.name, words.out, *inputs)
+        if words.part:
+            target(self.best + PART, self.program.name, *inputs)
         for name in filter(None, inputs[:3]):
             if is_same(os.path.dirname(os.path.realpath(name)), self.folder):
                 raise Problem(f"{name} is in {words.out}.rounds, whose files would be lost", 2)
@@ -177,9 +180,9 @@ class Rounds:
             same_sizes(self.model, self.words.model, self.start)
             self.parts = Parts(self.model, self.start)
 
-    def model_from(self, last, number=None):
-        """The model of a run that begins at a list, and goes on with all processes or, if it has a number, with a part; and the
-        part, or None."""
+    def write_model(self, name, last, number=None):
+        """Writes the model of a run that begins at a list, and goes on with all processes or, if it has a number, with a part:
+        then the list of the part stands beside the model. Answers the part, or None."""
         self.read_model()
         same_sizes(self.model, self.words.model, last)
         part = None if number is None else self.parts.chosen(last, number)
@@ -188,7 +191,10 @@ class Rounds:
             self.is_told = True
             say(f"{left_out} resources of balance objectives have no twin, since a model has at most 20 resources; the runs "
                 "judge these objectives wrongly, and `check` decides")
-        return new, part
+        write_whole(name, new.pieces())
+        if part:
+            write_whole(name + PART, [list_text([last[process] for process in part.processes])])
+        return part
 
     def round(self, room, choice, budget):
         """One round. Answers the least cost that it found, or None, and the slack of its last run."""
@@ -200,7 +206,7 @@ class Rounds:
             name = os.path.basename(self.list_name).replace(".list", ".raised" if self.raised else ".model")
             run = Run(self.place(room, name), self.list_name, ["--raised"] if self.raised else [])
             if not os.path.exists(run.model):
-                write_whole(run.model, self.model_from(self.now)[0].pieces())
+                self.write_model(run.model, self.now)
         found = self.run(run, choice.slack, budget)
         cost = None if found is None else self.judge(room, found)
         if choice.kind == BEST and cost is not None and cost >= self.cost and found != self.now:
@@ -212,10 +218,9 @@ class Rounds:
         costs, slack = [], None
         while budget and self.has_time_for_part():
             at, number, before = time.monotonic(), self.runs + 1, self.cost
-            model, part = self.model_from(self.now, number)
-            run = Run(self.place(room, f"{number}.model"), os.path.join(self.folder, f"{number}.part"), ["--part", str(number)])
-            write_whole(run.model, model.pieces())
-            write_whole(run.list, [list_text([self.now[process] for process in part.processes])])
+            name = self.place(room, f"{number}.model")
+            part = self.write_model(name, self.now, number)
+            run = Run(name, name + PART, ["--part", str(number)])
             self.making = max(self.making, time.monotonic() - at)
             share = max(PART_EACH * len(part.processes), self.model.machines ** 2 // NUMBERS)
             share = budget if 2 * budget < 3 * share else share
@@ -234,7 +239,7 @@ class Rounds:
         return left is None or left > 2 * max(self.making, 3 * self.ends.reading)
 
     def place(self, room, name):
-        """Where a run's model stands: in the folder if it is to be kept, else in the room, where it is the only one."""
+        """Where a run's model stands: in the folder if it is to be kept, else in the room, which has that of no other run."""
         if self.words.keep:
             return os.path.join(self.folder, name)
         for old in os.listdir(room("")):
@@ -353,7 +358,7 @@ def work(words):
     rounds = Rounds(words)
     if words.model_from:
         rounds.cost_of(words.model_from)
-        write_whole(rounds.best, rounds.model_from(read_list(words.model_from), words.part)[0].pieces())
+        rounds.write_model(rounds.best, read_list(words.model_from), words.part)
         return
     if words.part:
         raise Problem("--part is for --model-from; rounds --help shows how to call it", 2)
