@@ -84,12 +84,12 @@ class Rounds(ToolCase):
 class Choices(ToolCase):
     """The choice of a round, by what is said to have come of those before."""
 
-    def played(self, rounds, found, slack=None, can_begin_anew=True, processes=1000, has_parts=True):
+    def played(self, rounds, found, slack=None, can_begin_anew=True, processes=1000):
         """The choices of so many rounds of 100,000 proposals, if `found` says what each comes to."""
         from reassign_tools.round_choices import Chooser
         chooser, best, made = Chooser(1000 * processes, processes, slack), 1000 * processes, []
         for _ in range(rounds):
-            choice = chooser.next(best, bool(made), can_begin_anew, has_parts)
+            choice = chooser.next(best, bool(made), len(made) / rounds, can_begin_anew)
             cost = found(choice, best)
             chooser.learn(choice, cost, best, 100_000)
             best = min(best, cost) if cost is not None else best
@@ -105,35 +105,35 @@ class Choices(ToolCase):
         self.assertEqual(made, [START] + [PARTS] * 11)
 
     def test_few_proposals(self):
-        """All processes go on at once until they had 40 proposals each; and if nothing may be a part."""
+        """All processes go on at once until they had 40 proposals each."""
         found = lambda choice, best: best - 5_000
         self.assertEqual(self.kinds(6, found, processes=10_000), [START] + [BEST] * 3 + [PARTS] * 2)
-        self.assertEqual(self.kinds(6, found, has_parts=False), [START] + [BEST] * 5)
 
     def test_all_at_once_if_parts_find_nothing(self):
         found = lambda choice, best: {START: 500_000, BEST: best - 5_000, PARTS: None}[choice.kind]
         self.assertEqual(self.kinds(8, found, can_begin_anew=False), [START, PARTS] + [BEST] * 6)
 
-    def test_two_runs_that_end(self):
-        """If a run from the true start comes to its end, a second one follows."""
+    def test_runs_that_end(self):
+        """If runs from the true start come to their ends, half of the rounds are such runs before any goes on."""
         found = lambda choice, best: 10_000 if choice.kind == START else best - 50
-        self.assertEqual(self.kinds(5, found, processes=200), [START, START] + [PARTS] * 3)
+        self.assertEqual(self.kinds(9, found, processes=200), [START] * 5 + [PARTS] * 4)
+        self.assertEqual(self.kinds(9, found, processes=200, can_begin_anew=False), [START] + [PARTS] * 8)
 
     def test_begins_anew(self):
         """If going on gains nothing, nearly all rounds begin anew, and have the slack of least mean cost."""
         made = self.played(30, lambda choice, best: 500_000 + 1_000 * choice.slack if choice.kind == START else None)
         anew = [choice.slack for choice in made if choice.kind == START]
         self.assertGreater(len(anew), 20)
-        self.assertEqual(set(anew), {0, 5, 10, 20})
+        self.assertEqual(set(anew), {0, 5, 10})
         self.assertGreater(anew.count(0), len(anew) // 2)
 
     def test_slack_of_going_on(self):
         """Rounds that go on with all processes have the slack that gains most, and try the others from time to time."""
-        gain = lambda choice: 900 if choice.slack == 2 else 300
-        made = self.played(30, lambda choice, best: 500_000 if choice.kind == START else best - gain(choice), has_parts=False)
+        gain = lambda choice: 90_000 if choice.slack == 10 else 30_000
+        made = self.played(30, lambda choice, best: 90_000_000 if choice.kind == START else best - gain(choice), processes=100_000)
         on = [choice.slack for choice in made if choice.kind == BEST]
-        self.assertGreater(on.count(2), len(on) // 2)
-        self.assertGreater(on[10:].count(0) + on[10:].count(10), 1)
+        self.assertGreater(on.count(10), len(on) // 2)
+        self.assertGreater(on[10:].count(0) + on[10:].count(5), 1)
 
     def test_slack_of_parts(self):
         """Runs on parts have the slack that gains most for each proposal, and try the others from time to time."""
@@ -143,12 +143,12 @@ class Choices(ToolCase):
             used.append(chooser.part_slack())
             proposals = 1000 + 100 * (number % 7)
             chooser.learn_part(used[-1], proposals * (3 if used[-1] == 10 else 2), proposals)
-        self.assertEqual(used[:3], [20, 40, 10])
+        self.assertEqual(used[:3], [5, 10, 0])
         self.assertGreater(used.count(10), 35)
-        self.assertTrue(all(used[20:].count(slack) >= 2 for slack in (20, 40)))
+        self.assertTrue(all(used[20:].count(slack) >= 2 for slack in (5, 0)))
 
     def test_given(self):
-        made = self.played(10, lambda choice, best: best - 1, slack=7, has_parts=False)
+        made = self.played(10, lambda choice, best: best - 1, slack=7, processes=100_000)
         self.assertEqual({choice.slack for choice in made}, {7})
 
     def test_closed(self):

@@ -3,14 +3,13 @@ import math
 from dataclasses import dataclass, field
 
 START, BEST, PARTS = "start", "best", "parts"
-START_SHARES = (0.01, 0.02, 0.005, 0.0)  # of the start's cost per process, as they are tried by runs from the true start,
-BEST_SHARES = (0.01, 0.0, 0.002)  # by runs of all processes from the best list, which are short of room,
-PART_SHARES = (0.02, 0.04, 0.01)  # and by runs on parts
+SHARES = (0.005, 0.01, 0.0)  # of the start's cost per process: the slacks, as runs of each kind try them
 AGAIN = 4  # each so many runs of a kind the slack is tried that has waited longest
 FADE = 0.7  # what a round that went on gained counts so much of it after each later one
 PART_FADE = 0.95  # and what a run on a part gained
 THIN = 40  # proposals of each process, on average, up to which rounds go on with all processes at once
-THICK = 500  # proposals of each process in a round from which on runs from the true start come to their ends, which differ
+THICK = 500  # proposals of each process in a round from which on runs from the true start come to their ends, which differ;
+ANEW = 0.5  # then rounds begin there until so much of the limit is used
 DOUBT = 0.001  # how far runs from the true start lie apart before any is known, as a share of the fall
 
 
@@ -47,15 +46,15 @@ class Chooser:
     """Chooses rounds, and the slacks of their runs, by what those before brought.
 
     Rounds go on from the best list as long as that gains more than a run from the true start may be expected to: such runs
-    differ by their seeds, and their costs are taken to be spread normally. If the first one came to its end, a second one is
-    made before any goes on. After a round that found nothing one of the other kind comes, but none goes on from a list from
-    which three rounds in a row found nothing. Rounds go on with parts; but with all processes at once as long as these had few
-    proposals, and if that gained more the last time. If the slack is given it is that of all runs."""
+    differ by their seeds, and their costs are taken to be spread normally. If they come to their ends, half of the limit is for
+    them before any round goes on. After a round that found nothing one of the other kind comes, but none goes on from a list
+    from which three rounds in a row found nothing. Rounds go on with parts; but with all processes at once as long as these had
+    few proposals, and if that gained more the last time. If the slack is given it is that of all runs."""
 
     def __init__(self, start_cost, processes, slack=None):
         share = lambda part: round(part * start_cost / max(processes, 1))
-        named = lambda shares: Slacks(list(dict.fromkeys([slack] if slack is not None else map(share, shares))))
-        self.slacks = {START: named(START_SHARES), BEST: named(BEST_SHARES), PARTS: named(PART_SHARES)}
+        order = list(dict.fromkeys([slack] if slack is not None else map(share, SHARES)))
+        self.slacks = {kind: Slacks(order) for kind in (START, BEST, PARTS)}
         self.start_cost, self.processes = start_cost, processes
         self.proposals = self.last_budget = 0  # of all rounds, and of the last one
         self.costs = {}  # of runs from the true start, by slack
@@ -65,23 +64,24 @@ class Chooser:
         self.failed = 0  # rounds in a row that went on from the best list and found nothing
         self.last = None  # the last choice, if it found nothing
 
-    def next(self, best_cost, has_list, can_begin_anew=True, has_parts=True):
-        """The next round, if the best list so far costs so much. A list of an earlier call is gone on from first."""
-        if not has_list or (can_begin_anew and self.is_start_better(best_cost)):
+    def next(self, best_cost, has_list, used, can_begin_anew=True):
+        """The next round, if the best list so far costs so much, and this share of the limit is used. A list of an earlier call
+        is gone on from first."""
+        if not has_list or (can_begin_anew and self.is_start_better(best_cost, used)):
             return Choice(START, self.slacks[START].next())
-        kind = self.way_on(has_parts)
+        kind = self.way_on()
         return Choice(kind, self.slacks[BEST].next() if kind == BEST else None)
 
-    def way_on(self, has_parts):
+    def way_on(self):
         """How the next round goes on from the best list."""
-        if not has_parts or self.proposals < THIN * self.processes:
+        if self.proposals < THIN * self.processes:
             return BEST
         if self.gains.get(PARTS) == 0 and BEST not in self.gains:
             return BEST
         return max(PARTS, BEST, key=lambda kind: self.gains.get(kind, math.inf if kind == PARTS else 0))
 
-    def is_start_better(self, best_cost):
-        if self.last_budget >= THICK * self.processes and sum(map(len, self.costs.values())) == 1:
+    def is_start_better(self, best_cost, used):
+        if self.costs and used < ANEW and self.last_budget >= THICK * self.processes:
             return True
         if self.last:
             return self.last.kind != START or self.failed >= 3

@@ -3,6 +3,7 @@ import time
 
 LEAST_PART = 0.02  # of a round's budget: a shorter round isn't begun
 ROOM = 0.85  # the part of the time that is left for which a round is planned, since times swing
+FEW = 4  # rounds that stand for the limit if there is none
 TRIED = 5_000  # proposals by which their time is measured before the first round
 
 
@@ -21,6 +22,12 @@ class Ends:
     def left(self):
         """How many seconds the rounds have left; None if they may take as long as they like."""
         return None if self.seconds is None else self.seconds - self.closing - self.passed()
+
+    def used(self):
+        """The share of the limit that is used."""
+        if self.seconds is not None:
+            return self.passed() / self.seconds
+        return self.done / (self.rounds or FEW) if self.proposals is None else self.made / self.proposals
 
     def measure(self, run):
         """Measures how long reading and a proposal take, by a call that makes so many proposals and answers its seconds."""

@@ -9,10 +9,11 @@ there in the best list: so machines that were emptied stay empty. The best list 
 already, the rounds go on from it. Without a limit they end when four in a row find nothing. Ctrl-C ends them well: what BEST
 has is judged and printed. After --seconds they end too: a run that isn't over then is lost.
 
-Where a round begins, and the slack of each run if none is given, is chosen by what those before brought. Rounds go on from the
-best list as long as that gains more than another run from INITIAL may be expected to; after a round that found nothing one of
-the other kind comes. Of several slacks, shares of the start's cost per process, each is tried, then the one that brought most,
-and from time to time the others again.
+Where a round begins, and the slack of each run if none is given, is chosen by what those before brought. If runs from INITIAL
+have enough proposals to come to their ends, half of the limit is for them. Then, or else at once, rounds go on from the best list
+as long as that gains more than another run from INITIAL may be expected to; after a round that found nothing one of the other
+kind comes. Of several slacks, shares of the start's cost per process, each is tried, then the one that brought most, and from time
+to time the others again.
 
 A run of all processes that goes on charges each process the way from where it stands, as MODEL has it. If a list that such a run
 calls better isn't, those after it raise the ways to the most that they cost more from INITIAL, so that what is better there is
@@ -49,7 +50,7 @@ from .words import LARGEST_SEED, MOST_LOTS, MOST_PROPOSALS, Words, file_name, nu
 
 IDLE_ROUNDS = 4
 PART = ".part"  # after the name of a part's model, of the list from which the run begins
-PART_EACH = 50  # proposals of a run on a part for each of its processes,
+PART_EACH = 100  # proposals of a run on a part for each of its processes,
 NUMBERS = 50  # or one for so many ways of the model if that is more, since reading them takes about as long
 
 
@@ -301,7 +302,9 @@ class Rounds:
         idle = 0
         while (idle < IDLE_ROUNDS or self.has_limit()) and self.ends.next_budget(self.words.budget):
             before, has_list = self.cost, self.list_name != self.words.initial
-            choice = self.chooser.next(before, has_list, not self.first - self.staying, has_list and self.has_parts())
+            choice = self.chooser.next(before, has_list, self.ends.used(), not self.first - self.staying)
+            if choice.kind != START:
+                self.read_model()
             budget = self.ends.next_budget(self.words.budget)
             if not budget:
                 break
@@ -312,11 +315,6 @@ class Rounds:
             idle = 0 if self.cost < before else idle + 1
             self.tell(time.monotonic() - at, idle)
             self.add_to_log(choice, budget, first, slack, found)
-
-    def has_parts(self):
-        """Whether some processes may be a part of the best list."""
-        self.read_model()
-        return bool(self.parts.chosen(self.now, 1).processes)
 
     def has_limit(self):
         words = self.words
