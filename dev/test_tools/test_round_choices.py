@@ -105,9 +105,9 @@ class Choices(ToolCase):
         self.assertEqual(made, [START] + [PARTS] * 11)
 
     def test_few_proposals(self):
-        """All processes go on at once until they had 40 proposals each."""
+        """All processes go on at once until they had 50 proposals each."""
         found = lambda choice, best: best - 5_000
-        self.assertEqual(self.kinds(6, found, processes=10_000), [START] + [BEST] * 3 + [PARTS] * 2)
+        self.assertEqual(self.kinds(7, found, processes=10_000), [START] + [BEST] * 4 + [PARTS] * 2)
 
     def test_all_at_once_if_parts_find_nothing(self):
         found = lambda choice, best: {START: 500_000, BEST: best - 5_000, PARTS: None}[choice.kind]
