@@ -2,7 +2,7 @@
 import json
 import os
 
-from common import ToolCase, put, run, text_of
+from common import PROGRAM, ToolCase, put, run, text_of
 
 from reassign_tools.round_choices import BEST, PARTS, START
 
@@ -49,6 +49,25 @@ class Rounds(ToolCase):
         self.expect(0, "rounds", *words, "--rounds", 1, "--keep", "--slack", 30)
         third = lines_of("parts/log")[2]
         self.assertEqual((third["round"], third["slack"], third["seed"]), (3, 30, 17 + 16 * second["runs"]))
+
+    def test_all_after_a_part(self):
+        """A round with all processes follows one with a part that found nothing. Each has the model of its own run."""
+        from reassign_tools.files import Room
+        from reassign_tools.round_choices import Choice
+        from reassign_tools.rounds import Rounds as Working, parser
+        model, initial = self.make_instance("after", 20, 100, 3, 4)
+        working = Working(parser().parse_args([model, initial, "--out", "after/best", "--workers", "1", "--program", PROGRAM]))
+        working.begin()
+        working.ends.measure(working.timed)
+        working.read_model()
+        with Room() as room:
+            working.round(room, Choice(START, 0), 500)
+            before = working.list_name
+            working.round(room, Choice(PARTS, None), 1)
+            self.assertEqual(working.list_name, before)
+            found, _ = working.round(room, Choice(BEST, 0), 500)
+        self.assertTrue(found is None or found >= working.cost)
+        self.assertEqual(working.end()["cost"], self.cost(model, initial, "after/best"))
 
     def test_seconds(self):
         model, initial = self.make_instance("timed", 20, 100, 3, 2)

@@ -219,7 +219,7 @@ class Rounds:
         costs, slack = [], None
         while budget and self.has_time_for_part():
             at, number, before = time.monotonic(), self.runs + 1, self.cost
-            name = self.place(room, f"{number}.model")
+            name = self.place(room, f"part-{number}.model")
             part = self.write_model(name, self.now, number)
             run = Run(name, name + PART, ["--part", str(number)])
             self.making = max(self.making, time.monotonic() - at)
