@@ -117,6 +117,15 @@ class Services(MessageCase):
             "services.csv:5: service 'idle' has no process; column 1 'service'"])
 
 
+    def test_what_no_list_keeps(self):
+        """A service with more processes than there are machines, and a process that no machine has room for."""
+        many = "".join(f"web-{at},web,a1,,\n" for at in range(2, 6))
+        self.assertEqual(self.notes(processes=PROCESSES + many + "large,db,b1,,64\n"), [
+            "services.csv:2: service 'web' has 6 processes, and there are 3 machines, each for one of them: no list keeps that; "
+            "column 1 'service'",
+            "processes.csv:9: process 'large' requires more cpu than any machine has: no list keeps that; column 1 'process'"])
+
+
 class SettingsOfFleets(MessageCase):
     def test_words_without_quotation_marks(self):
         settings = 'ignored = [owner, "team"]\n' + SETTINGS.replace('"cpu"', "cpu # cores").replace('"1m"', "1m").replace("true", "True")

@@ -38,7 +38,7 @@ class Lists(FleetCase):
             "dependency  web needs db, which isn't in b: web-0, web-1",
             "list breaks 3 rules",
         ])
-        self.assertEqual(error, "named: infeasible: list: conflict 0 2\n")
+        self.assertEqual(error, "named: infeasible: list: conflict web b1\n")
 
     def test_capacities_worst_first(self):
         self.write_fleet("fleet", machines=MACHINES.replace("a1,a,r1,16,64Gi", "a1,a,r1,2,9000Mi"))
@@ -48,7 +48,7 @@ class Lists(FleetCase):
                      "capacity    a1: memory 9,623 of 9,000 (107 %): db-0, web-0",
                      "transient   a1: memory 9,623 of 9,000 (107 %): db-0, web-0"]
         self.assertEqual(lines, [*placement, "today's placement breaks 3 rules", *placement, "list breaks 3 rules"])
-        self.assertEqual(error, "named: infeasible: packed/initial: capacity 0 0 3000 2000\n")
+        self.assertEqual(error, "named: infeasible: packed/initial: capacity a1 cpu 3 2\n")
         printed, _ = self.named("check", "packed", status=6)
         self.assertEqual(printed.splitlines(), [*placement, "today's placement breaks 3 rules"])
 
@@ -58,7 +58,7 @@ class Lists(FleetCase):
         self.pack()
         lines, error = self.check("0 2 0", 6)
         self.assertEqual(lines, ["closed      b1: is closed, and web-1 moves there", "list breaks 1 rule"])
-        self.assertEqual(error, "named: infeasible: list: closed 1 2\n")
+        self.assertEqual(error, "named: infeasible: list: closed web-1 b1\n")
 
     def test_list_and_report(self):
         self.assertEqual(self.named("list", "packed", "packed/initial")[0], "process,machine\nweb-0,a1\nweb-1,a2\ndb-0,a1\n")

@@ -150,7 +150,7 @@ def check(words):
     print("".join(f"{line}\n" for line in found.lines), end="")
     if found.status:
         sys.stdout.flush()
-        raise Problem(found.error, found.status)
+        raise Problem(packed.names.line(found.error), found.status)
 
 
 def print_list(words):

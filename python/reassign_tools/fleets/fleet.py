@@ -1,6 +1,7 @@
 """A fleet: what the tables of a folder say."""
 import os
 import re
+from collections import Counter
 from dataclasses import dataclass, field
 
 from ..models import LARGEST, MOST_RESOURCES
@@ -116,6 +117,7 @@ class FleetReader:
         self.look_at_places()
         self.look_at_ignored(tables)
         self.look_at_services(tables[SERVICES], processes)
+        self.look_at_sizes(tables, processes)
         self.notes += self.remarks.lines()
         return Fleet(self.settings, self.machines, self.services, processes, pairs, self.texts, self.notes)
 
@@ -384,6 +386,25 @@ class FleetReader:
         if wide:
             self.notes.append(f"service {wide[0]!r} asks for more locations than the {len(hoods)} that there "
                               f"are{self.more(wide)}")
+
+    def look_at_sizes(self, tables, processes):
+        """Tells a service that has more processes than there are machines, and a process that no machine has room for."""
+        many = Counter(one.service for one in processes)
+        crowded = [at for at in range(len(self.services)) if many[at] > len(self.machines)]
+        if crowded:
+            first = self.services[crowded[0]].name
+            table = tables[SERVICES]
+            self.remarks.add(table.place(table.rows[crowded[0]], table.at("service")),
+                             f"service {first!r} has {many[crowded[0]]:,} processes, and there are {len(self.machines):,} machines, each "
+                             f"for one of them: no list keeps that{self.more(crowded)}")
+        most = [max(capacities) for capacities in zip(*(one.capacity for one in self.machines))]
+        large = [at for at, one in enumerate(processes) if any(needed > room for needed, room in zip(one.requirement, most))]
+        if large:
+            first, table = processes[large[0]], tables[PROCESSES]
+            resource = next(r for r, room in enumerate(most) if first.requirement[r] > room)
+            self.remarks.add(table.place(table.rows[large[0]], table.at("process")),
+                             f"process {first.name!r} requires more {self.settings.resources[resource].name} than any machine has: "
+                             f"no list keeps that{self.more(large)}")
 
     def look_at_ignored(self, tables):
         """Tells names of columns to be passed over that no table has."""
