@@ -184,6 +184,16 @@ pub balance_read : (i : Tables) (k : ℕ) (row : BalanceRow) → k < balance_cou
 unfolding balance_count balance_row
 balance_read i k row within read = get_or_read i.raw.balances.items k row within read _
 
+-- a process's part of the requirements
+pub required_each : (i : Tables) (p width r : ℕ) (all part : List ℕ) → width ≡ resource_count i →
+    all ≡ i.raw.requirements.items → part ≡ take (p * width + width - p * width) (drop (p * width) all) →
+    r < resource_count i → slice_index part r ≡ requirement_of i p r
+unfolding requirement_of cell
+required_each i p width r all part width_is all_is is within = rw (is, all_is, width_is)
+    (get_or-take {A = ℕ} (p * resource_count i + resource_count i - p * resource_count i)
+    (drop (p * resource_count i) i.raw.requirements.items) r 0 (omega (arith, within))
+    ∙ get_or-drop (p * resource_count i) i.raw.requirements.items r 0)
+
 -- the numbers of an objective's row
 
 pub first_read : (i : Tables) (b : ℕ) (row : BalanceRow) → row ≡ balance_row i b → row.first.0 ≡ first_of i b

@@ -233,6 +233,22 @@ impl Instance {
         number_at(&self.tables.raw.requirements, self.resources(), p.0, r.0)
     }
 
+    /// Copies what a process requires into a row, the numbers of all resources in order. Each number counts one step.
+    pub fn read_requirements<L: Ledger>(&self, p: Process, row: &mut [u32], steps: &mut Steps<L>)
+        requires process { p.0 < process_count self.now.tables }
+        requires width { length row.old ≡ resource_count self.now.tables }
+        ensures each { (r : ℕ) → r < resource_count self.now.tables →
+            slice_index row.new r ≡ requirement_of self.now.tables p.0 r }
+        ensures width { length row.new ≡ resource_count self.now.tables }
+        ensures counted { steps.new ≡ steps.old + resource_count self.now.tables }
+    {
+        for _ in 0..self.resources() {
+            steps.tick();
+        }
+        let start = p.0 as usize * row.len();
+        row.copy_from_slice(&self.tables.raw.requirements.as_slice()[start..start + row.len()]);
+    }
+
     /// A balance objective.
     #[tactic(auto, using(crate::proofs::InstanceLemmas::balance_read), unfolding(crate::specs::Numbers::balance_count))]
     pub fn balance(&self, b: u32) -> BalanceRow

@@ -10,7 +10,7 @@ use crate::best::Best;
 use crate::flaws::flaw_of;
 use ra_base::{Drawing, Steps};
 use ra_moves::{Move, options, resolve};
-use ra_weigh::{cost_after_move, has_room, is_dear_by_ways, is_unbroken};
+use ra_weigh::{change_of_ways, cost_after_move, has_room, is_dear_by_ways, is_unbroken};
 use ra_world::{World, requirements};
 use std::sync::ledger::Ledger;
 
@@ -61,7 +61,8 @@ fn cost_below<L: Ledger>(
     if let Some(_cause) = flaw_of(mv) {
         return None;
     }
-    if is_dear_by_ways(world, mv, bound) {
+    let ways = change_of_ways(world, mv);
+    if is_dear_by_ways(world, mv, &ways, bound) {
         return None;
     }
     let mut required = [0; 60];
@@ -69,7 +70,7 @@ fn cost_below<L: Ledger>(
     if !has_room(world, mv, &required) {
         return None;
     }
-    let cost = cost_after_move(world, mv, &required, bound)?;
+    let cost = cost_after_move(world, mv, &required, &ways, bound)?;
     if !is_unbroken(world, mv, &required) {
         return None;
     }

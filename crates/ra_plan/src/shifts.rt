@@ -104,39 +104,21 @@ fn best_marked(
     let count = machines.min(64);
     let all = with_mark(marks, first, shift.home(), machines);
     let mut best = Best::none();
+    let mut room = shift.room_below(most);
+    let mut lacking = None;
     let mut option = next_mark(all, 0, count);
     while option < count {
         let to = Machine(wrapped(first + option, machines));
-        best = with_sum(world, shift, best, option, to, sums[option as usize], most);
+        let bound = best.bound(most);
+        let sum = sums[option as usize];
+        let found = shift.cost_summed(to, sum, bound, room, &mut lacking);
+        if let Some(cost) = found {
+            best = best.or_found(option, found);
+            room = shift.room_below(cost);
+        }
         option = next_mark(all, option + 1, count);
     }
     best
-}
-
-/// The best with one more machine, whose sum is known unless it is the initial one.
-#[inline(always)]
-fn with_sum(
-    world: &World<'_>,
-    shift: &Shift<'_, '_>,
-    best: Best,
-    option: u32,
-    to: Machine,
-    sum: u32,
-    most: u128,
-) -> Best
-    requires world { shift.now.world.now ≡ world.now }
-    requires machine { to.0 < machine_count world.now.tables }
-    requires most { most ≤ 2 ^ 120 }
-    requires bound { cost_to_beat best.cost most ≤ most }
-    requires sum { machine_at world.now.start shift.now.process.0 ≢ to.0 →
-        sum ≡ sum_at world.now shift.now.process.0 to.0 }
-    ensures best { (x : List ℕ) (allowed : ℕ) → most ≡ cost_at world.now + allowed + 1
-        → IsBest world.now x Two allowed option best
-        → steps_in world.now x Two option ≡ leaving world.now.here shift.now.process.0 to.0 ∷ []
-        → IsBest world.now x Two allowed (option + 1) result }
-    ensures bound { cost_to_beat result.cost most ≤ most }
-{
-    best.or_found(option, shift.cost_summed(to, sum, best.bound(most)))
 }
 
 /// The best with one more machine to which the process may go. `most` is the first cost that is too high.

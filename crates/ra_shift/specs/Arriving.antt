@@ -1,5 +1,5 @@
 -- The cost after process p of a world has gone to machine `to` (this project's).
-use Rattle.std.specs.Prelude.{◌≡◌, ℕ, ◌+◌, ◌<◌, ◌≤◌, List, [], ◌∷◌, Option, Some, None}
+use Rattle.std.specs.Prelude.{◌≡◌, ℕ, ◌+◌, ◌-◌, ◌<◌, ◌≤◌, List, [], ◌∷◌, Option, Some, None}
 use Rattle.ra_model.specs.Numbers.{service_of}
 use Rattle.ra_model.specs.Services.{in_neighbourhood}
 use Rattle.ra_model.specs.Situations.{Situation, cost_at, moved_at, service_cost_at}
@@ -41,6 +41,10 @@ cost_added st p = cost_at st + base_added st p
 
 abbrev pub cost_taken : Situation → ℕ → ℕ
 cost_taken st p = base_taken st p
+
+-- how much a machine other than the initial one may add, and the cost is below a bound: it has to be less than this
+abbrev pub room_below : Situation → ℕ → ℕ → ℕ
+room_below st p bound = bound + cost_taken st p - cost_added st p
 
 -- what each machine other than the initial one adds
 abbrev pub sum_at : Situation → ℕ → ℕ → ℕ

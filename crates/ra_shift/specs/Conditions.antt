@@ -1,6 +1,6 @@
 -- What decides whether process p, whose assignment a breaks nothing, may go from its machine to machine `to` (this
 -- project's).
-use Rattle.std.specs.Prelude.{◌≡◌, ◌≢◌, ℕ, ◌+◌, ◌<◌, ◌≤◌, List, true, IsTrue, slice_set}
+use Rattle.std.specs.Prelude.{◌≡◌, ◌≢◌, ℕ, ◌+◌, ◌<◌, ◌≤◌, List, Option, Some, ⊥, true, IsTrue, slice_set}
 use Rattle.ra_base.specs.declared.ids.Machine.{Machine}
 use Rattle.ra_model.specs.declared.raw.Tables.{Tables}
 use Rattle.ra_model.specs.Numbers.{resource_count, service_count, transient_at, capacity_of, spread_of, dependency_count, need_of, service_of, requirement_of, neighbourhood_of, closed_at}
@@ -31,6 +31,11 @@ pub record FindsOtherNeeds (i : Tables) (a : List Machine) (p to : ℕ) : Type 0
   pub each : (k : ℕ) → k < dependency_count i (service_of i p)
       → need_of i (service_of i p) k ≢ service_of i p
       → 0 < in_neighbourhood i a (need_of i (service_of i p) k) (neighbourhood_of i to)
+
+-- if a neighbourhood is given, no machine in it is near all that p's service needs
+pub record Lacks (st : Situation) (p : ℕ) (lacking : Option ℕ) : Type 0 where
+  pub each : (label to : ℕ) → lacking ≡ Some label → neighbourhood_of st.tables to ≡ label
+      → FindsOtherNeeds st.tables st.here p to → ⊥
 
 -- p isn't the last of its service in its neighbourhood, or no other service there depends on it
 pub record MayLeave (i : Tables) (a : List Machine) (p : ℕ) : Type 0 where

@@ -99,5 +99,5 @@ pub(crate) fn way_cost(world: &World<'_>, p: Process, home: Machine, at: Machine
         inst.process_cost(p)
     };
     let process = u128::from(inst.process_weight()) * u128::from(moved);
-    process + u128::from(inst.machine_weight()) * u128::from(inst.move_cost(home, at))
+    process + u128::from(inst.machine_weight()) * u128::from(world.way(home, at))
 }

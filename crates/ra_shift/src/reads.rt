@@ -6,7 +6,7 @@ ghost use Rattle.ra_cells.specs.Marks.{away};
 ghost use Rattle.ra_shift.specs.Conditions.{MayLeave};
 ghost use Rattle.ra_shift.specs.Sharing.{AreRequired, locations_without};
 
-use ra_base::{Machine, Process, Resource, Service, Steps, one_when};
+use ra_base::{Machine, Process, Service, Steps, one_when};
 use ra_model::Instance;
 use ra_world::World;
 use std::sync::ledger::Ledger;
@@ -18,9 +18,8 @@ pub(crate) fn required_of<L: Ledger>(inst: &Instance, p: Process, steps: &mut St
     ensures counted { steps.new ≡ steps.old + resource_count inst.now.tables }
 {
     let mut required = [0; 20];
-    for r in 0..inst.resources() {
-        required[r as usize] = inst.requirement(p, Resource(r), steps);
-    }
+    let width = inst.resources() as usize;
+    inst.read_requirements(p, &mut required[..width], steps);
     required
 }
 

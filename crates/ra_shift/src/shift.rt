@@ -1,12 +1,12 @@
-ghost use Rattle.std.specs.Prelude.{◌≡◌, ◌≢◌, ◌+◌, ◌*◌, ◌^◌, ◌<◌, ◌≤◌, ◌↔◌, ◌-◌, None, IfSome, true, false};
+ghost use Rattle.std.specs.Prelude.{◌≡◌, ◌≢◌, ◌+◌, ◌*◌, ◌^◌, ◌<◌, ◌≤◌, ◌↔◌, ◌-◌, None, Some, IfSome, true, false};
 ghost use Rattle.ra_model.specs.Numbers.{resource_count, machine_count, process_count, service_of, transient_at, capacity_of, service_count, process_weight_of, process_cost_of};
 ghost use Rattle.ra_shift.specs.Filter.{service_away};
 ghost use Rattle.ra_model.specs.Assignments.{machine_at};
 ghost use Rattle.ra_model.specs.Services.{on_machine, in_neighbourhood};
 ghost use Rattle.ra_model.specs.Situations.{cost_at, IsSound};
-ghost use Rattle.ra_shift.specs.Arriving.{BreaksNothing, cost_after, moved_after, members_near, service_now, cost_added, cost_taken, IsCostBelow, IsSumBelow, sum_at};
+ghost use Rattle.ra_shift.specs.Arriving.{BreaksNothing, cost_after, moved_after, room_below, members_near, service_now, cost_added, cost_taken, IsCostBelow, IsSumBelow, sum_at};
 ghost use Rattle.ra_shift.specs.Lanes.{AreCheapMarked};
-ghost use Rattle.ra_shift.specs.Conditions.{HasRoom, HasRoomBetween, IsAlone, locations_after, KeepsSpread, FindsOtherNeeds, KeepsDependants, IsAdmitted};
+ghost use Rattle.ra_shift.specs.Conditions.{HasRoom, HasRoomBetween, IsAlone, locations_after, KeepsSpread, FindsOtherNeeds, Lacks, KeepsDependants, IsAdmitted};
 ghost use Rattle.ra_shift.specs.Leaving.{machine_left, location_left, neighbourhood_left, spread_wanted, cost_left, cost_before};
 ghost use Rattle.ra_shift.specs.Sharing.{AreRequired, way_cost};
 
@@ -116,14 +116,17 @@ impl<'w, 'a> Shift<'w, 'a> {
     /// Whether the shift to a machine breaks nothing. On a machine that costs little the service most often lacks what it
     /// needs, so that is tested first.
     #[inline(always)]
-    fn fits(&self, to: Machine) -> bool
-        requires { to.0 < machine_count self.now.world.now.tables }
-        ensures { (result ≡ true) ↔ BreaksNothing self.now.world.now self.now.process.0 to.0 }
+    fn fits(&self, to: Machine, lacking: &mut Option<u32>) -> bool
+        requires machine { to.0 < machine_count self.now.world.now.tables }
+        requires lacking { Lacks self.now.world.now self.now.process.0 lacking.old }
+        ensures fits { (result ≡ true) ↔
+            BreaksNothing self.now.world.now self.now.process.0 to.0 }
+        ensures lacking { Lacks self.now.world.now self.now.process.0 lacking.new }
     {
         if to.0 == self.from.0 {
             return false;
         }
-        if !self.finds_needs(to) {
+        if !self.finds_needs_or_lacks(to, lacking) {
             return false;
         }
         if !self.keeps_dependants(to) {
@@ -167,45 +170,42 @@ impl<'w, 'a> Shift<'w, 'a> {
         requires apart { to.0 ≢ self.now.home.0 }
         ensures { IsCostBelow self.now.world.now self.now.process.0 to.0 bound result }
     {
-        let sum = self.sum_below(to, (bound + self.taken).saturating_sub(self.added))?;
-        if !self.fits(to) {
+        let sum = self.sum_below(to, self.room_below(bound))?;
+        if !self.fits(to, &mut None) {
             return None;
         }
         Some(self.added + sum - self.taken)
     }
 
     /// The cost after the shift to a machine, if it breaks nothing and costs less than a bound. What the machine adds
-    /// is known already, unless it is the initial one.
+    /// is known already, unless it is the initial one, and so is the room below the bound. `lacking` is a neighbourhood
+    /// that is known to lack what the service needs: neighbouring machines often share it, and one look is enough.
     #[inline(always)]
-    pub fn cost_summed(&self, to: Machine, sum: u32, bound: u128) -> Option<u128>
+    pub fn cost_summed(
+        &self,
+        to: Machine,
+        sum: u32,
+        bound: u128,
+        room: u128,
+        lacking: &mut Option<u32>,
+    ) -> Option<u128>
         requires machine { to.0 < machine_count self.now.world.now.tables }
         requires bound { bound ≤ 2 ^ 120 }
         requires sum { machine_at self.now.world.now.start self.now.process.0 ≢ to.0 →
             sum ≡ sum_at self.now.world.now self.now.process.0 to.0 }
-        ensures { IsCostBelow self.now.world.now self.now.process.0 to.0 bound result }
+        requires room { room ≡ room_below self.now.world.now self.now.process.0 bound }
+        requires lacking { Lacks self.now.world.now self.now.process.0 lacking.old }
+        ensures below { IsCostBelow self.now.world.now self.now.process.0 to.0 bound result }
+        ensures lacking { Lacks self.now.world.now self.now.process.0 lacking.new }
     {
-        if self.home.0 != to.0 {
-            self.cost_away_summed(to, u128::from(sum), bound)
-        } else {
-            self.cost_home(to, bound)
+        if self.home.0 == to.0 {
+            return self.cost_home(to, bound);
         }
-    }
-
-    /// The cost after the shift to a machine other than the initial one, if it breaks nothing and costs less than a
-    /// bound. What the machine adds is known already.
-    #[inline(always)]
-    fn cost_away_summed(&self, to: Machine, sum: u128, bound: u128) -> Option<u128>
-        requires machine { to.0 < machine_count self.now.world.now.tables }
-        requires bound { bound ≤ 2 ^ 120 }
-        requires apart { machine_at self.now.world.now.start self.now.process.0 ≢ to.0 }
-        requires sum { sum ≡ sum_at self.now.world.now self.now.process.0 to.0 }
-        ensures { IsCostBelow self.now.world.now self.now.process.0 to.0 bound result }
-    {
-        let room = self.room_below(bound);
+        let sum = u128::from(sum);
         if sum >= room {
             return None;
         }
-        if !self.fits(to) {
+        if !self.fits(to, lacking) {
             return None;
         }
         Some(self.added + sum - self.taken)
@@ -214,10 +214,9 @@ impl<'w, 'a> Shift<'w, 'a> {
     /// The least sum that is too much: a machine other than the initial one has to add less, so that the cost is below
     /// a bound.
     #[inline(always)]
-    fn room_below(&self, bound: u128) -> u128
+    pub fn room_below(&self, bound: u128) -> u128
         requires { bound ≤ 2 ^ 120 }
-        ensures { result ≡ bound + cost_taken self.now.world.now self.now.process.0
-            - cost_added self.now.world.now self.now.process.0 }
+        ensures { result ≡ room_below self.now.world.now self.now.process.0 bound }
     {
         (bound + self.taken).saturating_sub(self.added)
     }
@@ -261,8 +260,8 @@ impl<'w, 'a> Shift<'w, 'a> {
         if costs >= bound {
             return None;
         }
-        let inst = self.world.instance();
-        let way = u64::from(inst.machine_weight()) * u64::from(inst.move_cost(self.home, to));
+        let weight = self.world.instance().machine_weight();
+        let way = u64::from(weight) * u64::from(self.world.way(self.home, to));
         let sum = costs + u128::from(way);
         if sum >= bound {
             return None;
@@ -275,7 +274,7 @@ impl<'w, 'a> Shift<'w, 'a> {
         requires machine { to.0 < machine_count self.now.world.now.tables }
         ensures { IsCostBelow self.now.world.now self.now.process.0 to.0 bound result }
     {
-        if !self.fits(to) {
+        if !self.fits(to, &mut None) {
             return None;
         }
         let cost = self.cost_at(to);
@@ -414,6 +413,27 @@ impl<'w, 'a> Shift<'w, 'a> {
         may_leave(self.world, self.process, self.service, self.neighbourhood)
     }
 
+    /// Whether what the service needs is in the neighbourhood of a machine. A neighbourhood that lacks it is remembered,
+    /// and not looked at again.
+    #[inline(always)]
+    fn finds_needs_or_lacks(&self, to: Machine, lacking: &mut Option<u32>) -> bool
+        requires machine { to.0 < machine_count self.now.world.now.tables }
+        requires lacking { Lacks self.now.world.now self.now.process.0 lacking.old }
+        ensures finds { (result ≡ true) ↔ FindsOtherNeeds
+            self.now.world.now.tables self.now.world.now.here self.now.process.0 to.0 }
+        ensures lacking { Lacks self.now.world.now self.now.process.0 lacking.new }
+    {
+        let label = self.world.instance().neighbourhood(to);
+        if is_known(lacking, label) {
+            return false;
+        }
+        if self.finds_needs(to) {
+            return true;
+        }
+        *lacking = Some(label);
+        false
+    }
+
     /// Whether what the service needs is in the neighbourhood of a machine.
     #[inline(always)]
     pub(crate) fn finds_needs(&self, to: Machine) -> bool
@@ -457,6 +477,17 @@ impl<'w, 'a> Shift<'w, 'a> {
         let gone = is_away(self.home, self.from);
         let come = is_away(self.home, to);
         before + come - gone
+    }
+}
+
+/// Whether a label is the one that is known.
+#[inline(always)]
+fn is_known(known: &Option<u32>, label: u32) -> bool
+    ensures { (result ≡ true) ↔ (known.now ≡ Some label) }
+{
+    match *known {
+        Some(one) => one == label,
+        None => false,
     }
 }
 

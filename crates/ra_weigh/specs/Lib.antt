@@ -1,6 +1,7 @@
 pub mod RowChanges
 pub mod EndCosts
 pub mod PlaceCosts
+pub mod WayCosts
 pub mod CountLists
 pub mod Room
 pub mod Below

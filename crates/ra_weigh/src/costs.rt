@@ -1,14 +1,15 @@
 ghost use Rattle.std.specs.Prelude.{◌≡◌, ◌↔◌, ◌+◌, ◌^◌, ◌<◌, ◌≤◌, true, length};
 ghost use Rattle.ra_world.specs.Required.{AreRequiredRows};
 ghost use Rattle.ra_weigh.specs.Below.{IsIfBelow};
+ghost use Rattle.ra_weigh.specs.WayCosts.{IsChangeOfWays};
 ghost use Rattle.ra_model.specs.Situations.{cost_at, service_cost_at};
 ghost use Rattle.ra_moves.specs.Replacing.{after_move};
 ghost use Rattle.ra_moves.specs.Moving.{MayMove};
 
+use crate::amounts::Change;
 use crate::counts::counts_of;
 use crate::ends::{change_at_ends, cost_now};
 use crate::exchanges::is_exchange;
-use crate::ways::{cost_entered, cost_left};
 use ra_moves::Move;
 use ra_world::World;
 
@@ -19,21 +20,23 @@ pub fn cost_after_move(
     world: &World<'_>,
     mv: &Move,
     required: &[u32; 60],
+    ways: &Change,
     bound: u128,
 ) -> Option<u128>
     requires moves { MayMove world.now mv.now.steps }
     requires required { AreRequiredRows world.now.tables mv.now.steps
         (length mv.now.steps) required.now }
+    requires ways { IsChangeOfWays world.now mv.now.steps ways.now }
     ensures { IsIfBelow bound (cost_at (after_move world.now mv.now.steps)) result }
 {
     let parts = world.parts();
     let ends = change_at_ends(world, mv, required);
     let rows = parts.total + ends.added;
-    let taken = ends.taken + parts.service + cost_left(world, mv);
+    let taken = ends.taken + parts.service + ways.taken;
     if is_high(bound, rows, taken) {
         return None;
     }
-    let added = rows + cost_entered(world, mv);
+    let added = rows + ways.added;
     if is_high(bound, added, taken) {
         return None;
     }
@@ -47,8 +50,9 @@ pub fn cost_after_move(
 /// Whether an exchange costs at least a bound by its ways alone, even if its machines cost nothing after it. Most
 /// exchanges do, and what their processes require need not be read to find it out.
 #[inline(always)]
-pub fn is_dear_by_ways(world: &World<'_>, mv: &Move, bound: u128) -> bool
-    requires { MayMove world.now mv.now.steps }
+pub fn is_dear_by_ways(world: &World<'_>, mv: &Move, ways: &Change, bound: u128) -> bool
+    requires moves { MayMove world.now mv.now.steps }
+    requires ways { IsChangeOfWays world.now mv.now.steps ways.now }
     ensures { result ≡ true → bound ≤ cost_at (after_move world.now mv.now.steps) }
 {
     if !is_exchange(mv) {
@@ -57,8 +61,8 @@ pub fn is_dear_by_ways(world: &World<'_>, mv: &Move, bound: u128) -> bool
     let parts = world.parts();
     let step = mv.step(0);
     let machines = cost_now(world, step.from) + cost_now(world, step.to);
-    let taken = machines + parts.service + cost_left(world, mv);
-    is_high(bound, parts.total + cost_entered(world, mv), taken)
+    let taken = machines + parts.service + ways.taken;
+    is_high(bound, parts.total + ways.added, taken)
 }
 
 /// Whether what is added, minus what is taken away, is at least a bound.

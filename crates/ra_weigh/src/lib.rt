@@ -25,7 +25,9 @@ mod trial;
 mod values;
 mod ways;
 
+pub use amounts::Change;
 pub use broken::{first_broken, is_unbroken};
 pub use changes::changed_by;
 pub use costs::{cost_after_move, is_dear_by_ways};
 pub use room::has_room;
+pub use ways::change_of_ways;

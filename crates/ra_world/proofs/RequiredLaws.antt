@@ -1,7 +1,10 @@
 -- The requirements of the processes of a move, read one after another.
-use Rattle.std.proofs.Common.{◌≡◌, ℕ, ◌+◌, ◌*◌, ◌<◌, ◌≤◌, List, length, set, ap, ◌∙◌, ⊎_elim, inl, inr, arith}
+use Rattle.std.proofs.Common.{◌≡◌, ℕ, ◌+◌, ◌-◌, ◌*◌, ◌<◌, ◌≤◌, List, length, ap, ◌∙◌, ◌++◌, ⊎_elim, arith}
+use Rattle.std.proofs.Common.{length-take, slice_index, slice_index_or}
+use Rattle.std.proofs.Math.ListN.{take, drop}
+use Rattle.std.proofs.lemmas.List.{get_or-append_right, get_or_append_left, get_or-take, get_or-drop}
 use Rattle.std.proofs.lemmas.Bool.{cases_lt}
-use Rattle.ra_base.proofs.Tables.{cell_write_same, cell_write_other}
+use Rattle.ra_base.specs.Tables.{cell}
 use Rattle.ra_model.specs.declared.raw.Tables.{Tables}
 use Rattle.ra_model.specs.Numbers.{resource_count, requirement_of}
 use Rattle.ra_model.specs.Limits.{WellFormed}
@@ -14,16 +17,41 @@ pub process_read : (steps : List Step) (j : ℕ) (s : Step) → s ≡ step_at st
 unfolding process_in
 process_read steps j s is = ap (λ (x : Step). x.process.0) is
 
--- one more requirement is read
-pub read_more : (i : Tables) (p j n x : ℕ) (old mid : List ℕ) → ReadTo i p j n old mid → n < 20 →
-    j * 20 + n < length mid → x ≡ requirement_of i p n → ReadTo i p j (n + 1) old (set mid (j * 20 + n) x)
-read_more i p j n x old mid before inside within is = record {
-  here = λ r below. ⊎_elim
-      (λ (earlier : r < n). cell_write_other 20 mid j n x j r inside (omega arith) (inr (λ same. absurd (omega arith)))
-      ∙ before.here r earlier)
-      (λ (now : n ≤ r). let same : r ≡ n = omega arith in rw same (cell_write_same 20 mid j n x within ∙ is))
-      (cases_lt r n);
-  others = λ k r apart few. cell_write_other 20 mid j n x k r inside few (inl apart) ∙ before.others k r apart few;
+-- a list with other numbers in a part: within the part, before it and after it
+
+within_part : (at n : ℕ) (old part rest : List ℕ) → at ≤ length old → n < length part →
+    slice_index_or (take at old ++ (part ++ rest)) (at + n) 0 ≡ slice_index_or part n 0
+within_part at n old part rest long within =
+    get_or-append_right (take at old) (part ++ rest) at (at + n) 0 (grind (arith, length-take, long)) (omega arith)
+    ∙ ap (λ k. slice_index_or (part ++ rest) k 0) (omega arith) ∙ get_or_append_left part rest 0 n within
+
+before_part : (at n : ℕ) (old rest : List ℕ) → at ≤ length old → n < at →
+    slice_index_or (take at old ++ rest) n 0 ≡ slice_index_or old n 0
+before_part at n old rest long before =
+    get_or_append_left (take at old) rest 0 n (grind (arith, length-take, long, before)) ∙ get_or-take at old n 0 before
+
+after_part : (at width n : ℕ) (old part : List ℕ) → at ≤ length old → length part ≡ width → at + width ≤ n →
+    slice_index_or (take at old ++ (part ++ drop width (drop at old))) n 0 ≡ slice_index_or old n 0
+after_part at width n old part long is after =
+    get_or-append_right (take at old) _ at n 0 (grind (arith, length-take, long)) (omega (arith, after))
+    ∙ get_or-append_right part _ width (n - at) 0 is (omega (arith, after))
+    ∙ get_or-drop width (drop at old) (n - at - width) 0 ∙ get_or-drop at old _ 0
+    ∙ ap (λ k. slice_index_or old k 0) (omega (arith, after))
+
+-- a row is read
+pub row_read : (i : Tables) (p j width : ℕ) (old part : List ℕ) → width ≡ resource_count i → width ≤ 20 → j < 3 →
+    length old ≡ 60 → length part ≡ width → ((r : ℕ) → r < width → slice_index part r ≡ requirement_of i p r) →
+    ReadTo i p j (resource_count i) old
+    (take (j * 20) old ++ (part ++ drop (j * 20 + width - j * 20) (drop (j * 20) old)))
+unfolding cell
+row_read i p j width old part width_is few below long is each = record {
+  here = λ r inside. within_part (j * 20) r old part _ (omega arith) (omega (arith, inside, width_is))
+      ∙ each r (omega (arith, inside, width_is));
+  others = λ k r apart within. ⊎_elim
+      (λ (lower : k < j). before_part (j * 20) (k * 20 + r) old _ (omega arith) (omega (arith, lower, within)))
+      (λ (other : j ≤ k). after_part (j * 20) _ (k * 20 + r) old part (omega arith) (omega (arith, is))
+      (omega (arith, other, apart, few)))
+      (cases_lt k j);
 }
 
 -- the requirements of one more step are read

@@ -1,5 +1,5 @@
 -- What is kept for an assignment, and that it is what the definitions give.
-use Rattle.std.specs.Prelude.{◌≡◌, List, None}
+use Rattle.std.specs.Prelude.{◌≡◌, ℕ, List, None}
 use Rattle.ra_base.specs.declared.ids.Machine.{Machine}
 use Rattle.ra_model.specs.declared.raw.Tables.{Tables}
 use Rattle.ra_model.specs.Numbers.{machine_count}
@@ -12,7 +12,7 @@ use Rattle.ra_topology.specs.TopologyLists.{TopologyLists}
 use Rattle.ra_rows.specs.Rows as rows
 use Rattle.ra_cells.specs.Stands as cells
 use Rattle.ra_world.specs.declared.kept.Kept.{Kept}
-use Rattle.ra_world.specs.Costs.{AreCosts}
+use Rattle.ra_world.specs.Costs.{AreCosts, AreStays}
 use Rattle.ra_world.specs.FilterTables.{IsRowTable}
 
 -- rows and counters of an instance and an initial assignment represent an assignment
@@ -34,8 +34,10 @@ pub record Keeps (kept : Kept) (i : Tables) (a0 : List Machine) : Type 0 where
 
 -- a world: a0 is an assignment of an instance with this topology, and the assignment reached from it breaks nothing,
 -- with all that is kept right
-pub record IsWorld (i : Tables) (a0 : List Machine) (topo : TopologyLists) (kept : Kept) : Type 0 where
+pub record IsWorld (i : Tables) (a0 : List Machine) (topo : TopologyLists) (list : List ℕ)
+    (kept : Kept) : Type 0 where
   pub fits : IsAssignment i a0
+  pub stays : AreStays i list
   pub topology : IsTopologyOf topo i
   pub keeps : Keeps kept i a0
   pub unbroken : first_broken i a0 kept.assignment.items ≡ None

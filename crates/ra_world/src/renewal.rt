@@ -4,7 +4,7 @@ ghost use Rattle.ra_base.specs.declared.ids.Machine.{Machine};
 ghost use Rattle.ra_model.specs.Numbers.{machine_count};
 ghost use Rattle.ra_model.specs.MachineCosts.{machine_load, machine_balance};
 ghost use Rattle.ra_rows.specs.Rows.{StandFor};
-ghost use Rattle.ra_world.specs.Costs.{AreCosts};
+ghost use Rattle.ra_world.specs.Costs.{AreCosts, AreStays};
 
 use crate::costs::{row_balance, row_load};
 use ra_base::{Fixed, Machine, NoMemory};
@@ -33,6 +33,17 @@ pub(crate) fn balance_of(inst: &Instance, rows: &Rows<'_>, m: Machine) -> u128
     ensures bound { result ≤ 20 * 2 ^ 96 }
 {
     row_balance(inst, m, rows.usage_row(m))
+}
+
+/// What the way from each machine to itself costs.
+pub(crate) fn stays_of(alloc: Global, inst: &Instance) -> Result<Fixed<u32>, NoMemory>
+    ensures { IfOk result (λ stays. AreStays inst.now.tables stays.items) }
+{
+    let mut stays = Fixed::make(alloc, inst.machines() as usize)?;
+    for m in 0..inst.machines() {
+        stays.push(inst.move_cost(Machine(m), Machine(m)));
+    }
+    Ok(stays)
 }
 
 /// The load cost of each machine.

@@ -3,7 +3,7 @@ ghost use Rattle.ra_model.specs.Numbers.{resource_count, process_count};
 ghost use Rattle.ra_moves.specs.Steps.{process_in};
 ghost use Rattle.ra_world.specs.Required.{AreRequiredRows, ReadTo};
 
-use ra_base::{Process, Resource, Steps};
+use ra_base::{Process, Steps};
 use ra_model::Instance;
 use ra_moves::Move;
 use std::sync::ledger::Ledger;
@@ -44,7 +44,6 @@ fn read_row<L: Ledger>(
     ensures counted { steps.new ≡ steps.old + resource_count inst.now.tables }
 {
     let start = j as usize * 20;
-    for r in 0..inst.resources() {
-        required[start + r as usize] = inst.requirement(p, Resource(r), steps);
-    }
+    let end = start + inst.resources() as usize;
+    inst.read_requirements(p, &mut required[start..end], steps);
 }

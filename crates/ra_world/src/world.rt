@@ -1,5 +1,5 @@
 ghost use Rattle.std.specs.Prelude.{◌≡◌, ℕ, ◌+◌, ◌*◌, ◌<◌, ◌≤◌, length, None, IfOk};
-ghost use Rattle.ra_model.specs.Numbers.{resource_count, machine_count};
+ghost use Rattle.ra_model.specs.Numbers.{resource_count, machine_count, way_cost_of};
 ghost use Rattle.ra_model.specs.Assignments.{IsAssignment};
 ghost use Rattle.ra_model.specs.Costs.{parts_of};
 ghost use Rattle.ra_model.specs.MachineCosts.{machine_load, machine_balance};
@@ -17,8 +17,8 @@ ghost use Rattle.ra_world.specs.Keeping.{Keeps};
 use crate::filters::filters_of;
 use crate::following::follow;
 use crate::kept::Kept;
-use crate::renewal::{balances_of, loads_of};
-use ra_base::{Assignment, Machine, NoMemory, Parts, Steps};
+use crate::renewal::{balances_of, loads_of, stays_of};
+use ra_base::{Assignment, Fixed, Machine, NoMemory, Parts, Steps};
 use ra_cells::Cells;
 use ra_model::{Instance, copied};
 use ra_moves::Move;
@@ -36,6 +36,8 @@ pub struct World<'a> {
     inst: &'a Instance,
     topo: &'a Topology,
     start: &'a Assignment,
+    /// What the way from each machine to itself costs.
+    stays: Fixed<u32>,
     kept: Kept<'a>,
 }
 
@@ -47,7 +49,8 @@ impl<'a> Model for World<'a> {
 
     ghost view = { λ w. situation w.inst.now.tables w.start.now.items w.kept.assignment.items };
 
-    ghost invariant = { λ w. IsWorld w.inst.now.tables w.start.now.items w.topo.now w.kept };
+    ghost invariant = { λ w. IsWorld w.inst.now.tables w.start.now.items w.topo.now
+        w.stays.items w.kept };
 }
 
 impl<'a> World<'a> {
@@ -63,11 +66,13 @@ impl<'a> World<'a> {
         ensures { IfOk result (λ world. world ≡
             situation inst.now.tables a0.now.items a0.now.items) }
     {
+        let stays = stays_of(alloc, inst)?;
         let kept = kept_of(alloc, inst, a0, start)?;
         Ok(World {
             inst,
             topo,
             start: a0,
+            stays,
             kept,
         })
     }
@@ -130,6 +135,21 @@ impl<'a> World<'a> {
         ensures sound { IsSound self.now }
     {
         self.topo
+    }
+
+    /// What the way from a machine to another costs, before the weight. Most processes are on their initial machines, and
+    /// the ways of these machines to themselves stand in a short list, since the list of all ways is far too long for the
+    /// processor's cache.
+    #[inline(always)]
+    pub fn way(&self, from: Machine, to: Machine) -> u32
+        requires from { from.0 < machine_count self.now.tables }
+        requires to { to.0 < machine_count self.now.tables }
+        ensures { result ≡ way_cost_of self.now.tables from.0 to.0 }
+    {
+        if from.0 == to.0 {
+            return self.stays.get(from.0 as usize);
+        }
+        self.inst.move_cost(from, to)
     }
 
     /// What a machine adds to the load cost.

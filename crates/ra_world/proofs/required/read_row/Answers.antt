@@ -1,9 +1,12 @@
+-- The row has what is read, and the other rows are as before.
 use Rattle.std.proofs.Common.{arith}
-use Rattle.ra_world.proofs.RequiredLaws.{read_more}
+use Rattle.ra_world.proofs.RequiredLaws.{row_read}
 use Rattle.ra_world.proofs.required.read_row.Goals as goal
 
-pub loop-r-preserved : goal.loop-r-preserved
-loop-r-preserved g c = record {
-  row = read_more _ _ _ _ _ _ _ c.loop-r.invariant.row (omega arith) (omega arith) c.requirement.ensures.value;
-  counted = omega (arith, c.loop-r.invariant.counted, c.requirement.ensures.counted);
-}
+pub returns-clause-row : goal.returns-clause-row
+returns-clause-row g c =
+    let i = c.args.inst.now.tables in
+    row_read i c.args.p.0 c.args.j c.resources.result c.args.required.now c.read_requirements.new.row
+    c.resources.ensures (omega (arith, c.resources.ensures, c.args.inst.now.well_formed.few_resources)) c.requires.row
+    c.told-required (omega (arith, c.read_requirements.ensures.width, c.resources.ensures))
+    (λ r within. c.read_requirements.ensures.each r (omega (arith, within, c.resources.ensures)))

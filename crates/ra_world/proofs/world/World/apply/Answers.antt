@@ -16,6 +16,7 @@ invariant_of-self g c =
     record {
       fits = c.self.invariant.fits;
       topology = c.self.invariant.topology;
+      stays = c.self.invariant.stays;
       keeps = c.follow.ensures.keeps;
       unbroken = unbroken_from (situation w.inst.now.tables w.start.now.items w.kept.assignment.items) _
           c.args.mv.now.steps (rw (← c.self.view_is) at c.requires.unbroken) c.follow.ensures.assignment;

@@ -21,4 +21,4 @@ returns-clause-value c =
 
 pub returns-clause-sound : goal.returns-clause-sound
 returns-clause-sound c =
-    subst IsSound c.self.view_is (sound_world c.self.inside.inst.now _ _ c.self.inside.kept c.self.invariant)
+    subst IsSound c.self.view_is (sound_world c.self.inside.inst.now _ _ _ c.self.inside.kept c.self.invariant)

@@ -1,0 +1,29 @@
+-- Each machine adds the way to itself.
+use Rattle.std.proofs.Common.{ℕ, arith, ◌≡◌, ◌∙◌, ap, length}
+use Rattle.ra_model.specs.Numbers.{machine_count, way_cost_of}
+use Rattle.ra_world.proofs.RenewalLaws.{one_longer, pushed, no_costs}
+use Rattle.ra_world.proofs.renewal.stays_of.Goals as goal
+
+pub loop-m-init : goal.loop-m-init
+loop-m-init c = record {
+  room = omega (arith, c.in_ok-stays.ensures.room, c.machines.ensures);
+  so_far = ap (length {A = ℕ}) c.in_ok-stays.ensures.items;
+  value = no_costs _ (λ m. way_cost_of c.args.inst.now.tables m m) c.in_ok-stays.ensures.items;
+}
+
+pub loop-m-preserved : goal.loop-m-preserved
+loop-m-preserved c = record {
+  room = c.push.ensures.room ∙ c.loop-m.invariant.room;
+  so_far = one_longer _ _ _ _ c.push.ensures.items c.loop-m.invariant.so_far;
+  value = pushed _ _ _ _ _ c.push.ensures.items c.loop-m.invariant.value c.move_cost.ensures;
+}
+
+pub push-requires : goal.push-requires
+push-requires c =
+    omega (arith, c.loop-m.invariant.so_far, c.loop-m.invariant.room, c.machines-m-end.ensures, c.loop-m-test.true)
+
+pub returns : goal.returns
+returns c =
+    let all : c.loop-m.m ≡ machine_count c.args.inst.now.tables =
+    omega (arith, c.loop-m-test.false, c.loop-m.auto.m-end, c.machines-m-end.ensures) in
+    rw all at c.loop-m.invariant.value
