@@ -1,7 +1,7 @@
 -- The best option so far, one option after another.
 use Rattle.std.proofs.Common.{◌≡◌, ◌≢◌, ◌↔◌, ℕ, ◌+◌, ◌^◌, ◌<◌, ◌≤◌, arith, length, Bool, true, false, cond, ltb, List}
-use Rattle.std.proofs.Common.{[], ◌∷◌, Option, Some, None, refl, sym, ap, ap₂, ◌∙◌, subst}
-use Rattle.std.specs.Option.{is_some}
+use Rattle.std.proofs.Common.{[], ◌∷◌, Option, Some, None, refl, sym, ap, ◌∙◌, subst}
+use Rattle.std.specs.Option.{is_some, IfSome}
 use Rattle.std.proofs.lemmas.Bool.{ltb-true, ltb-false}
 use Rattle.ra_base.specs.Searches.{is_better, least, least_place, or_else}
 use Rattle.ra_base.specs.declared.causes.Cause.{Cause}
@@ -316,6 +316,26 @@ bound_falls w steps most cost least found below some =
 none_at : (o : Option ℕ) (most : ℕ) → o ≡ None → cost_to_beat o most ≤ most
 unfolding cost_to_beat
 none_at o most none = rw none (omega arith)
+
+pub none_bound : (w : Situation) (best : Best) (most : ℕ) → IsBest w [] Two 0 0 best → cost_to_beat best.cost most ≡ most
+unfolding cost_to_beat
+none_bound w best most is = ap (λ c. cost_to_beat c most) (is.cost ∙ least_none (cost_in w [] Two 0))
+
+-- a cost that was found is what the next one has to beat, and else it is as before
+pub beat_found : (found cost : Option ℕ) (most x : ℕ) → found ≡ Some x →
+    cost_to_beat found most ≡ cost_to_beat found (cost_to_beat cost most)
+unfolding cost_to_beat
+beat_found found cost most x is = rw is refl
+
+pub beat_before : (found cost : Option ℕ) (most : ℕ) → found ≡ None →
+    cost_to_beat cost most ≡ cost_to_beat found (cost_to_beat cost most)
+unfolding cost_to_beat
+beat_before found cost most is = rw is refl
+
+pub found_at_most : (found : Option ℕ) (n : ℕ) → ((cost : ℕ) → found ≡ Some cost → cost ≤ n) →
+    IfSome found (λ cost. cost ≤ n)
+found_at_most (Some cost) n low = low cost refl
+found_at_most None n low = tt
 
 pub none_low : (w : Situation) (best : Best) (most : ℕ) → IsBest w [] Two 0 0 best → cost_to_beat best.cost most ≤ most
 none_low w best most is = none_at best.cost most (is.cost ∙ least_none (cost_in w [] Two 0))

@@ -53,6 +53,8 @@ impl Best {
         ensures bound { (st : Situation) (steps : List Step) (most : ℕ)
             → IsMoveBelow st steps (cost_to_beat self.cost most) found
             → cost_to_beat result.cost most ≤ cost_to_beat self.cost most }
+        ensures next { (most : ℕ) → cost_to_beat result.cost most
+            ≡ cost_to_beat found (cost_to_beat self.cost most) }
     {
         match found {
             Some(_) => Best {

@@ -1,11 +1,11 @@
-ghost use Rattle.std.specs.Prelude.{◌≡◌, ◌≢◌, ◌+◌, ℕ, ◌%◌, ◌^◌, ◌<◌, ◌≤◌, min, List, [], ◌∷◌, slice_index};
+ghost use Rattle.std.specs.Prelude.{◌≡◌, ◌≢◌, ◌+◌, ℕ, ◌%◌, ◌^◌, ◌<◌, ◌≤◌, min, List, [], ◌∷◌, slice_index, IfSome};
 ghost use Rattle.ra_model.specs.Numbers.{machine_count};
 ghost use Rattle.ra_moves.specs.declared.steps.MoveKind.TheVariants as kind;
 ghost use Rattle.ra_moves.specs.Options.{kind_of, drawn, target, count_of, option_count, leaving};
 ghost use Rattle.ra_base.specs.declared.causes.Drawing.{Drawing};
 ghost use Rattle.ra_base.specs.declared.causes.Drawing.TheVariants.{Two};
 ghost use Rattle.ra_model.specs.Assignments.{machine_at};
-ghost use Rattle.ra_shift.specs.Arriving.{sum_at};
+ghost use Rattle.ra_shift.specs.Arriving.{room_below};
 ghost use Rattle.ra_shift.specs.Lanes.{AreCheapMarked};
 ghost use Rattle.ra_plan.specs.Choosing.{IsBest, IsWindowOf, steps_in, cost_to_beat};
 ghost use Rattle.ra_model.specs.Situations.{cost_at};
@@ -112,13 +112,25 @@ fn best_marked(
         let bound = best.bound(most);
         let sum = sums[option as usize];
         let found = shift.cost_summed(to, sum, bound, room, &mut lacking);
-        if let Some(cost) = found {
-            best = best.or_found(option, found);
-            room = shift.room_below(cost);
-        }
+        best = best.or_found(option, found);
+        room = room_after(shift, room, found);
         option = next_mark(all, option + 1, count);
     }
     best
+}
+
+/// The room below the next bound: that of a cost that was found, or else the room as it was.
+#[inline(always)]
+#[tactic(auto, unfolding(crate::specs::Choosing::cost_to_beat))]
+fn room_after(shift: &Shift<'_, '_>, room: u128, found: Option<u128>) -> u128
+    requires { IfSome found (λ cost. cost ≤ 2 ^ 120) }
+    ensures { (bound : ℕ) → room ≡ room_below shift.now.world.now shift.now.process.0 bound →
+        result ≡ room_below shift.now.world.now shift.now.process.0 (cost_to_beat found bound) }
+{
+    match found {
+        Some(cost) => shift.room_below(cost),
+        None => room,
+    }
 }
 
 /// The best with one more machine to which the process may go. `most` is the first cost that is too high.

@@ -1,7 +1,7 @@
 -- What is read of a world, over plain lists and numbers.
-use Rattle.std.proofs.Common.{◌≡◌, ◌≢◌, ℕ, ◌+◌, ◌-◌, ◌<◌, ◌≤◌, true, List, length, set, slice_index, eqb, refl, ap, ap₂, sym, ◌∙◌, ⊎_elim, arith, get_or-set_same, get_or-set_other, subst}
+use Rattle.std.proofs.Common.{◌++◌, ◌≡◌, ◌≢◌, ℕ, ◌+◌, ◌-◌, ◌<◌, ◌≤◌, true, List, length, set, slice_index, eqb, refl, ap, ap₂, sym, ◌∙◌, ⊎_elim, arith, get_or-set_same, get_or-set_other, subst}
 use Rattle.std.proofs.lemmas.Bool.{cases_eq, cond-true, eq-eqb, ne_eqb}
-use Rattle.std.proofs.lemmas.List.{length-map, get_or-map}
+use Rattle.std.proofs.lemmas.List.{get_or_append_left, length-map, get_or-map}
 use Rattle.ra_base.specs.Sums.{pick, count}
 use Rattle.ra_base.specs.declared.ids.Machine.{Machine}
 use Rattle.ra_base.specs.declared.ids.Service.{Service}
@@ -33,6 +33,13 @@ filled_more numbers f r v so_far within is k below = ⊎_elim
     ∙ ap f (sym here))
     (λ (other : k ≢ r). get_or-set_other numbers r k v 0 other ∙ so_far k (omega (arith, other)))
     (cases_eq k r)
+
+-- a list begins with what p requires
+pub row_filled : (i : Tables) (p : ℕ) (row rest : List ℕ) → length row ≡ resource_count i →
+    ((r : ℕ) → r < resource_count i → slice_index row r ≡ requirement_of i p r) → AreRequired i p (row ++ rest)
+row_filled i p row rest long each = record {
+  each = λ r within. get_or_append_left row rest 0 r (omega (arith, long, within)) ∙ each r within;
+}
 
 -- a machine's row of use, with what p requires and without it
 pub used_with : (i j : Tables) (a : List Machine) (p to r : ℕ) (used required : List ℕ) → j ≡ i →

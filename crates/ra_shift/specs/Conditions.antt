@@ -1,6 +1,6 @@
 -- What decides whether process p, whose assignment a breaks nothing, may go from its machine to machine `to` (this
 -- project's).
-use Rattle.std.specs.Prelude.{◌≡◌, ◌≢◌, ℕ, ◌+◌, ◌<◌, ◌≤◌, List, Option, Some, ⊥, true, IsTrue, slice_set}
+use Rattle.std.specs.Prelude.{◌≡◌, ◌≢◌, ℕ, ◌+◌, ◌<◌, ◌≤◌, List, Option, Some, true, IsTrue, slice_set}
 use Rattle.ra_base.specs.declared.ids.Machine.{Machine}
 use Rattle.ra_model.specs.declared.raw.Tables.{Tables}
 use Rattle.ra_model.specs.Numbers.{resource_count, service_count, transient_at, capacity_of, spread_of, dependency_count, need_of, service_of, requirement_of, neighbourhood_of, closed_at}

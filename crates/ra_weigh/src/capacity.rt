@@ -109,10 +109,10 @@ impl<'a, 'b> Trial<'a, 'b> {
         ensures { result ≡
             row_transient (tables_of self.now) (initial_of self.now) (after_of self.now) m.0 }
     {
-        let row = self.rows.transient_row(m);
+        let between = self.rows.transient_row(m);
         for r in 0..self.inst.resources() {
             let place = r as usize;
-            let used = row[place] + u64::from(flow.come[place]) - u64::from(flow.gone[place]);
+            let used = between[place] + u64::from(flow.come[place]) - u64::from(flow.gone[place]);
             if let Some(cause) = self.transient_test(m, Resource(r), used) {
                 return Some(cause);
             }

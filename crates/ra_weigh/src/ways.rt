@@ -60,6 +60,7 @@ fn cost_left(world: &World<'_>, mv: &Move) -> u128
 
 /// What a process on a machine adds to the process cost and to the machine cost.
 #[inline(always)]
+#[tactic(auto, using(ra_world::proofs::CostLaws::product_small), unfolding(crate::specs::PlaceCosts::place_cost, ra_model::specs::Costs::process_share, ra_model::specs::Costs::way_share))]
 fn place_cost(world: &World<'_>, p: Process, at: Machine) -> u128
     requires process { p.0 < process_count world.now.tables }
     requires machine { at.0 < machine_count world.now.tables }
@@ -68,7 +69,11 @@ fn place_cost(world: &World<'_>, p: Process, at: Machine) -> u128
 {
     let inst = world.instance();
     let home = machine_of(world.initial(), p);
-    let moved = if at.0 == home.0 { 0 } else { inst.process_cost(p) };
+    let moved = if at.0 == home.0 {
+        0
+    } else {
+        inst.process_cost(p)
+    };
     let process = u128::from(inst.process_weight()) * u128::from(moved);
     process + u128::from(inst.machine_weight()) * u128::from(world.way(home, at))
 }

@@ -4,8 +4,11 @@ use Rattle.ra_plan.proofs.Below.{none_below, some_below, unfit_below, room_free}
 use Rattle.ra_plan.proofs.Weighed.{flawed, flawless, flawless_move, processes_known}
 use Rattle.ra_plan.proofs.moves.cost_below.Goals as goal
 
-pub is_dear_by_ways-requires : goal.is_dear_by_ways-requires
-is_dear_by_ways-requires g c = flawless_move _ _ _ c.requires.offered c.in_default.ensures
+pub change_of_ways-ways-requires : goal.change_of_ways-ways-requires
+change_of_ways-ways-requires g c = flawless_move _ _ _ c.requires.offered c.in_default.ensures
+
+pub is_dear_by_ways-requires-clause-moves : goal.is_dear_by_ways-requires-clause-moves
+is_dear_by_ways-requires-clause-moves g c = flawless_move _ _ _ c.requires.offered c.in_default.ensures
 
 pub requirements-requires : goal.requirements-requires
 requirements-requires g c =

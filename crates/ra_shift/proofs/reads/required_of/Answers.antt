@@ -1,16 +1,7 @@
--- One more number.
-use Rattle.std.proofs.Common.{◌∙◌, length-set, arith}
-use Rattle.ra_model.specs.Numbers.{requirement_of}
-use Rattle.ra_shift.proofs.ReadLaws.{filled_more}
+-- The first numbers are what is read.
+use Rattle.ra_shift.proofs.ReadLaws.{row_filled}
 use Rattle.ra_shift.proofs.reads.required_of.Goals as goal
 
-pub loop-r-preserved : goal.loop-r-preserved
-loop-r-preserved g c =
-    let few = c.args.inst.now.well_formed.few_resources in
-    record {
-      size = length-set c.loop-r.required c.loop-r.r c.requirement.result ∙ c.loop-r.invariant.size;
-      so_far = filled_more c.loop-r.required (requirement_of c.args.inst.now.tables c.args.p.0) c.loop-r.r
-          c.requirement.result c.loop-r.invariant.so_far
-          (omega (arith, few, c.resources-r-end.ensures, c.loop-r.invariant.size)) c.requirement.ensures.value;
-      counted = omega (arith, c.requirement.ensures.counted, c.loop-r.invariant.counted);
-    }
+pub returns-clause-value : goal.returns-clause-value
+returns-clause-value g c =
+    row_filled _ _ _ _ c.read_requirements.ensures.width c.read_requirements.ensures.each

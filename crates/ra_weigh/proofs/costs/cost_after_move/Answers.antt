@@ -48,7 +48,7 @@ overflow_add-taken-2 c =
       service_within world,
       objective_under world.tables world.start world.here sound.well_formed sound.small,
       c.change_at_ends-ends.ensures.taken_few,
-      c.cost_left.ensures.few,
+      c.requires.ways.taken_few,
     )
 
 pub is_high-requires : goal.is_high-requires
@@ -75,7 +75,7 @@ returns-then-is_high c =
     none_below _ _
     (cost_least world c.args.mv.now.steps c.parts-parts.result.total c.change_at_ends-ends.result.added _ 0 _ _
     c.args.bound c.parts-parts.ensures.sound.well_formed c.requires.moves kept (omega (arith, ends.added)) ends.taken
-    (omega arith) c.cost_left.ensures.value now
+    (omega arith) c.requires.ways.taken now
     (omega (arith, c.is_high.ensures.0 c.if-is_high.true)))
 
 pub overflow_add-added : goal.overflow_add-added
@@ -89,7 +89,7 @@ overflow_add-added c =
       kept,
       objective_under world.tables world.start world.here sound.well_formed sound.small,
       c.change_at_ends-ends.ensures.added_few,
-      c.cost_entered.ensures.few,
+      c.requires.ways.added_few,
     )
 
 pub is_high-requires-2 : goal.is_high-requires-2
@@ -103,7 +103,7 @@ is_high-requires-2 c =
       kept,
       objective_under world.tables world.start world.here sound.well_formed sound.small,
       c.change_at_ends-ends.ensures.added_few,
-      c.cost_entered.ensures.few,
+      c.requires.ways.added_few,
     )
 
 pub returns-then-is_high-2 : goal.returns-then-is_high-2
@@ -116,8 +116,8 @@ returns-then-is_high-2 c =
     let ends = c.change_at_ends-ends.ensures in
     none_below _ _
     (cost_least world c.args.mv.now.steps c.parts-parts.result.total c.change_at_ends-ends.result.added _
-    c.cost_entered.result _ _ c.args.bound c.parts-parts.ensures.sound.well_formed c.requires.moves kept
-    (omega (arith, ends.added)) ends.taken (omega (arith, c.cost_entered.ensures.value)) c.cost_left.ensures.value now
+    c.args.ways.now.added _ _ c.args.bound c.parts-parts.ensures.sound.well_formed c.requires.moves kept
+    (omega (arith, ends.added)) ends.taken (omega (arith, c.requires.ways.added)) c.requires.ways.taken now
     (omega (arith, c.is_high-2.ensures.0 c.if-is_high-2.true)))
 
 pub overflow_add-cost : goal.overflow_add-cost
@@ -131,7 +131,7 @@ overflow_add-cost c =
       kept,
       objective_under world.tables world.start world.here sound.well_formed sound.small,
       c.change_at_ends-ends.ensures.added_few,
-      c.cost_entered.ensures.few,
+      c.requires.ways.added_few,
       c.service_after.ensures.few,
     )
 
@@ -147,7 +147,7 @@ overflow_sub-cost c =
       arith,
       cost_is world c.args.mv.now.steps _
           _ _ _ _ _ _ c.parts-parts.ensures.sound.well_formed c.requires.moves kept ends.added ends.taken
-          c.cost_entered.ensures.value c.cost_left.ensures.value c.service_after.ensures.value now,
+          c.requires.ways.added c.requires.ways.taken c.service_after.ensures.value now,
     )
 
 pub returns-then-cost-bound : goal.returns-then-cost-bound
@@ -163,7 +163,7 @@ returns-then-cost-bound c =
       c.if-cost-bound.true,
       cost_is world c.args.mv.now.steps _
           _ _ _ _ _ _ c.parts-parts.ensures.sound.well_formed c.requires.moves kept ends.added ends.taken
-          c.cost_entered.ensures.value c.cost_left.ensures.value c.service_after.ensures.value now,
+          c.requires.ways.added c.requires.ways.taken c.service_after.ensures.value now,
     ))
 
 pub returns : goal.returns
@@ -178,5 +178,5 @@ returns c =
       arith,
       cost_is world c.args.mv.now.steps _
           _ _ _ _ _ _ c.parts-parts.ensures.sound.well_formed c.requires.moves kept ends.added ends.taken
-          c.cost_entered.ensures.value c.cost_left.ensures.value c.service_after.ensures.value now,
+          c.requires.ways.added c.requires.ways.taken c.service_after.ensures.value now,
     )) (omega (arith, c.if-cost-bound.false))

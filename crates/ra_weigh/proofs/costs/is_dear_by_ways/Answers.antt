@@ -15,13 +15,13 @@ step-step-requires c = omega (arith, (c.is_exchange.ensures c.if-not-is_exchange
 
 pub cost_now-requires : goal.cost_now-requires
 cost_now-requires c = record {
-  machine = from_known _ _ _ 0 _ c.requires (omega (arith, (c.is_exchange.ensures c.if-not-is_exchange.false).two))
+  machine = from_known _ _ _ 0 _ c.requires.moves (omega (arith, (c.is_exchange.ensures c.if-not-is_exchange.false).two))
       c.step-step.ensures;
 }
 
 pub cost_now-requires-2 : goal.cost_now-requires-2
 cost_now-requires-2 c = record {
-  machine = to_known _ _ _ 0 _ c.requires (omega (arith, (c.is_exchange.ensures c.if-not-is_exchange.false).two))
+  machine = to_known _ _ _ 0 _ c.requires.moves (omega (arith, (c.is_exchange.ensures c.if-not-is_exchange.false).two))
       c.step-step.ensures;
 }
 
@@ -55,7 +55,7 @@ overflow_add-taken-2 c =
       objective_under world.tables world.start world.here sound.well_formed sound.small,
       c.cost_now.ensures.few,
       c.cost_now-2.ensures.few,
-      c.cost_left.ensures.few,
+      c.requires.ways.taken_few,
     )
 
 pub overflow_add-parts : goal.overflow_add-parts
@@ -68,7 +68,7 @@ overflow_add-parts c =
       arith,
       kept,
       objective_under world.tables world.start world.here sound.well_formed sound.small,
-      c.cost_entered.ensures.few,
+      c.requires.ways.added_few,
     )
 
 pub is_high-requires : goal.is_high-requires
@@ -81,7 +81,7 @@ is_high-requires c =
       arith,
       kept,
       objective_under world.tables world.start world.here sound.well_formed sound.small,
-      c.cost_entered.ensures.few,
+      c.requires.ways.added_few,
     )
 
 pub returns : goal.returns
@@ -91,10 +91,10 @@ returns c = λ dear.
     let kept : c.parts-parts.result.total ≡ cost_at world = ap (λ (x : Parts). x.total) c.parts-parts.ensures.value in
     let now : c.parts-parts.result.service ≡ service_cost_at world =
     ap (λ (x : Parts). x.service) c.parts-parts.ensures.value in
-    cost_least world c.args.mv.now.steps c.parts-parts.result.total 0 _ c.cost_entered.result _ _ c.args.bound
-    c.parts-parts.ensures.sound.well_formed c.requires kept (omega arith)
+    cost_least world c.args.mv.now.steps c.parts-parts.result.total 0 _ c.args.ways.now.added _ _ c.args.bound
+    c.parts-parts.ensures.sound.well_formed c.requires.moves kept (omega arith)
     (cost_exchanged c.args.mv.now.steps (row_cost world.tables world.here) c.step-step.result _ _
     (c.is_exchange.ensures c.if-not-is_exchange.false) c.step-step.ensures c.cost_now.ensures.value
     c.cost_now-2.ensures.value)
-    (omega (arith, c.cost_entered.ensures.value)) c.cost_left.ensures.value now
+    (omega (arith, c.requires.ways.added)) c.requires.ways.taken now
     (omega (arith, c.is_high.ensures.0 dear))

@@ -2,7 +2,7 @@ use Rattle.std.proofs.Common.{ap, ◌∙◌, arith}
 use Rattle.ra_weigh.proofs.MoveLemmas.{after_zero}
 use Rattle.ra_weigh.proofs.MovedNext.{count_made}
 use Rattle.ra_weigh.proofs.counts.count_of.Goals as goal
-use Rattle.ra_model.specs.Situations.{situation, moved_at}
+use Rattle.ra_model.specs.Situations.{moved_at}
 
 pub loop-j-init : goal.loop-j-init
 loop-j-init c = c.moved-before.ensures.count _ _ _ c.cells.ensures.stand

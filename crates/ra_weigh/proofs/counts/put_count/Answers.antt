@@ -1,7 +1,6 @@
 use Rattle.std.proofs.Common.{sym, ◌∙◌, arith}
 use Rattle.ra_weigh.proofs.MovedNext.{counts_again, filled_again, filled_more, filled_few, counts_more}
 use Rattle.ra_weigh.proofs.counts.put_count.Goals as goal
-use Rattle.ra_model.specs.Situations.{situation}
 
 pub returns-then-is_named_before-clause-filled : goal.returns-then-is_named_before-clause-filled
 returns-then-is_named_before-clause-filled c =

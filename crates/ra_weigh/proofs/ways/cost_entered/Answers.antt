@@ -6,22 +6,18 @@ use Rattle.ra_weigh.proofs.ways.cost_entered.Goals as goal
 
 pub place_cost-cost-requires-clause-process : goal.place_cost-cost-requires-clause-process
 place_cost-cost-requires-clause-process c =
-    rw c.instance-inst.ensures.value (process_known _ _ _ c.loop-j.j _ c.requires (omega arith) c.step-step.ensures)
+    process_known _ _ _ c.loop-j.j _ c.requires (omega arith) c.step-step.ensures
 
 pub place_cost-cost-requires-clause-machine : goal.place_cost-cost-requires-clause-machine
 place_cost-cost-requires-clause-machine c =
-    rw c.instance-inst.ensures.value (to_known _ _ _ c.loop-j.j _ c.requires (omega arith) c.step-step.ensures)
-
-pub place_cost-cost-requires-clause-start : goal.place_cost-cost-requires-clause-start
-place_cost-cost-requires-clause-start c =
-    rw (c.instance-inst.ensures.value, c.initial-start.ensures.value) c.initial-start.ensures.sound.starts
+    to_known _ _ _ c.loop-j.j _ c.requires (omega arith) c.step-step.ensures
 
 pub loop-j-preserved : goal.loop-j-preserved
 loop-j-preserved c =
     let step = c.step-step.result in
     record {
       value = place_come _ _ _ c.loop-j.j _ _ _ _ c.loop-j.invariant.value
-          (rw (c.instance-inst.ensures.value, c.initial-start.ensures.value) at c.place_cost-cost.ensures.value)
+          c.place_cost-cost.ensures.value
           (process_read _ _ step c.step-step.ensures) (to_read _ _ step c.step-step.ensures);
       few = omega (arith, c.loop-j.invariant.few, c.place_cost-cost.ensures.few);
     }

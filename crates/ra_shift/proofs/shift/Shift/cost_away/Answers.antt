@@ -1,5 +1,5 @@
 -- The cost is the cost with what is added, and the sum, less what is taken away.
-use Rattle.std.proofs.Common.{◌∙◌, sym}
+use Rattle.std.proofs.Common.{◌∙◌, sym, arith}
 use Rattle.ra_shift.proofs.FilterLaws.{dear_cost, summed_cost}
 use Rattle.ra_shift.proofs.shift.Shift.cost_away.Goals as goal
 
@@ -9,10 +9,10 @@ returns-in_err-sum c =
     let w = shift.world.now in
     let p = shift.process.0 in
     let to = c.args.to.0 in
-    dear_cost w p to c.args.bound shift.taken shift.added c.saturating_sub.result c.sum_below.result _
+    dear_cost w p to c.args.bound shift.taken shift.added c.room_below.result c.sum_below.result _
     shift.sound shift.process_known c.requires.machine (λ same. c.requires.apart (sym (shift.home_is ∙ same)))
     shift.taken_is
-    shift.added_is c.saturating_sub.ensures c.sum_below.ensures c.in_err-sum.was c.from_residual.ensures
+    shift.added_is (omega (arith, c.room_below.ensures, shift.taken_is, shift.added_is)) c.sum_below.ensures c.in_err-sum.was c.from_residual.ensures
 
 pub overflow_sub-result : goal.overflow_sub-result
 overflow_sub-result c =
@@ -20,10 +20,11 @@ overflow_sub-result c =
     let w = shift.world.now in
     let p = shift.process.0 in
     let to = c.args.to.0 in
-    (summed_cost w p to c.args.bound shift.taken shift.added c.saturating_sub.result c.in_ok-sum.sum c.sum_below.result
+    (summed_cost w p to c.args.bound shift.taken shift.added c.room_below.result c.in_ok-sum.sum c.sum_below.result
     shift.sound shift.process_known c.requires.machine (λ same. c.requires.apart (sym (shift.home_is ∙ same)))
-    shift.taken_is shift.added_is c.saturating_sub.ensures c.sum_below.ensures c.in_ok-sum.was
-    (c.fits.ensures.0 c.if-not-fits.false)).0
+    shift.taken_is shift.added_is
+    (omega (arith, c.room_below.ensures, shift.taken_is, shift.added_is)) c.sum_below.ensures c.in_ok-sum.was
+    (c.fits.ensures.fits.0 c.if-not-fits.false)).0
 
 pub returns : goal.returns
 returns c =
@@ -31,7 +32,8 @@ returns c =
     let w = shift.world.now in
     let p = shift.process.0 in
     let to = c.args.to.0 in
-    (summed_cost w p to c.args.bound shift.taken shift.added c.saturating_sub.result c.in_ok-sum.sum c.sum_below.result
+    (summed_cost w p to c.args.bound shift.taken shift.added c.room_below.result c.in_ok-sum.sum c.sum_below.result
     shift.sound shift.process_known c.requires.machine (λ same. c.requires.apart (sym (shift.home_is ∙ same)))
-    shift.taken_is shift.added_is c.saturating_sub.ensures c.sum_below.ensures c.in_ok-sum.was
-    (c.fits.ensures.0 c.if-not-fits.false)).1
+    shift.taken_is shift.added_is
+    (omega (arith, c.room_below.ensures, shift.taken_is, shift.added_is)) c.sum_below.ensures c.in_ok-sum.was
+    (c.fits.ensures.fits.0 c.if-not-fits.false)).1

@@ -32,10 +32,9 @@ returns-then-sum-bound c =
     let w = shift.world.now in
     let p = shift.process.0 in
     let to = c.args.to.0 in
-    let weight = c.from.ensures ∙ c.machine_weight.ensures
-    ∙ ap (λ (j : Tables). machine_weight_of j) c.instance-inst.ensures.value in
-    let cost = c.from-2.ensures ∙ c.move_cost.ensures
-    ∙ ap (λ (j : Tables). way_cost_of j shift.home.0 to) c.instance-inst.ensures.value
+    let weight = c.from.ensures ∙ c.machine_weight-weight.ensures
+    ∙ ap (λ (j : Tables). machine_weight_of j) c.instance.ensures.value in
+    let cost = c.from-2.ensures ∙ c.way.ensures
     ∙ ap (λ m. way_cost_of w.tables m to) shift.home_is in
     let load = c.load_above-load.ensures.value p shift.required_are in
     let balance = c.balance_above.ensures.value p shift.required_are in
@@ -51,10 +50,9 @@ returns c =
     let w = shift.world.now in
     let p = shift.process.0 in
     let to = c.args.to.0 in
-    let weight = c.from.ensures ∙ c.machine_weight.ensures
-    ∙ ap (λ (j : Tables). machine_weight_of j) c.instance-inst.ensures.value in
-    let cost = c.from-2.ensures ∙ c.move_cost.ensures
-    ∙ ap (λ (j : Tables). way_cost_of j shift.home.0 to) c.instance-inst.ensures.value
+    let weight = c.from.ensures ∙ c.machine_weight-weight.ensures
+    ∙ ap (λ (j : Tables). machine_weight_of j) c.instance.ensures.value in
+    let cost = c.from-2.ensures ∙ c.way.ensures
     ∙ ap (λ m. way_cost_of w.tables m to) shift.home_is in
     let load = c.load_above-load.ensures.value p shift.required_are in
     let balance = c.balance_above.ensures.value p shift.required_are in

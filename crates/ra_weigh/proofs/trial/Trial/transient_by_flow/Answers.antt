@@ -21,8 +21,8 @@ overflow_sub-used c =
     omega (
       arith,
       flow_sum (tables_of t) (before_of t) (steps_of t) (transient_share (tables_of t) (initial_of t) c.args.m.0) c.loop-r.r _ _ _ _ _ t.moves c.requires.flow within
-          (between_here (tables_of t) t.rows.now.tables (initial_of t) t.rows.now.start (before_of t) c.args.m.0 c.loop-r.r c.transient_row-row.result.now t.rows_tables t.rows_start
-          (c.transient_row-row.ensures.values _ t.rows_stand) within) c.from.ensures c.from-in-loop-r.ensures,
+          (between_here (tables_of t) t.rows.now.tables (initial_of t) t.rows.now.start (before_of t) c.args.m.0 c.loop-r.r c.transient_row-between.result.now t.rows_tables t.rows_start
+          (c.transient_row-between.ensures.values _ t.rows_stand) within) c.from.ensures c.from-in-loop-r.ensures,
     )
 
 pub transient_test-requires : goal.transient_test-requires
@@ -37,8 +37,8 @@ transient_test-requires c =
       used = omega (
         arith,
         flow_sum (tables_of t) (before_of t) (steps_of t) (transient_share (tables_of t) (initial_of t) c.args.m.0) c.loop-r.r _ _ _ _ _ t.moves c.requires.flow within
-            (between_here (tables_of t) t.rows.now.tables (initial_of t) t.rows.now.start (before_of t) c.args.m.0 c.loop-r.r c.transient_row-row.result.now t.rows_tables t.rows_start
-            (c.transient_row-row.ensures.values _ t.rows_stand) within) c.from.ensures c.from-in-loop-r.ensures,
+            (between_here (tables_of t) t.rows.now.tables (initial_of t) t.rows.now.start (before_of t) c.args.m.0 c.loop-r.r c.transient_row-between.result.now t.rows_tables t.rows_start
+            (c.transient_row-between.ensures.values _ t.rows_stand) within) c.from.ensures c.from-in-loop-r.ensures,
       );
     }
 
