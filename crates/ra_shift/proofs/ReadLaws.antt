@@ -97,12 +97,6 @@ room_holds i j a p to used required same row are all = record {
   each = λ r within. omega (arith, (rw same at row).each r within, are.each r within, all r within);
 }
 
-pub room_lacks : (i j : Tables) (a : List Machine) (p to r : ℕ) (used required : List ℕ) → j ≡ i →
-    IsUsageRow j a to used → AreRequired i p required → r < resource_count i →
-    capacity_of i to r < slice_index used r + slice_index required r → HasRoom i a p to → ⊥
-room_lacks i j a p to r used required same row are within much room =
-    omega (arith, (rw same at row).each r within, are.each r within, room.each r within)
-
 pub between_holds : (i j : Tables) (a0 b0 a : List Machine) (p to : ℕ) (between required : List ℕ) → j ≡ i → b0 ≡ a0 →
     IsTransientRow j b0 a to between → AreRequired i p required →
     ((k : ℕ) → k < resource_count i → transient_at i k ≡ true → slice_index between k + slice_index required k ≤
@@ -111,13 +105,6 @@ between_holds i j a0 b0 a p to between required same start row are all = record 
   each = λ r within transient away.
       omega (arith, (rw (same, start) at row).each r within, are.each r within, all r within transient);
 }
-
-pub between_lacks : (i j : Tables) (a0 b0 a : List Machine) (p to r : ℕ) (between required : List ℕ) → j ≡ i → b0 ≡ a0 →
-    IsTransientRow j b0 a to between → AreRequired i p required → r < resource_count i → machine_at a0 p ≢ to →
-    transient_at i r ≡ true → capacity_of i to r < slice_index between r + slice_index required r →
-    HasRoomBetween (situation i a0 a) p to → ⊥
-between_lacks i j a0 b0 a p to r between required same start row are within away transient much room =
-    omega (arith, (rw (same, start) at row).each r within, are.each r within, room.each r within transient away)
 
 -- the locations without p
 pub without_last : (i : Tables) (a : List Machine) (p s label n held : ℕ) → Small i → p < process_count i →

@@ -1,6 +1,8 @@
 -- Where one process goes to another machine: use and transient use of that machine and of the others.
 use Rattle.std.proofs.Common.{◌≡◌, ◌≢◌, ℕ, ◌+◌, ◌<◌, ◌≤◌, IsTrue, List, eqb, refl, sym, ⊎_elim, arith, eq-eqb, ne_eqb}
 use Rattle.std.proofs.lemmas.Bool.{cond-true, cond-false, cases_eq, or_left, or_right, or_from}
+use Rattle.std.proofs.Common.{◌↔◌, Bool, true, false, not, Option, Some, None, IfSome, IfNone, is_some}
+use Rattle.ra_base.specs.declared.causes.Cause.{Cause}
 use Rattle.ra_base.specs.declared.ids.Machine.{Machine}
 use Rattle.ra_model.specs.declared.raw.Tables.{Tables}
 use Rattle.ra_model.specs.Numbers.{resource_count, machine_count, process_count, transient_at, capacity_of, requirement_of}
@@ -11,6 +13,7 @@ use Rattle.ra_model.specs.Situations.{Situation, IsFeasible}
 use Rattle.ra_model.proofs.TallyLemmas.{machine_at_set_same, machine_at_set_other, use_set, transient_set}
 use Rattle.ra_moves.proofs.ValueLemmas.{use_elsewhere}
 use Rattle.ra_shift.specs.Conditions.{shifted, HasRoom, HasRoomBetween}
+use Rattle.ra_shift.specs.Finding.{IsOver, IsOverBetween}
 
 -- process p of an assignment that breaks nothing, and another machine
 pub record IsStart (st : Situation) (p to : ℕ) : Type 0 where
@@ -167,3 +170,21 @@ transient_after st p to h room m r m_in r_in transient = ⊎_elim
     (λ (apart : m ≢ to).
     omega (arith, between_other st p to m r h apart, h.feasible.transient m r m_in r_in transient))
     (cases_eq m to)
+
+-- a machine of which a resource is too much has no room
+
+pub not_over : (st : Situation) (p to : ℕ) (cause : Cause) → IsOver st p to cause → HasRoom st.tables st.here p to → ⊥
+not_over st p to cause over room = omega (arith, over.above, room.each over.r over.within)
+
+pub not_over_between : (st : Situation) (p to : ℕ) (cause : Cause) → IsOverBetween st p to cause →
+    HasRoomBetween st p to → ⊥
+not_over_between st p to cause over room =
+    omega (arith, over.above, room.each over.r over.within over.transient over.away)
+
+-- a test that finds a cause, or none if there is room
+pub room_decided : (cause : Option Cause) (none : Bool) {Room : Type 0} {Over : Cause → Type 0} → IfSome cause Over →
+    IfNone cause Room → ((one : Cause) → Over one → Room → ⊥) → is_some cause ≡ not none → (none ≡ true) ↔ Room
+room_decided (Some one) true over _ apart is = absurd (cc)
+room_decided (Some one) false over _ apart is = (λ yes. absurd (cc), λ room. absurd (apart one over room))
+room_decided None true _ room _ is = (λ _. room, λ _. refl)
+room_decided None false _ room _ is = absurd (cc)

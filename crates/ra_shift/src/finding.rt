@@ -63,7 +63,7 @@ impl<'w, 'a> Shift<'w, 'a> {
 
     /// The first resource of which a machine has too little room for what the process requires, as a cause.
     #[inline(always)]
-    fn over_capacity(&self, to: Machine) -> Option<Cause>
+    pub(crate) fn over_capacity(&self, to: Machine) -> Option<Cause>
         requires { to.0 < machine_count self.now.world.now.tables }
         ensures some { IfSome result (IsOver self.now.world.now self.now.process.0 to.0) }
         ensures none { IfNone result (HasRoom self.now.world.now.tables
@@ -89,7 +89,7 @@ impl<'w, 'a> Shift<'w, 'a> {
 
     /// The first transient resource of which a machine has too little room while the process moves, as a cause.
     #[inline(always)]
-    fn over_between(&self, to: Machine) -> Option<Cause>
+    pub(crate) fn over_between(&self, to: Machine) -> Option<Cause>
         requires { to.0 < machine_count self.now.world.now.tables }
         ensures some { IfSome result (IsOverBetween self.now.world.now self.now.process.0 to.0) }
         ensures none { IfNone result (HasRoomBetween self.now.world.now self.now.process.0 to.0) }

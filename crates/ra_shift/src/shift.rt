@@ -198,7 +198,7 @@ impl<'w, 'a> Shift<'w, 'a> {
         ensures below { IsCostBelow self.now.world.now self.now.process.0 to.0 bound result }
         ensures lacking { Lacks self.now.world.now self.now.process.0 lacking.new }
     {
-        if self.home.0 == to.0 {
+        if to.0 == self.home.0 {
             return self.cost_home(to, bound);
         }
         let sum = u128::from(sum);
@@ -318,16 +318,7 @@ impl<'w, 'a> Shift<'w, 'a> {
         ensures { (result ≡ true) ↔ HasRoom
             self.now.world.now.tables self.now.world.now.here self.now.process.0 to.0 }
     {
-        let inst = self.world.instance();
-        let used = self.world.rows().usage_row(to);
-        for r in 0..inst.resources() {
-            let place = r as usize;
-            let wanted = used[place] + u64::from(self.required[place]);
-            if wanted > u64::from(inst.capacity(to, Resource(r))) {
-                return false;
-            }
-        }
-        true
+        self.over_capacity(to).is_none()
     }
 
     /// Whether a machine has room for what the process requires while the process moves.
@@ -336,18 +327,7 @@ impl<'w, 'a> Shift<'w, 'a> {
         requires { to.0 < machine_count self.now.world.now.tables }
         ensures { (result ≡ true) ↔ HasRoomBetween self.now.world.now self.now.process.0 to.0 }
     {
-        if to.0 == self.home.0 {
-            return true;
-        }
-        let between = self.world.rows().transient_row(to);
-        for r in 0..self.world.instance().resources() {
-            let place = r as usize;
-            let wanted = between[place] + u64::from(self.required[place]);
-            if self.is_too_much(to, Resource(r), wanted) {
-                return false;
-            }
-        }
-        true
+        self.over_between(to).is_none()
     }
 
     /// Whether an amount of a transient resource is above what a machine has.

@@ -1,8 +1,0 @@
--- There is room for the resources so far.
-use Rattle.std.proofs.Common.{ℕ, ◌+◌, ◌<◌, ◌≤◌, slice_index}
-use Rattle.ra_model.specs.Numbers.{capacity_of}
-use Rattle.ra_shift.proofs.shift.Shift.has_room.Given as goal
-
-abbrev pub invariant-loop-r : goal.invariant-loop-r
-invariant-loop-r l = (k : ℕ) → k < l.r → slice_index l.used k + slice_index l.self.required k ≤
-    capacity_of l.self.world.now.tables l.to.0 k
