@@ -30,111 +30,105 @@ pub record IsAt (st : Situation) (p to : ℕ) : Type 0 where
   pub known : p < process_count st.tables
   pub reach : to < machine_count st.tables
 
-pub start_of : (st : Situation) (p to : ℕ) → IsAt st p to → machine_at st.here p ≢ to →
-    IsStart st p to
-start_of st p to h apart = record {
-  formed = h.formed;
-  small = h.small;
-  fits = h.fits;
-  feasible = feasible_from_unbroken st.tables st.start st.here h.formed h.fits h.unbroken;
-  known = h.known;
-  reach = h.reach;
-  apart = apart;
-}
+module _ (a : List Machine) (p to : ℕ) where
+  -- the one step of a shift
+  pub applied_one : applied a (leaving a p to ∷ []) ≡ shifted a p to
+  unfolding applied after_steps process_in step_at leaving
+  applied_one = refl
 
--- the one step of a shift
-pub applied_one : (a : List Machine) (p to : ℕ) → applied a (leaving a p to ∷ []) ≡ shifted a p to
-unfolding applied after_steps process_in step_at leaving
-applied_one a p to = refl
+  pub no_repeat : repeat_of (leaving a p to ∷ []) ≡ None
+  unfolding repeat_of repeat_test first cause_if is_named or_else
+  no_repeat = refl
 
-pub no_repeat : (a : List Machine) (p to : ℕ) → repeat_of (leaving a p to ∷ []) ≡ None
-unfolding repeat_of repeat_test first cause_if is_named or_else
-no_repeat a p to = refl
+  apart_from : same_of (leaving a p to ∷ []) ≡ None → machine_at a p ≢ to
+  unfolding same_of same_test from_in to_in step_at leaving
+  apart_from none same =
+      both_ways (eqb (machine_at a p) to)
+      (cause_none _ _ (first_none_at 0 1 (same_test (leaving a p to ∷ [])) (omega arith) none))
+      (eq-eqb (machine_at a p) to same)
 
-apart_from : (a : List Machine) (p to : ℕ) → same_of (leaving a p to ∷ []) ≡ None → machine_at a p ≢ to
-unfolding same_of same_test from_in to_in step_at leaving
-apart_from a p to none same =
-    both_ways (eqb (machine_at a p) to)
-    (cause_none _ _ (first_none_at 0 1 (same_test (leaving a p to ∷ [])) (omega arith) none))
-    (eq-eqb (machine_at a p) to same)
+  pub same_none : machine_at a p ≢ to → same_of (leaving a p to ∷ []) ≡ None
+  unfolding same_of same_test first or_else from_in to_in step_at leaving
+  same_none apart = cause_free _ _ (ne_eqb (machine_at a p) to apart)
 
-pub same_none : (a : List Machine) (p to : ℕ) → machine_at a p ≢ to → same_of (leaving a p to ∷ []) ≡ None
-unfolding same_of same_test first or_else from_in to_in step_at leaving
-same_none a p to apart = cause_free _ _ (ne_eqb (machine_at a p) to apart)
-
--- what the judge asks of a shift
-unbroken_after : (st : Situation) (p to : ℕ) → broken_by st (leaving st.here p to ∷ []) ≡ None →
-    broken_at (record st { here = shifted st.here p to }) ≡ None
-unfolding broken_by
-unbroken_after st p to none = ap (first_broken st.tables st.start) (sym (applied_one st.here p to))
-    ∙ right_none (same_of (leaving st.here p to ∷ [])) _ (right_none (repeat_of (leaving st.here p to ∷ [])) _ none)
-
-pub apart_after : (st : Situation) (p to : ℕ) → broken_by st (leaving st.here p to ∷ []) ≡ None →
-    machine_at st.here p ≢ to
-unfolding broken_by
-apart_after st p to none =
-    apart_from st.here p to
-    (left_none (same_of (leaving st.here p to ∷ [])) _ (right_none (repeat_of (leaving st.here p to ∷ [])) _ none))
-
-unbroken_from : (st : Situation) (p to : ℕ) → machine_at st.here p ≢ to →
-    broken_at (record st { here = shifted st.here p to }) ≡ None → broken_by st (leaving st.here p to ∷ []) ≡ None
-unfolding broken_by
-unbroken_from st p to apart none =
-    both_none _ _ (no_repeat st.here p to)
-    (both_none _ _ (same_none st.here p to apart) (ap (first_broken st.tables st.start) (applied_one st.here p to)
-    ∙ none))
-
--- all constraints after it
-feasible_after : (st : Situation) (p to : ℕ) → IsStart st p to → Allows st p to →
-    IsFeasible (record st { here = shifted st.here p to })
-feasible_after st p to h allows = record {
-  capacity = capacity_after st p to h allows.room;
-  transient = transient_after st p to h allows.between;
-  conflict = conflict_after st p to h allows.alone;
-  spread = spread_after st p to h allows.spread;
-  dependency = dependency_after st p to h allows.needs allows.leaves;
-  closed = closed_after st p to h allows.admitted;
-}
-
-allows_from : (st : Situation) (p to : ℕ) → IsStart st p to → IsFeasible (record st { here = shifted st.here p to }) →
-    Allows st p to
-allows_from st p to h after = record {
-  apart = h.apart;
-  room = room_from st p to h after;
-  between = between_from st p to h after;
-  alone = alone_from st p to h after;
-  spread = after.spread (service_of st.tables p) (h.formed.services p h.known);
-  needs = needs_from st p to h after;
-  leaves = leaves_from st p to h after;
-  admitted = λ closed. after.closed p h.known (ap (closed_at st.tables) (placed st p to h) ∙ closed) ∙ placed st p to h;
-}
-
-pub allowed : (st : Situation) (p to : ℕ) → IsAt st p to →
-    broken_by st (leaving st.here p to ∷ []) ≡ None → Allows st p to
-allowed st p to h none =
-    let start = start_of st p to h (apart_after st p to none) in
-    allows_from st p to start
-    (feasible_from_unbroken st.tables st.start (shifted st.here p to) h.formed
-    (fits_set st.tables st.here p (record { 0 = to }) h.fits h.known h.reach) (unbroken_after st p to none))
-
-pub unbroken : (st : Situation) (p to : ℕ) → IsAt st p to → Allows st p to →
-    broken_by st (leaving st.here p to ∷ []) ≡ None
-unbroken st p to h allows =
-    unbroken_from st p to allows.apart
-    (unbroken_from_feasible st.tables st.start (shifted st.here p to)
-    (feasible_after st p to (start_of st p to h allows.apart) allows))
-
--- in a world
-pub at_of : (st : Situation) (p to : ℕ) → IsSound st → p < process_count st.tables → to < machine_count st.tables →
-    IsAt st p to
-at_of st p to sound known reach = record {
-  formed = sound.well_formed;
-  small = sound.small;
-  fits = sound.fits;
-  unbroken = sound.unbroken;
-  known = known;
-  reach = reach;
-}
+module _ (st : Situation) (p to : ℕ) where
+  pub start_of : IsAt st p to → machine_at st.here p ≢ to →
+      IsStart st p to
+  start_of h apart = record {
+    formed = h.formed;
+    small = h.small;
+    fits = h.fits;
+    feasible = feasible_from_unbroken st.tables st.start st.here h.formed h.fits h.unbroken;
+    known = h.known;
+    reach = h.reach;
+    apart = apart;
+  }
+  -- what the judge asks of a shift
+  unbroken_after : broken_by st (leaving st.here p to ∷ []) ≡ None →
+      broken_at (record st { here = shifted st.here p to }) ≡ None
+  unfolding broken_by
+  unbroken_after none = ap (first_broken st.tables st.start) (sym (applied_one st.here p to))
+      ∙ right_none (same_of (leaving st.here p to ∷ [])) _ (right_none (repeat_of (leaving st.here p to ∷ [])) _ none)
+  pub apart_after : broken_by st (leaving st.here p to ∷ []) ≡ None →
+      machine_at st.here p ≢ to
+  unfolding broken_by
+  apart_after none =
+      apart_from st.here p to
+      (left_none (same_of (leaving st.here p to ∷ [])) _ (right_none (repeat_of (leaving st.here p to ∷ [])) _ none))
+  unbroken_from : machine_at st.here p ≢ to →
+      broken_at (record st { here = shifted st.here p to }) ≡ None → broken_by st (leaving st.here p to ∷ []) ≡ None
+  unfolding broken_by
+  unbroken_from apart none =
+      both_none _ _ (no_repeat st.here p to)
+      (both_none _ _ (same_none st.here p to apart) (ap (first_broken st.tables st.start) (applied_one st.here p to)
+      ∙ none))
+  -- all constraints after it
+  feasible_after : IsStart st p to → Allows st p to →
+      IsFeasible (record st { here = shifted st.here p to })
+  feasible_after h allows = record {
+    capacity = capacity_after st p to h allows.room;
+    transient = transient_after st p to h allows.between;
+    conflict = conflict_after st p to h allows.alone;
+    spread = spread_after st p to h allows.spread;
+    dependency = dependency_after st p to h allows.needs allows.leaves;
+    closed = closed_after st p to h allows.admitted;
+  }
+  allows_from : IsStart st p to → IsFeasible (record st { here = shifted st.here p to }) →
+      Allows st p to
+  allows_from h after = record {
+    apart = h.apart;
+    room = room_from st p to h after;
+    between = between_from st p to h after;
+    alone = alone_from st p to h after;
+    spread = after.spread (service_of st.tables p) (h.formed.services p h.known);
+    needs = needs_from st p to h after;
+    leaves = leaves_from st p to h after;
+    admitted = λ closed. after.closed p h.known (ap (closed_at st.tables) (placed st p to h) ∙ closed) ∙ placed st p to h;
+  }
+  pub allowed : IsAt st p to →
+      broken_by st (leaving st.here p to ∷ []) ≡ None → Allows st p to
+  allowed h none =
+      let start = start_of h (apart_after none) in
+      allows_from start
+      (feasible_from_unbroken st.tables st.start (shifted st.here p to) h.formed
+      (fits_set st.tables st.here p (record { 0 = to }) h.fits h.known h.reach) (unbroken_after none))
+  pub unbroken : IsAt st p to → Allows st p to →
+      broken_by st (leaving st.here p to ∷ []) ≡ None
+  unbroken h allows =
+      unbroken_from allows.apart
+      (unbroken_from_feasible st.tables st.start (shifted st.here p to)
+      (feasible_after (start_of h allows.apart) allows))
+  -- in a world
+  pub at_of : IsSound st → p < process_count st.tables → to < machine_count st.tables →
+      IsAt st p to
+  at_of sound known reach = record {
+    formed = sound.well_formed;
+    small = sound.small;
+    fits = sound.fits;
+    unbroken = sound.unbroken;
+    known = known;
+    reach = reach;
+  }
 
 -- a test that is false if a shift breaks something
 pub refused : {B : Type 0} → (B → ⊥) → (false ≡ true) ↔ B

@@ -43,171 +43,172 @@ cost_by_row : (i : Tables) (a : List Machine) (m : ℕ) → cost_of i a m ≡ ro
 unfolding cost_of row_cost_with machine_load machine_balance
 cost_by_row i a m = refl
 
-pub cost_entered : (st : Situation) (p to : ℕ) → IsStart st p to →
-    cost_of st.tables (shifted st.here p to) to ≡ row_cost_with st.tables to (use_with st.tables st.here p to)
-unfolding use_with
-cost_entered st p to h = cost_by_row st.tables (shifted st.here p to) to
-    ∙ row_cost_same st.tables to (use_of st.tables (shifted st.here p to) to) (use_with st.tables st.here p to) h.formed
-    (λ r within. use_entered st p to r h)
-
-pub cost_left : (st : Situation) (p to : ℕ) → IsStart st p to →
-    cost_of st.tables (shifted st.here p to) (machine_at st.here p) ≡ row_cost_with st.tables (machine_at st.here p)
-    (use_without st.tables st.here p)
-unfolding use_without
-cost_left st p to h = cost_by_row st.tables (shifted st.here p to) (machine_at st.here p)
-    ∙ row_cost_same st.tables (machine_at st.here p) (use_of st.tables (shifted st.here p to) (machine_at st.here p))
-    (use_without st.tables st.here p) h.formed
-    (λ r within. omega (arith, use_left st p to r h))
-
--- load and balance cost
-loads_change : (st : Situation) (p to : ℕ) → IsStart st p to →
-    load_cost st.tables (shifted st.here p to) + (machine_load st.tables st.here (machine_at st.here p)
-    + machine_load st.tables st.here to) ≡ load_cost st.tables st.here
-    + (machine_load st.tables (shifted st.here p to) (machine_at st.here p) + machine_load st.tables
-    (shifted st.here p to) to)
-loads_change st p to h =
-    let change = total_change_two (machine_count st.tables) (machine_at st.here p) to
-    (machine_load st.tables (shifted st.here p to))
-    (machine_load st.tables st.here) (h.fits.in_range p h.known) h.reach h.apart
-    (λ m within not_from not_to.
-    sym (load_stays st.tables st.here p (record { 0 = to }) m h.fits h.known (λ e. not_from (sym e))
-    (λ e. not_to (sym e)))) in
-    omega (arith, change, load_by_machine st.tables st.here, load_by_machine st.tables (shifted st.here p to))
-
-balances_change : (st : Situation) (p to : ℕ) → IsStart st p to →
-    balance_cost st.tables (shifted st.here p to) + (machine_balance st.tables st.here (machine_at st.here p)
-    + machine_balance st.tables st.here to) ≡ balance_cost st.tables st.here
-    + (machine_balance st.tables (shifted st.here p to) (machine_at st.here p) + machine_balance st.tables
-    (shifted st.here p to) to)
-balances_change st p to h =
-    let change = total_change_two (machine_count st.tables) (machine_at st.here p) to
-    (machine_balance st.tables (shifted st.here p to))
-    (machine_balance st.tables st.here) (h.fits.in_range p h.known) h.reach h.apart
-    (λ m within not_from not_to.
-    sym (balance_stays st.tables st.here p (record { 0 = to }) m h.formed h.fits h.known (λ e. not_from (sym e))
-    (λ e. not_to (sym e)))) in
-    omega (arith, change, balance_by_machine st.tables st.here, balance_by_machine st.tables (shifted st.here p to))
-
--- all four parts
-pub cost_changes : (st : Situation) (p to : ℕ) → IsStart st p to →
-    local_cost (record st { here = shifted st.here p to })
-    + (cost_of st.tables st.here (machine_at st.here p) + way_cost st.tables st.start p (machine_at st.here p)
-    + cost_of st.tables st.here to) ≡ local_cost st
-    + (cost_of st.tables (shifted st.here p to) (machine_at st.here p) + cost_of st.tables (shifted st.here p to) to
-    + way_cost st.tables st.start p to)
-unfolding local_cost cost_of way_cost
-cost_changes st p to h =
-    omega (
-      arith,
-      loads_change st p to h,
-      balances_change st p to h,
-      process_set st.tables st.start st.here p (record { 0 = to }) h.fits h.known,
-      machine_set st.tables st.start st.here p (record { 0 = to }) h.fits h.known,
-    )
-
 signed : (after before added taken : ℕ) → after + taken ≡ before + added →
     pos added -ℤ pos taken ≡ pos after -ℤ pos before
 signed after before added taken is = omega (arith, ints, is)
 
--- the change of the costs: what is added less what is taken away
-pub change_is : (st : Situation) (p to without before with way here : ℕ) → IsStart st p to →
-    without ≡ row_cost_with st.tables (machine_at st.here p) (use_without st.tables st.here p) →
-    before ≡ cost_of st.tables st.here (machine_at st.here p) + way_cost st.tables st.start p
-    (machine_at st.here p) → with ≡ row_cost_with st.tables to (use_with st.tables st.here p to) →
-    way ≡ way_cost st.tables st.start p to → here ≡ cost_of st.tables st.here to →
-    pos (without + with + way) -ℤ pos (before + here) ≡ local_change st (leaving st.here p to ∷ [])
-unfolding local_change
-change_is st p to without before with way here h without_is before_is with_is way_is here_is =
-    let left : without ≡ cost_of st.tables (shifted st.here p to) (machine_at st.here p) =
-    without_is ∙ sym (cost_left st p to h) in
-    let entered : with ≡ cost_of st.tables (shifted st.here p to) to = with_is ∙ sym (cost_entered st p to h) in
-    let b = applied st.here (leaving st.here p to ∷ []) in
-    let same = ap (λ (c : List Machine). local_cost (record st { here = c })) (applied_one st.here p to) in
-    signed (local_cost (record st { here = b })) (local_cost st) (without + with + way) (before + here)
-    (omega (arith, cost_changes st p to h, left, entered, before_is, way_is, here_is, same))
+module _ (st : Situation) (p to : ℕ) where
+  pub cost_entered : IsStart st p to →
+      cost_of st.tables (shifted st.here p to) to ≡ row_cost_with st.tables to (use_with st.tables st.here p to)
+  unfolding use_with
+  cost_entered h = cost_by_row st.tables (shifted st.here p to) to
+      ∙ row_cost_same st.tables to (use_of st.tables (shifted st.here p to) to) (use_with st.tables st.here p to) h.formed
+      (λ r within. use_entered st p to r h)
 
--- moved counts
-pub moved_mine : (st : Situation) (p to : ℕ) → IsAssignment st.tables st.here → p < process_count st.tables →
-    moved_at (record st { here = shifted st.here p to }) (service_of st.tables p) + away (machine_at st.start p)
-    (machine_at st.here p) ≡
-    moved_at st (service_of st.tables p) + away (machine_at st.start p) to
-unfolding moved_of away
-moved_mine st p to fits within =
-    omega (
-      arith,
-      members_mine st.tables st.here p to (service_of st.tables p)
-          (λ q at. cond (eqb (machine_at st.start q) at) false true) fits
-          within refl,
-      away_is (eqb (machine_at st.start p) (machine_at st.here p)),
-      away_is (eqb (machine_at st.start p) to),
-    )
-  where
-    away_is : (t : Bool) → one_if (cond t false true) ≡ one_if (not t)
-    away_is true = refl
-    away_is false = refl
+  pub cost_left : IsStart st p to →
+      cost_of st.tables (shifted st.here p to) (machine_at st.here p) ≡ row_cost_with st.tables (machine_at st.here p)
+      (use_without st.tables st.here p)
+  unfolding use_without
+  cost_left h = cost_by_row st.tables (shifted st.here p to) (machine_at st.here p)
+      ∙ row_cost_same st.tables (machine_at st.here p) (use_of st.tables (shifted st.here p to) (machine_at st.here p))
+      (use_without st.tables st.here p) h.formed
+      (λ r within. omega (arith, use_left st p to r h))
 
-pub moved_after : (st : Situation) (p to s before gone come : ℕ) → IsAssignment st.tables st.here →
-    p < process_count st.tables → s ≡ service_of st.tables p → before ≡ moved_at st s →
-    gone ≡ away (machine_at st.start p) (machine_at st.here p) → come ≡ away (machine_at st.start p) to →
-    (gone ≤ before + come)
-    × (before + come - gone ≡ moved_at (record st { here = shifted st.here p to }) s)
-moved_after st p to s before gone come fits within s_is before_is gone_is come_is =
-    let change = moved_mine st p to fits within in
-    let was = ap (moved_at st) s_is in
-    let then = ap (moved_at (record st { here = shifted st.here p to })) s_is in (
-      omega (arith, change, was, before_is, gone_is, come_is),
-      omega (arith, change, was, then, before_is, gone_is, come_is),
-    )
+  -- load and balance cost
+  loads_change : IsStart st p to →
+      load_cost st.tables (shifted st.here p to) + (machine_load st.tables st.here (machine_at st.here p)
+      + machine_load st.tables st.here to) ≡ load_cost st.tables st.here
+      + (machine_load st.tables (shifted st.here p to) (machine_at st.here p) + machine_load st.tables
+      (shifted st.here p to) to)
+  loads_change h =
+      let change = total_change_two (machine_count st.tables) (machine_at st.here p) to
+      (machine_load st.tables (shifted st.here p to))
+      (machine_load st.tables st.here) (h.fits.in_range p h.known) h.reach h.apart
+      (λ m within not_from not_to.
+      sym (load_stays st.tables st.here p (record { 0 = to }) m h.fits h.known (λ e. not_from (sym e))
+      (λ e. not_to (sym e)))) in
+      omega (arith, change, load_by_machine st.tables st.here, load_by_machine st.tables (shifted st.here p to))
 
-pub moved_is : (st : Situation) (p to before after : ℕ) (service : Service) →
-    service.0 ≡ service_of st.tables p → before ≡ moved_at st service.0 →
-    after ≡ moved_at (record st { here = shifted st.here p to }) service.0 →
-    record {
-      service = service;
-      before = before;
-      after = after;
-    } ≡ moved_count st (leaving st.here p to ∷ []) (service_of st.tables p)
-unfolding moved_count
-moved_is st p to before after service s_is before_is after_is =
-    let made = λ (s : ℕ) (x y : ℕ). let count : MovedCount = record {
-      service = record { 0 = s };
-      before = x;
-      after = y;
-    } in count in
-    let there = ap (λ (b : List Machine). moved_at (record st { here = b }) (service_of st.tables p))
-    (applied_one st.here p to) in
-    ap (λ (s : ℕ). made s before after) s_is
-    ∙ ap (λ (x : ℕ). made (service_of st.tables p) x after) (before_is ∙ ap (moved_at st) s_is)
-    ∙ ap (made (service_of st.tables p) (moved_at st (service_of st.tables p)))
-    (after_is ∙ ap (moved_at (record st { here = shifted st.here p to })) s_is
-    ∙ sym there)
+  balances_change : IsStart st p to →
+      balance_cost st.tables (shifted st.here p to) + (machine_balance st.tables st.here (machine_at st.here p)
+      + machine_balance st.tables st.here to) ≡ balance_cost st.tables st.here
+      + (machine_balance st.tables (shifted st.here p to) (machine_at st.here p) + machine_balance st.tables
+      (shifted st.here p to) to)
+  balances_change h =
+      let change = total_change_two (machine_count st.tables) (machine_at st.here p) to
+      (machine_balance st.tables (shifted st.here p to))
+      (machine_balance st.tables st.here) (h.fits.in_range p h.known) h.reach h.apart
+      (λ m within not_from not_to.
+      sym (balance_stays st.tables st.here p (record { 0 = to }) m h.formed h.fits h.known (λ e. not_from (sym e))
+      (λ e. not_to (sym e)))) in
+      omega (arith, change, balance_by_machine st.tables st.here, balance_by_machine st.tables (shifted st.here p to))
 
-one_count : (st : Situation) (p to : ℕ) → changed_count st (leaving st.here p to ∷ []) 0 ≡
-    Some (moved_count st (leaving st.here p to ∷ []) (service_of st.tables p))
-unfolding changed_count count_at services_moved is_new_service service_in is_named process_in step_at leaving
-one_count st p to = refl
+  -- all four parts
+  pub cost_changes : IsStart st p to →
+      local_cost (record st { here = shifted st.here p to })
+      + (cost_of st.tables st.here (machine_at st.here p) + way_cost st.tables st.start p (machine_at st.here p)
+      + cost_of st.tables st.here to) ≡ local_cost st
+      + (cost_of st.tables (shifted st.here p to) (machine_at st.here p) + cost_of st.tables (shifted st.here p to) to
+      + way_cost st.tables st.start p to)
+  unfolding local_cost cost_of way_cost
+  cost_changes h =
+      omega (
+        arith,
+        loads_change h,
+        balances_change h,
+        process_set st.tables st.start st.here p (record { 0 = to }) h.fits h.known,
+        machine_set st.tables st.start st.here p (record { 0 = to }) h.fits h.known,
+      )
 
-no_second : (st : Situation) (p to : ℕ) → changed_count st (leaving st.here p to ∷ []) 1 ≡ None
-unfolding changed_count count_at services_moved is_new_service is_named
-no_second st p to = refl
+  -- the change of the costs: what is added less what is taken away
+  pub change_is : (without before with way here : ℕ) → IsStart st p to →
+      without ≡ row_cost_with st.tables (machine_at st.here p) (use_without st.tables st.here p) →
+      before ≡ cost_of st.tables st.here (machine_at st.here p) + way_cost st.tables st.start p
+      (machine_at st.here p) → with ≡ row_cost_with st.tables to (use_with st.tables st.here p to) →
+      way ≡ way_cost st.tables st.start p to → here ≡ cost_of st.tables st.here to →
+      pos (without + with + way) -ℤ pos (before + here) ≡ local_change st (leaving st.here p to ∷ [])
+  unfolding local_change
+  change_is without before with way here h without_is before_is with_is way_is here_is =
+      let left : without ≡ cost_of st.tables (shifted st.here p to) (machine_at st.here p) =
+      without_is ∙ sym (cost_left h) in
+      let entered : with ≡ cost_of st.tables (shifted st.here p to) to = with_is ∙ sym (cost_entered h) in
+      let b = applied st.here (leaving st.here p to ∷ []) in
+      let same = ap (λ (c : List Machine). local_cost (record st { here = c })) (applied_one st.here p to) in
+      signed (local_cost (record st { here = b })) (local_cost st) (without + with + way) (before + here)
+      (omega (arith, cost_changes h, left, entered, before_is, way_is, here_is, same))
 
-no_third : (st : Situation) (p to : ℕ) → changed_count st (leaving st.here p to ∷ []) 2 ≡ None
-unfolding changed_count count_at services_moved is_new_service is_named
-no_third st p to = refl
+  -- moved counts
+  pub moved_mine : IsAssignment st.tables st.here → p < process_count st.tables →
+      moved_at (record st { here = shifted st.here p to }) (service_of st.tables p) + away (machine_at st.start p)
+      (machine_at st.here p) ≡
+      moved_at st (service_of st.tables p) + away (machine_at st.start p) to
+  unfolding moved_of away
+  moved_mine fits within =
+      omega (
+        arith,
+        members_mine st.tables st.here p to (service_of st.tables p)
+            (λ q at. cond (eqb (machine_at st.start q) at) false true) fits
+            within refl,
+        away_is (eqb (machine_at st.start p) (machine_at st.here p)),
+        away_is (eqb (machine_at st.start p) to),
+      )
+    where
+      away_is : (t : Bool) → one_if (cond t false true) ≡ one_if (not t)
+      away_is true = refl
+      away_is false = refl
 
--- the weighing of a shift that breaks nothing
-pub weighed_is : (st : Situation) (p to : ℕ) (local : ℤ) (count : MovedCount) →
-    broken_by st (leaving st.here p to ∷ []) ≡ None → local ≡ local_change st (leaving st.here p to ∷ []) →
-    count ≡ moved_count st (leaving st.here p to ∷ []) (service_of st.tables p) → record {
-      broken = None;
-      local = local;
-      first = Some count;
-      second = None;
-      third = None;
-    } ≡ weighed_of st (leaving st.here p to ∷ [])
-unfolding weighed_of weighed_by
-weighed_is st p to local count none local_is count_is =
-    rw (none, one_count st p to, no_second st p to, no_third st p to, local_is, count_is) refl
+  pub moved_after : (s before gone come : ℕ) → IsAssignment st.tables st.here →
+      p < process_count st.tables → s ≡ service_of st.tables p → before ≡ moved_at st s →
+      gone ≡ away (machine_at st.start p) (machine_at st.here p) → come ≡ away (machine_at st.start p) to →
+      (gone ≤ before + come)
+      × (before + come - gone ≡ moved_at (record st { here = shifted st.here p to }) s)
+  moved_after s before gone come fits within s_is before_is gone_is come_is =
+      let change = moved_mine fits within in
+      let was = ap (moved_at st) s_is in
+      let then = ap (moved_at (record st { here = shifted st.here p to })) s_is in (
+        omega (arith, change, was, before_is, gone_is, come_is),
+        omega (arith, change, was, then, before_is, gone_is, come_is),
+      )
+
+  pub moved_is : (before after : ℕ) (service : Service) →
+      service.0 ≡ service_of st.tables p → before ≡ moved_at st service.0 →
+      after ≡ moved_at (record st { here = shifted st.here p to }) service.0 →
+      record {
+        service = service;
+        before = before;
+        after = after;
+      } ≡ moved_count st (leaving st.here p to ∷ []) (service_of st.tables p)
+  unfolding moved_count
+  moved_is before after service s_is before_is after_is =
+      let made = λ (s : ℕ) (x y : ℕ). let count : MovedCount = record {
+        service = record { 0 = s };
+        before = x;
+        after = y;
+      } in count in
+      let there = ap (λ (b : List Machine). moved_at (record st { here = b }) (service_of st.tables p))
+      (applied_one st.here p to) in
+      ap (λ (s : ℕ). made s before after) s_is
+      ∙ ap (λ (x : ℕ). made (service_of st.tables p) x after) (before_is ∙ ap (moved_at st) s_is)
+      ∙ ap (made (service_of st.tables p) (moved_at st (service_of st.tables p)))
+      (after_is ∙ ap (moved_at (record st { here = shifted st.here p to })) s_is
+      ∙ sym there)
+
+  one_count : changed_count st (leaving st.here p to ∷ []) 0 ≡
+      Some (moved_count st (leaving st.here p to ∷ []) (service_of st.tables p))
+  unfolding changed_count count_at services_moved is_new_service service_in is_named process_in step_at leaving
+  one_count = refl
+
+  no_second : changed_count st (leaving st.here p to ∷ []) 1 ≡ None
+  unfolding changed_count count_at services_moved is_new_service is_named
+  no_second = refl
+
+  no_third : changed_count st (leaving st.here p to ∷ []) 2 ≡ None
+  unfolding changed_count count_at services_moved is_new_service is_named
+  no_third = refl
+
+  -- the weighing of a shift that breaks nothing
+  pub weighed_is : (local : ℤ) (count : MovedCount) →
+      broken_by st (leaving st.here p to ∷ []) ≡ None → local ≡ local_change st (leaving st.here p to ∷ []) →
+      count ≡ moved_count st (leaving st.here p to ∷ []) (service_of st.tables p) → record {
+        broken = None;
+        local = local;
+        first = Some count;
+        second = None;
+        third = None;
+      } ≡ weighed_of st (leaving st.here p to ∷ [])
+  unfolding weighed_of weighed_by
+  weighed_is local count none local_is count_is =
+      rw (none, one_count, no_second, no_third, local_is, count_is) refl
 
 -- bounds
 pub cost_small : (i : Tables) (a : List Machine) (m : ℕ) → WellFormed i → Small i →

@@ -28,24 +28,6 @@ use Rattle.ra_shift.proofs.MemberLaws.{members_other}
 use Rattle.ra_shift.proofs.AllowLaws.{at_of, start_of, allowed, applied_one, apart_after}
 use Rattle.ra_shift.proofs.ChangeLaws.{cost_changes, cost_entered, cost_left, moved_mine}
 
--- one resource: what comes above the safety capacity
-share_comes : (i : Tables) (a : List Machine) (p m r : ℕ) → load_share i m (use_with i a p m) r ≡
-    load_share i m (use_of i a m) r + (load_asked i p r - load_row i a m r)
-unfolding load_share use_with load_asked load_row
-share_comes i a p m r =
-    let w = load_weight_of i r in
-    let u = use_of i a m r in
-    let q = requirement_of i p r in
-    let s = safety_of i m r in
-    omega (arith, mul-sub w (u + q) s, mul-sub w u s, mul-sub w s u)
-
--- what a process adds to the load cost of a machine
-pub load_comes : (i : Tables) (a : List Machine) (p m : ℕ) → row_load i m (use_with i a p m) ≡ machine_load i a m
-    + load_above i a p m
-unfolding row_load machine_load load_above
-load_comes i a p m = total_same (resource_count i) _ _ (λ r within. share_comes i a p m r)
-    ∙ total_of_sum (resource_count i) (load_share i m (use_of i a m)) (λ r. load_asked i p r - load_row i a m r)
-
 -- one objective, over plain numbers: y of x comes, and q of a
 lack_comes : (x y a q : ℕ) → y ≤ x → q ≤ a →
     (x - y - (a - q)) + (y - q) ≡ (x - a) + ((y - q - (x - a)) + (q - y - (a - x)))
@@ -57,49 +39,63 @@ weighed_comes w x y a q first second =
     let whole = ap (λ n. w * n) (lack_comes x y a q first second) in
     omega (arith, whole, mul-sub w (y - q) (x - a), mul-sub w (q - y) (a - x))
 
--- what is left of a resource of a machine that a process enters
-left_with : (i : Tables) (a : List Machine) (p m r : ℕ) → row_left i m (use_with i a p m) r ≡ available i a m r
-    - requirement_of i p r
-unfolding row_left use_with available
-left_with i a p m r = omega arith
-
-room_left : (i : Tables) (a : List Machine) (p m r : ℕ) → HasRoom i a p m → r < resource_count i →
-    requirement_of i p r ≤ available i a m r
-unfolding available
-room_left i a p m r room within = omega (arith, room.each r within)
-
-balance_comes_at : (i : Tables) (a : List Machine) (p m b : ℕ) → WellFormed i → HasRoom i a p m → b < balance_count i →
-    balance_share i m (use_with i a p m) b + first_asked i p b ≡ balance_share i m (use_of i a m) b
-    + ((first_asked i p b - first_row i a m b) + (second_asked i p b - second_row i a m b))
-unfolding balance_share first_asked first_row second_asked second_row row_left available
-balance_comes_at i a p m b limits room within =
-    let w = balance_weight_of i b in
-    let t = target_of i b in
-    let one = first_of i b in
-    let two = second_of i b in
-    let a1 = available i a m one in
-    let a2 = available i a m two in
-    let q1 = requirement_of i p one in
-    let q2 = requirement_of i p two in
-    let first_room = room_left i a p m one room (limits.firsts b within) in
-    let second_room = room_left i a p m two room (limits.seconds b within) in
-    let same = ap₂ (λ x y. w * (t * x - y)) (left_with i a p m one) (left_with i a p m two) in
-    let spread = ap (λ x. w * (x - (a2 - q2))) (mul-sub t a1 q1) in
-    let law = weighed_comes w (t * a1) (t * q1) a2 q2 (mul-le-mul_left t first_room) second_room in
-    ap (λ x. x + w * (t * q1 - q2)) (same ∙ spread) ∙ law
-
--- what a process with room adds to the balance cost of a machine
-pub balance_comes : (i : Tables) (a : List Machine) (p m : ℕ) → WellFormed i → HasRoom i a p m →
-    row_balance i m (use_with i a p m) + saved i p ≡ machine_balance i a m + balance_above i a p m
-unfolding row_balance machine_balance saved balance_above
-balance_comes i a p m limits room =
-    total_balance (balance_count i) _ _ _ _ (λ b within. balance_comes_at i a p m b limits room within)
-
--- both costs of the machine that is entered
-cost_comes : (i : Tables) (a : List Machine) (p m : ℕ) → WellFormed i → HasRoom i a p m →
-    row_cost_with i m (use_with i a p m) + saved i p ≡ cost_of i a m + load_above i a p m + balance_above i a p m
-unfolding row_cost_with cost_of
-cost_comes i a p m limits room = omega (arith, load_comes i a p m, balance_comes i a p m limits room)
+module _ (i : Tables) (a : List Machine) (p m : ℕ) where
+  module _ (r : ℕ) where
+    -- one resource: what comes above the safety capacity
+    share_comes : load_share i m (use_with i a p m) r ≡
+        load_share i m (use_of i a m) r + (load_asked i p r - load_row i a m r)
+    unfolding load_share use_with load_asked load_row
+    share_comes =
+        let w = load_weight_of i r in
+        let u = use_of i a m r in
+        let q = requirement_of i p r in
+        let s = safety_of i m r in
+        omega (arith, mul-sub w (u + q) s, mul-sub w u s, mul-sub w s u)
+    -- what is left of a resource of a machine that a process enters
+    left_with : row_left i m (use_with i a p m) r ≡ available i a m r
+        - requirement_of i p r
+    unfolding row_left use_with available
+    left_with = omega arith
+    room_left : HasRoom i a p m → r < resource_count i →
+        requirement_of i p r ≤ available i a m r
+    unfolding available
+    room_left room within = omega (arith, room.each r within)
+  -- what a process adds to the load cost of a machine
+  pub load_comes : row_load i m (use_with i a p m) ≡ machine_load i a m
+      + load_above i a p m
+  unfolding row_load machine_load load_above
+  load_comes = total_same (resource_count i) _ _ (λ r within. share_comes r)
+      ∙ total_of_sum (resource_count i) (load_share i m (use_of i a m)) (λ r. load_asked i p r - load_row i a m r)
+  balance_comes_at : (b : ℕ) → WellFormed i → HasRoom i a p m → b < balance_count i →
+      balance_share i m (use_with i a p m) b + first_asked i p b ≡ balance_share i m (use_of i a m) b
+      + ((first_asked i p b - first_row i a m b) + (second_asked i p b - second_row i a m b))
+  unfolding balance_share first_asked first_row second_asked second_row row_left available
+  balance_comes_at b limits room within =
+      let w = balance_weight_of i b in
+      let t = target_of i b in
+      let one = first_of i b in
+      let two = second_of i b in
+      let a1 = available i a m one in
+      let a2 = available i a m two in
+      let q1 = requirement_of i p one in
+      let q2 = requirement_of i p two in
+      let first_room = room_left one room (limits.firsts b within) in
+      let second_room = room_left two room (limits.seconds b within) in
+      let same = ap₂ (λ x y. w * (t * x - y)) (left_with one) (left_with two) in
+      let spread = ap (λ x. w * (x - (a2 - q2))) (mul-sub t a1 q1) in
+      let law = weighed_comes w (t * a1) (t * q1) a2 q2 (mul-le-mul_left t first_room) second_room in
+      ap (λ x. x + w * (t * q1 - q2)) (same ∙ spread) ∙ law
+  -- what a process with room adds to the balance cost of a machine
+  pub balance_comes : WellFormed i → HasRoom i a p m →
+      row_balance i m (use_with i a p m) + saved i p ≡ machine_balance i a m + balance_above i a p m
+  unfolding row_balance machine_balance saved balance_above
+  balance_comes limits room =
+      total_balance (balance_count i) _ _ _ _ (λ b within. balance_comes_at b limits room within)
+  -- both costs of the machine that is entered
+  cost_comes : WellFormed i → HasRoom i a p m →
+      row_cost_with i m (use_with i a p m) + saved i p ≡ cost_of i a m + load_above i a p m + balance_above i a p m
+  unfolding row_cost_with cost_of
+  cost_comes limits room = omega (arith, load_comes, balance_comes limits room)
 
 -- the costs of a way that doesn't end at home
 way_away : (i : Tables) (a0 : List Machine) (p to : ℕ) → machine_at a0 p ≢ to →
@@ -115,174 +111,207 @@ counts_away : (home to : ℕ) → home ≢ to → away home to ≡ 1
 unfolding away
 counts_away home to apart = ap (λ t. one_if (not t)) (ne_eqb home to apart)
 
-moved_other : (st : Situation) (p to s : ℕ) → IsAssignment st.tables st.here → p < process_count st.tables →
-    service_of st.tables p ≢ s → moved_at (record st { here = shifted st.here p to }) s ≡ moved_at st s
-unfolding moved_of
-moved_other st p to s fits within other = members_other st.tables st.here p to s _ fits within other
-
-pub away_mine : (st : Situation) (p n s : ℕ) → s ≡ service_of st.tables p →
-    n ≡ moved_at st (service_of st.tables p) + 1 - away (machine_at st.start p) (machine_at st.here p) →
-    n ≡ moved_away st p s
-unfolding moved_away
-away_mine st p n s mine is = is ∙ ap (λ k. moved_at st k + 1 - away (machine_at st.start p) (machine_at st.here p))
-    (sym mine) ∙ sym (cond-true (eqb s (service_of st.tables p)) _ _ (eq-eqb s (service_of st.tables p) mine))
-
-pub away_other : (st : Situation) (p n s : ℕ) → s ≢ service_of st.tables p → n ≡ moved_at st s →
-    n ≡ moved_away st p s
-unfolding moved_away
-away_other st p n s other is =
-    is ∙ sym (cond-false (eqb s (service_of st.tables p)) _ (moved_at st s) (ne_eqb s (service_of st.tables p) other))
-
-pub moved_once_away : (st : Situation) (p to s : ℕ) → IsAssignment st.tables st.here → p < process_count st.tables →
-    machine_at st.start p ≢ to → moved_at (record st { here = shifted st.here p to }) s ≡ moved_away st p s
-moved_once_away st p to s fits within apart = ⊎_elim
-    (λ (mine : s ≡ service_of st.tables p).
-    let change = moved_mine st p to fits within in
-    let one = counts_away (machine_at st.start p) to apart in
-    let same = ap (moved_at (record st { here = shifted st.here p to })) mine in
-    away_mine st p (moved_at (record st { here = shifted st.here p to }) s) s mine (omega (arith, change, one, same)))
-    (λ (other : s ≢ service_of st.tables p).
-    away_other st p _ s other (moved_other st p to s fits within (λ same. other (sym same))))
-    (cases_eq s (service_of st.tables p))
-
--- none is above the number of all processes
-pub moved_away_few : (st : Situation) (p s : ℕ) → IsAssignment st.tables st.here → p < process_count st.tables →
-    moved_away st p s ≤ process_count st.tables
-moved_away_few st p s fits within =
-    omega (
-      arith,
-      moved_within st.tables st.start (shifted st.here p (machine_at st.start p + 1)) s,
-      moved_once_away st p (machine_at st.start p + 1) s fits within (λ same. absurd (omega (arith, same))),
-    )
-
-service_then : (st : Situation) (p to : ℕ) → IsAssignment st.tables st.here → p < process_count st.tables →
-    machine_at st.start p ≢ to → service_cost_at (record st { here = shifted st.here p to }) ≡ service_away st p
-unfolding service_cost service_away
-service_then st p to fits within apart =
-    ap (λ x. service_weight_of st.tables * x)
-    (greatest_same (service_count st.tables) (moved_at (record st { here = shifted st.here p to })) (moved_away st p)
-    (λ s h. moved_once_away st p to s fits within apart))
-
 objective_parts : (st : Situation) → cost_at st ≡ local_cost st + service_cost_at st
 unfolding objective local_cost
 objective_parts st = omega arith
 
--- the whole change
-pub filtered : (st : Situation) (p to : ℕ) → IsStart st p to → HasRoom st.tables st.here p to →
-    machine_at st.start p ≢ to → IsFiltered st p to
-unfolding base_added base_taken filter_sum
-filtered st p to h room apart = record {
-  cost = omega (
-    arith,
-    cost_changes st p to h,
-    cost_entered st p to h,
-    cost_left st p to h,
-    cost_comes st.tables st.here p to h.formed room,
-    way_away st.tables st.start p to apart,
-    service_then st p to h.fits h.known apart,
-    objective_parts st,
-    objective_parts (record st { here = shifted st.here p to }),
-  );
-}
-
--- in a world
-pub filtered_at : (w : Situation) (p to : ℕ) → IsSound w → p < process_count w.tables →
-    to < machine_count w.tables →
-    BreaksNothing w p to → machine_at w.start p ≢ to → cost_after w p to + cost_taken w p ≡ cost_added w p
-    + sum_at w p to
-filtered_at w p to sound known reach free apart =
-    let at = at_of w p to sound known reach in
-    let allows = allowed w p to at free in
-    let law = filtered w p to (start_of w p to at allows.apart) allows.room apart in
-    ap (λ b. cost_at (record w { here = b }) + base_taken w p) (applied_one w.here p to) ∙ law.cost
-
--- and if p comes home
-pub home_change : (st : Situation) (p to : ℕ) → IsStart st p to →
-    cost_at (record st { here = shifted st.here p to })
-    + (cost_of st.tables st.here (machine_at st.here p) + way_cost st.tables st.start p (machine_at st.here p)
-    + cost_of st.tables st.here to + service_cost_at st) ≡
-    cost_at st + (row_cost_with st.tables (machine_at st.here p) (use_without st.tables st.here p)
-    + row_cost_with st.tables to (use_with st.tables st.here p to)
-    + way_cost st.tables st.start p to + service_cost_at (record st { here = shifted st.here p to }))
-home_change st p to h = omega (
-  arith,
-  cost_changes st p to h,
-  cost_entered st p to h,
-  cost_left st p to h,
-  objective_parts st,
-  objective_parts (record st { here = shifted st.here p to }),
-)
-
-pub home_at : (w : Situation) (p to kept without before now with way here service : ℕ) → IsSound w →
-    p < process_count w.tables → to < machine_count w.tables → BreaksNothing w p to →
-    kept ≡ cost_at w → without ≡ row_cost_with w.tables (machine_at w.here p)
-    (use_without w.tables w.here p) →
-    before ≡ cost_of w.tables w.here (machine_at w.here p)
-    + way_cost w.tables w.start p (machine_at w.here p) → now ≡ service_now w →
-    with ≡ row_cost_with w.tables to (use_with w.tables w.here p to) →
-    way ≡ way_cost w.tables w.start p to →
-    here ≡ cost_of w.tables w.here to →
-    service ≡ service_cost_at (record w { here = shifted w.here p to }) →
-    cost_after w p to + (before + here + now) ≡ kept + without + with + way + service
-home_at w p to kept without before now with way here service sound known reach free kept_is without_is before_is now_is
-    with_is way_is here_is service_is =
-    let at = at_of w p to sound known reach in
-    let law = home_change w p to (start_of w p to at (apart_after w p to free)) in
-    let after = ap (λ b. cost_at (record w { here = b })) (applied_one w.here p to) in
-    omega (arith, law, after, kept_is, without_is, before_is, now_is, with_is, way_is, here_is, service_is)
-
--- the moved count of another service stays
-pub count_stays : (st : Situation) (p to s : ℕ) → IsAssignment st.tables st.here → p < process_count st.tables →
-    s ≢ service_of st.tables p → moved_at st s ≡ moved_at (record st { here = shifted st.here p to }) s
-count_stays st p to s fits within other = sym (moved_other st p to s fits within (λ same. other (sym same)))
-
--- a machine that adds too much has no cost below the bound
-pub dear_cost : (w : Situation) (p to bound taken added room : ℕ) (sum cost : Option ℕ) → IsSound w →
-    p < process_count w.tables → to < machine_count w.tables → machine_at w.start p ≢ to →
-    taken ≡ cost_taken w p → added ≡ cost_added w p → room ≡ bound + taken - added → IsSumBelow w p to room sum →
-    sum ≡ None → cost ≡ None → IsCostBelow w p to bound cost
-dear_cost w p to bound taken added room sum cost sound known reach apart taken_is added_is room_is sums sum_none none =
-    rw none (record {
-      free = λ n is. absurd (cc);
-      found = λ n is. absurd (cc);
-      below = λ n is. absurd (cc);
-      none = λ _ free. omega (
+module _ (st : Situation) (p : ℕ) where
+  pub away_mine : (n s : ℕ) → s ≡ service_of st.tables p →
+      n ≡ moved_at st (service_of st.tables p) + 1 - away (machine_at st.start p) (machine_at st.here p) →
+      n ≡ moved_away st p s
+  unfolding moved_away
+  away_mine n s mine is = is ∙ ap (λ k. moved_at st k + 1 - away (machine_at st.start p) (machine_at st.here p))
+      (sym mine) ∙ sym (cond-true (eqb s (service_of st.tables p)) _ _ (eq-eqb s (service_of st.tables p) mine))
+  pub away_other : (n s : ℕ) → s ≢ service_of st.tables p → n ≡ moved_at st s →
+      n ≡ moved_away st p s
+  unfolding moved_away
+  away_other n s other is =
+      is ∙ sym (cond-false (eqb s (service_of st.tables p)) _ (moved_at st s) (ne_eqb s (service_of st.tables p) other))
+  module _ (to : ℕ) where
+    module _ (s : ℕ) where
+      moved_other : IsAssignment st.tables st.here → p < process_count st.tables →
+          service_of st.tables p ≢ s → moved_at (record st { here = shifted st.here p to }) s ≡ moved_at st s
+      unfolding moved_of
+      moved_other fits within other = members_other st.tables st.here p to s _ fits within other
+      pub moved_once_away : IsAssignment st.tables st.here → p < process_count st.tables →
+          machine_at st.start p ≢ to → moved_at (record st { here = shifted st.here p to }) s ≡ moved_away st p s
+      moved_once_away fits within apart = ⊎_elim
+          (λ (mine : s ≡ service_of st.tables p).
+          let change = moved_mine st p to fits within in
+          let one = counts_away (machine_at st.start p) to apart in
+          let same = ap (moved_at (record st { here = shifted st.here p to })) mine in
+          away_mine (moved_at (record st { here = shifted st.here p to }) s) s mine (omega (arith, change, one, same)))
+          (λ (other : s ≢ service_of st.tables p).
+          away_other _ s other (moved_other fits within (λ same. other (sym same))))
+          (cases_eq s (service_of st.tables p))
+      -- the moved count of another service stays
+      pub count_stays : IsAssignment st.tables st.here → p < process_count st.tables →
+          s ≢ service_of st.tables p → moved_at st s ≡ moved_at (record st { here = shifted st.here p to }) s
+      count_stays fits within other = sym (moved_other fits within (λ same. other (sym same)))
+    service_then : IsAssignment st.tables st.here → p < process_count st.tables →
+        machine_at st.start p ≢ to → service_cost_at (record st { here = shifted st.here p to }) ≡ service_away st p
+    unfolding service_cost service_away
+    service_then fits within apart =
+        ap (λ x. service_weight_of st.tables * x)
+        (greatest_same (service_count st.tables) (moved_at (record st { here = shifted st.here p to })) (moved_away st p)
+        (λ s h. moved_once_away s fits within apart))
+    -- the whole change
+    pub filtered : IsStart st p to → HasRoom st.tables st.here p to →
+        machine_at st.start p ≢ to → IsFiltered st p to
+    unfolding base_added base_taken filter_sum
+    filtered h room apart = record {
+      cost = omega (
         arith,
-        filtered_at w p to sound known reach free apart,
-        taken_is,
-        added_is,
-        room_is,
-        sums.none sum_none,
+        cost_changes st p to h,
+        cost_entered st p to h,
+        cost_left st p to h,
+        cost_comes st.tables st.here p to h.formed room,
+        way_away st.tables st.start p to apart,
+        service_then h.fits h.known apart,
+        objective_parts st,
+        objective_parts (record st { here = shifted st.here p to }),
       );
-    })
-
--- nor has one if the shift breaks something
-pub broken_cost : (w : Situation) (p to bound : ℕ) → (BreaksNothing w p to → ⊥) → IsCostBelow w p to bound None
-broken_cost w p to bound broken = record {
-  free = λ n is. absurd (cc);
-  found = λ n is. absurd (cc);
-  below = λ n is. absurd (cc);
-  none = λ _ free. absurd (broken free);
-}
-
--- one that adds a sum below what is left has that cost
-pub summed_cost : (w : Situation) (p to bound taken added room n : ℕ) (sum : Option ℕ) → IsSound w →
-    p < process_count w.tables → to < machine_count w.tables → machine_at w.start p ≢ to →
-    taken ≡ cost_taken w p → added ≡ cost_added w p → room ≡ bound + taken - added → IsSumBelow w p to room sum →
-    sum ≡ Some n → BreaksNothing w p to → (taken ≤ added + n) × IsCostBelow w p to bound (Some (added + n - taken))
-summed_cost w p to bound taken added room n sum sound known reach apart taken_is added_is room_is sums sum_is free =
-    let law = filtered_at w p to sound known reach free apart in
-    let here = sums.found n sum_is in
-    let low = sums.below n sum_is in (
-      omega (arith, law, here, taken_is, added_is),
-      record {
-        free = λ k is. free;
-        found = λ k is. let same : added + n - taken ≡ k = cc in omega (arith, same, law, here, taken_is, added_is);
-        below = λ k is. let same : added + n - taken ≡ k = cc in
-            omega (arith, same, law, here, low, room_is, taken_is, added_is);
-        none = λ is. absurd (cc);
-      },
+    }
+    -- and if p comes home
+    pub home_change : IsStart st p to →
+        cost_at (record st { here = shifted st.here p to })
+        + (cost_of st.tables st.here (machine_at st.here p) + way_cost st.tables st.start p (machine_at st.here p)
+        + cost_of st.tables st.here to + service_cost_at st) ≡
+        cost_at st + (row_cost_with st.tables (machine_at st.here p) (use_without st.tables st.here p)
+        + row_cost_with st.tables to (use_with st.tables st.here p to)
+        + way_cost st.tables st.start p to + service_cost_at (record st { here = shifted st.here p to }))
+    home_change h = omega (
+      arith,
+      cost_changes st p to h,
+      cost_entered st p to h,
+      cost_left st p to h,
+      objective_parts st,
+      objective_parts (record st { here = shifted st.here p to }),
     )
+  -- none is above the number of all processes
+  pub moved_away_few : (s : ℕ) → IsAssignment st.tables st.here → p < process_count st.tables →
+      moved_away st p s ≤ process_count st.tables
+  moved_away_few s fits within =
+      omega (
+        arith,
+        moved_within st.tables st.start (shifted st.here p (machine_at st.start p + 1)) s,
+        moved_once_away (machine_at st.start p + 1) s fits within (λ same. absurd (omega (arith, same))),
+      )
+
+module _ (w : Situation) (p to : ℕ) where
+  -- in a world
+  pub filtered_at : IsSound w → p < process_count w.tables →
+      to < machine_count w.tables →
+      BreaksNothing w p to → machine_at w.start p ≢ to → cost_after w p to + cost_taken w p ≡ cost_added w p
+      + sum_at w p to
+  filtered_at sound known reach free apart =
+      let at = at_of w p to sound known reach in
+      let allows = allowed w p to at free in
+      let law = filtered w p to (start_of w p to at allows.apart) allows.room apart in
+      ap (λ b. cost_at (record w { here = b }) + base_taken w p) (applied_one w.here p to) ∙ law.cost
+
+  pub home_at : (kept without before now with way here service : ℕ) → IsSound w →
+      p < process_count w.tables → to < machine_count w.tables → BreaksNothing w p to →
+      kept ≡ cost_at w → without ≡ row_cost_with w.tables (machine_at w.here p)
+      (use_without w.tables w.here p) →
+      before ≡ cost_of w.tables w.here (machine_at w.here p)
+      + way_cost w.tables w.start p (machine_at w.here p) → now ≡ service_now w →
+      with ≡ row_cost_with w.tables to (use_with w.tables w.here p to) →
+      way ≡ way_cost w.tables w.start p to →
+      here ≡ cost_of w.tables w.here to →
+      service ≡ service_cost_at (record w { here = shifted w.here p to }) →
+      cost_after w p to + (before + here + now) ≡ kept + without + with + way + service
+  home_at kept without before now with way here service sound known reach free kept_is without_is before_is now_is
+      with_is way_is here_is service_is =
+      let at = at_of w p to sound known reach in
+      let law = home_change w p to (start_of w p to at (apart_after w p to free)) in
+      let after = ap (λ b. cost_at (record w { here = b })) (applied_one w.here p to) in
+      omega (arith, law, after, kept_is, without_is, before_is, now_is, with_is, way_is, here_is, service_is)
+
+  -- a machine that adds too much has no cost below the bound
+  pub dear_cost : (bound taken added room : ℕ) (sum cost : Option ℕ) → IsSound w →
+      p < process_count w.tables → to < machine_count w.tables → machine_at w.start p ≢ to →
+      taken ≡ cost_taken w p → added ≡ cost_added w p → room ≡ bound + taken - added → IsSumBelow w p to room sum →
+      sum ≡ None → cost ≡ None → IsCostBelow w p to bound cost
+  dear_cost bound taken added room sum cost sound known reach apart taken_is added_is room_is sums sum_none none =
+      rw none (record {
+        free = λ n is. absurd (cc);
+        found = λ n is. absurd (cc);
+        below = λ n is. absurd (cc);
+        none = λ _ free. omega (
+          arith,
+          filtered_at sound known reach free apart,
+          taken_is,
+          added_is,
+          room_is,
+          sums.none sum_none,
+        );
+      })
+
+  -- nor has one if the shift breaks something
+  pub broken_cost : (bound : ℕ) → (BreaksNothing w p to → ⊥) → IsCostBelow w p to bound None
+  broken_cost bound broken = record {
+    free = λ n is. absurd (cc);
+    found = λ n is. absurd (cc);
+    below = λ n is. absurd (cc);
+    none = λ _ free. absurd (broken free);
+  }
+
+  -- one that adds a sum below what is left has that cost
+  pub summed_cost : (bound taken added room n : ℕ) (sum : Option ℕ) → IsSound w →
+      p < process_count w.tables → to < machine_count w.tables → machine_at w.start p ≢ to →
+      taken ≡ cost_taken w p → added ≡ cost_added w p → room ≡ bound + taken - added → IsSumBelow w p to room sum →
+      sum ≡ Some n → BreaksNothing w p to → (taken ≤ added + n) × IsCostBelow w p to bound (Some (added + n - taken))
+  summed_cost bound taken added room n sum sound known reach apart taken_is added_is room_is sums sum_is free =
+      let law = filtered_at sound known reach free apart in
+      let here = sums.found n sum_is in
+      let low = sums.below n sum_is in (
+        omega (arith, law, here, taken_is, added_is),
+        record {
+          free = λ k is. free;
+          found = λ k is. let same : added + n - taken ≡ k = cc in omega (arith, same, law, here, taken_is, added_is);
+          below = λ k is. let same : added + n - taken ≡ k = cc in
+              omega (arith, same, law, here, low, room_is, taken_is, added_is);
+          none = λ is. absurd (cc);
+        },
+      )
+
+  pub sum_some : (bound sum : ℕ) → sum < bound → sum ≡ sum_at w p to →
+      IsSumBelow w p to bound (Some sum)
+  sum_some bound sum below is = record {
+    found = λ n some. let same : sum ≡ n = cc in omega (arith, same, is);
+    below = λ n some. let same : sum ≡ n = cc in omega (arith, same, below);
+    none = λ some. absurd (cc);
+  }
+
+  pub sum_parts : (weight cost way load balance : ℕ) → weight ≡ machine_weight_of w.tables →
+      cost ≡ way_cost_of w.tables (machine_at w.start p) to → way ≡ weight * cost →
+      load ≡ load_above w.tables w.here p to →
+      balance ≡ balance_above w.tables w.here p to → way + load + balance ≡ sum_at w p to
+  unfolding filter_sum
+  sum_parts weight cost way load balance weight_is cost_is way_is load_is balance_is =
+      ap₂ (λ x y. x + y) (ap₂ (λ x y. x + y) (way_is ∙ ap₂ (λ x y. x * y) weight_is cost_is) load_is) balance_is
+
+  -- what the machine itself adds, without the way to it, and the load alone
+  pub sum_without_way : (load balance : ℕ) →
+      load ≡ load_above w.tables w.here p to →
+      balance ≡ balance_above w.tables w.here p to → load + balance ≤ sum_at w p to
+  sum_without_way load balance load_is balance_is =
+      omega (
+        arith,
+        sum_parts (machine_weight_of w.tables)
+            (way_cost_of w.tables (machine_at w.start p) to)
+            (machine_weight_of w.tables * way_cost_of w.tables (machine_at w.start p) to)
+            load balance refl refl refl load_is balance_is,
+      )
+
+  pub sum_load : (load : ℕ) →
+      load ≡ load_above w.tables w.here p to → load ≤ sum_at w p to
+  sum_load load load_is =
+      omega (
+        arith,
+        sum_without_way load (balance_above w.tables w.here p to) load_is refl,
+      )
 
 -- the sum of a machine, if its parts are found
 pub sum_none : (w : Situation) (p to bound part : ℕ) → bound ≤ part → part ≤ sum_at w p to →
@@ -292,40 +321,3 @@ sum_none w p to bound part above within = record {
   below = λ n is. absurd (cc);
   none = λ _. omega (arith, above, within);
 }
-
-pub sum_some : (w : Situation) (p to bound sum : ℕ) → sum < bound → sum ≡ sum_at w p to →
-    IsSumBelow w p to bound (Some sum)
-sum_some w p to bound sum below is = record {
-  found = λ n some. let same : sum ≡ n = cc in omega (arith, same, is);
-  below = λ n some. let same : sum ≡ n = cc in omega (arith, same, below);
-  none = λ some. absurd (cc);
-}
-
-pub sum_parts : (w : Situation) (p to weight cost way load balance : ℕ) → weight ≡ machine_weight_of w.tables →
-    cost ≡ way_cost_of w.tables (machine_at w.start p) to → way ≡ weight * cost →
-    load ≡ load_above w.tables w.here p to →
-    balance ≡ balance_above w.tables w.here p to → way + load + balance ≡ sum_at w p to
-unfolding filter_sum
-sum_parts w p to weight cost way load balance weight_is cost_is way_is load_is balance_is =
-    ap₂ (λ x y. x + y) (ap₂ (λ x y. x + y) (way_is ∙ ap₂ (λ x y. x * y) weight_is cost_is) load_is) balance_is
-
--- what the machine itself adds, without the way to it, and the load alone
-pub sum_without_way : (w : Situation) (p to load balance : ℕ) →
-    load ≡ load_above w.tables w.here p to →
-    balance ≡ balance_above w.tables w.here p to → load + balance ≤ sum_at w p to
-sum_without_way w p to load balance load_is balance_is =
-    omega (
-      arith,
-      sum_parts w p to (machine_weight_of w.tables)
-          (way_cost_of w.tables (machine_at w.start p) to)
-          (machine_weight_of w.tables * way_cost_of w.tables (machine_at w.start p) to)
-          load balance refl refl refl load_is balance_is,
-    )
-
-pub sum_load : (w : Situation) (p to load : ℕ) →
-    load ≡ load_above w.tables w.here p to → load ≤ sum_at w p to
-sum_load w p to load load_is =
-    omega (
-      arith,
-      sum_without_way w p to load (balance_above w.tables w.here p to) load_is refl,
-    )

@@ -23,10 +23,74 @@ use Rattle.ra_shift.specs.Sharing.{AreRequired}
 pub more_sum : (n s x : ℕ) (f : ℕ → ℕ) → s ≡ total n f → x ≡ f n → s + x ≡ total (n + 1) f
 more_sum n s x f so_far here = ap₂ (λ u v. u + v) so_far here ∙ sym (total_more n f)
 
--- a row of the same instance
-pub row_in : (i j : Tables) (a : List Machine) (m : ℕ) (used : List ℕ) → j ≡ i → IsUsageRow j a m used →
-    IsUsageRow i a m used
-row_in i j a m used same row = rw same at row
+weighed_more : (w x q y a : ℕ) → w * ((x - q - (y - a)) + (q - x - (a - y))) ≡ (w * (x - q) - w * (y - a))
+    + (w * (q - x) - w * (a - y))
+weighed_more w x q y a = omega (arith, mul-sub w (x - q) (y - a), mul-sub w (q - x) (a - y))
+
+module _ (i : Tables) where
+  -- a row of the same instance
+  pub row_in : (j : Tables) (a : List Machine) (m : ℕ) (used : List ℕ) → j ≡ i → IsUsageRow j a m used →
+      IsUsageRow i a m used
+  row_in j a m used same row = rw same at row
+
+  pub load_more_is : (a : List Machine) (p m r used amount weight safety : ℕ) → used ≡ use_of i a m r →
+      amount ≡ requirement_of i p r → weight ≡ load_weight_of i r → safety ≡ safety_of i m r →
+      weight * (amount - (safety - used)) ≡ load_asked i p r - load_row i a m r
+  unfolding load_asked load_row
+  load_more_is a p m r used amount weight safety used_is amount_is weight_is safety_is =
+      rw (used_is, amount_is, weight_is, safety_is)
+      (mul-sub (load_weight_of i r) (requirement_of i p r) (safety_of i m r - use_of i a m r)
+      ∙ ap (λ x. load_weight_of i r * requirement_of i p r - x) refl)
+
+  module _ (p b : ℕ) where
+    -- the number at a resource of an objective
+    pub required_first : (row : BalanceRow) (required : List ℕ) → WellFormed i →
+        b < balance_count i → row ≡ balance_row i b → AreRequired i p required →
+        slice_index required row.first.0 ≡ requirement_of i p (first_of i b)
+    required_first row required limits within is are =
+        are.each row.first.0 (omega (arith, limits.firsts b within, first_read i b row is))
+        ∙ ap (requirement_of i p) (first_read i b row is)
+
+    pub required_second : (row : BalanceRow) (required : List ℕ) → WellFormed i →
+        b < balance_count i → row ≡ balance_row i b → AreRequired i p required → slice_index required row.second.0 ≡
+        requirement_of i p (second_of i b)
+    required_second row required limits within is are =
+        are.each row.second.0 (omega (arith, limits.seconds b within, second_read i b row is))
+        ∙ ap (requirement_of i p) (second_read i b row is)
+
+    pub saved_by_is : (weight target q1 q2 : ℕ) → weight ≡ balance_weight_of i b → target ≡ target_of i b →
+        q1 ≡ requirement_of i p (first_of i b) → q2 ≡ requirement_of i p (second_of i b) →
+        weight * (target * q1 - q2) ≡ first_asked i p b
+    unfolding first_asked
+    saved_by_is weight target q1 q2 weight_is target_is q1_is q2_is = rw (weight_is, target_is, q1_is, q2_is) refl
+
+    pub second_asked_is : (weight target q1 q2 : ℕ) → weight ≡ balance_weight_of i b →
+        target ≡ target_of i b → q1 ≡ requirement_of i p (first_of i b) → q2 ≡ requirement_of i p (second_of i b) →
+        weight * (q2 - target * q1) ≡ second_asked i p b
+    unfolding second_asked
+    second_asked_is weight target q1 q2 weight_is target_is q1_is q2_is = rw (weight_is, target_is, q1_is, q2_is) refl
+
+  -- what an objective has of its row
+  pub target_read : (b : ℕ) (row : BalanceRow) → row ≡ balance_row i b → row.target ≡ target_of i b
+  unfolding target_of
+  target_read b row is = ap (λ (r : BalanceRow). r.target) is
+
+  pub weight_read : (b : ℕ) (row : BalanceRow) → row ≡ balance_row i b → row.weight ≡ balance_weight_of i b
+  unfolding balance_weight_of
+  weight_read b row is = ap (λ (r : BalanceRow). r.weight) is
+
+  pub balance_more_is : (a : List Machine) (p m b weight target aim first second q1 q2 : ℕ) →
+      weight ≡ balance_weight_of i b → target ≡ target_of i b → aim ≡ target_of i b →
+      first ≡ available i a m (first_of i b) → second ≡ available i a m (second_of i b) →
+      q1 ≡ requirement_of i p (first_of i b) → q2 ≡ requirement_of i p (second_of i b) →
+      weight * ((aim * q1 - q2 - (target * first - second)) + (q2 - aim * q1 - (second - target * first))) ≡
+      first_asked i p b - first_row i a m b + (second_asked i p b - second_row i a m b)
+  unfolding first_asked first_row second_asked second_row
+  balance_more_is a p m b weight target aim first second q1 q2 weight_is target_is aim_is first_is second_is q1_is
+      q2_is = rw (weight_is, target_is, aim_is, first_is, second_is, q1_is, q2_is)
+      (weighed_more (balance_weight_of i b) (target_of i b * requirement_of i p (first_of i b))
+      (requirement_of i p (second_of i b)) (target_of i b * available i a m (first_of i b))
+      (available i a m (second_of i b)))
 
 -- the greatest moved count if that of one service is another
 pub with_one : (counts : List ℕ) (c : MovedCount) (n : ℕ) (f : ℕ → ℕ) → length counts ≡ n →
@@ -41,65 +105,3 @@ with_one counts c n f long others here =
     (λ (apart : k ≢ c.service.0). cond-false (eqb k c.service.0) c.after (slice_index counts k)
     (ne_eqb k c.service.0 apart) ∙ others k within apart)
     (cases_eq k c.service.0))
-
-pub load_more_is : (i : Tables) (a : List Machine) (p m r used amount weight safety : ℕ) → used ≡ use_of i a m r →
-    amount ≡ requirement_of i p r → weight ≡ load_weight_of i r → safety ≡ safety_of i m r →
-    weight * (amount - (safety - used)) ≡ load_asked i p r - load_row i a m r
-unfolding load_asked load_row
-load_more_is i a p m r used amount weight safety used_is amount_is weight_is safety_is =
-    rw (used_is, amount_is, weight_is, safety_is)
-    (mul-sub (load_weight_of i r) (requirement_of i p r) (safety_of i m r - use_of i a m r)
-    ∙ ap (λ x. load_weight_of i r * requirement_of i p r - x) refl)
-
-weighed_more : (w x q y a : ℕ) → w * ((x - q - (y - a)) + (q - x - (a - y))) ≡ (w * (x - q) - w * (y - a))
-    + (w * (q - x) - w * (a - y))
-weighed_more w x q y a = omega (arith, mul-sub w (x - q) (y - a), mul-sub w (q - x) (a - y))
-
--- the number at a resource of an objective
-pub required_first : (i : Tables) (p b : ℕ) (row : BalanceRow) (required : List ℕ) → WellFormed i →
-    b < balance_count i → row ≡ balance_row i b → AreRequired i p required →
-    slice_index required row.first.0 ≡ requirement_of i p (first_of i b)
-required_first i p b row required limits within is are =
-    are.each row.first.0 (omega (arith, limits.firsts b within, first_read i b row is))
-    ∙ ap (requirement_of i p) (first_read i b row is)
-
-pub required_second : (i : Tables) (p b : ℕ) (row : BalanceRow) (required : List ℕ) → WellFormed i →
-    b < balance_count i → row ≡ balance_row i b → AreRequired i p required → slice_index required row.second.0 ≡
-    requirement_of i p (second_of i b)
-required_second i p b row required limits within is are =
-    are.each row.second.0 (omega (arith, limits.seconds b within, second_read i b row is))
-    ∙ ap (requirement_of i p) (second_read i b row is)
-
--- what an objective has of its row
-pub target_read : (i : Tables) (b : ℕ) (row : BalanceRow) → row ≡ balance_row i b → row.target ≡ target_of i b
-unfolding target_of
-target_read i b row is = ap (λ (r : BalanceRow). r.target) is
-
-pub weight_read : (i : Tables) (b : ℕ) (row : BalanceRow) → row ≡ balance_row i b → row.weight ≡ balance_weight_of i b
-unfolding balance_weight_of
-weight_read i b row is = ap (λ (r : BalanceRow). r.weight) is
-
-pub balance_more_is : (i : Tables) (a : List Machine) (p m b weight target aim first second q1 q2 : ℕ) →
-    weight ≡ balance_weight_of i b → target ≡ target_of i b → aim ≡ target_of i b →
-    first ≡ available i a m (first_of i b) → second ≡ available i a m (second_of i b) →
-    q1 ≡ requirement_of i p (first_of i b) → q2 ≡ requirement_of i p (second_of i b) →
-    weight * ((aim * q1 - q2 - (target * first - second)) + (q2 - aim * q1 - (second - target * first))) ≡
-    first_asked i p b - first_row i a m b + (second_asked i p b - second_row i a m b)
-unfolding first_asked first_row second_asked second_row
-balance_more_is i a p m b weight target aim first second q1 q2 weight_is target_is aim_is first_is second_is q1_is
-    q2_is = rw (weight_is, target_is, aim_is, first_is, second_is, q1_is, q2_is)
-    (weighed_more (balance_weight_of i b) (target_of i b * requirement_of i p (first_of i b))
-    (requirement_of i p (second_of i b)) (target_of i b * available i a m (first_of i b))
-    (available i a m (second_of i b)))
-
-pub saved_by_is : (i : Tables) (p b weight target q1 q2 : ℕ) → weight ≡ balance_weight_of i b → target ≡ target_of i b →
-    q1 ≡ requirement_of i p (first_of i b) → q2 ≡ requirement_of i p (second_of i b) →
-    weight * (target * q1 - q2) ≡ first_asked i p b
-unfolding first_asked
-saved_by_is i p b weight target q1 q2 weight_is target_is q1_is q2_is = rw (weight_is, target_is, q1_is, q2_is) refl
-
-pub second_asked_is : (i : Tables) (p b weight target q1 q2 : ℕ) → weight ≡ balance_weight_of i b →
-    target ≡ target_of i b → q1 ≡ requirement_of i p (first_of i b) → q2 ≡ requirement_of i p (second_of i b) →
-    weight * (q2 - target * q1) ≡ second_asked i p b
-unfolding second_asked
-second_asked_is i p b weight target q1 q2 weight_is target_is q1_is q2_is = rw (weight_is, target_is, q1_is, q2_is) refl

@@ -40,191 +40,193 @@ same_some : (a : List Machine) (p to : ℕ) → machine_at a p ≡ to → same_o
 unfolding same_of same_test first or_else process_in from_in to_in step_at leaving
 same_some a p to same = cause_here _ _ (eq-eqb (machine_at a p) to same)
 
-pub broken_same : (st : Situation) (p to : ℕ) → machine_at st.here p ≡ to →
-    broken_by st (leaving st.here p to ∷ []) ≡ Some (Same (record { 0 = p }))
-unfolding broken_by
-broken_same st p to same = behind _ _ (no_repeat st.here p to) ∙ before _ _ _ (same_some st.here p to same)
+module _ (st : Situation) (p to : ℕ) where
+  pub broken_same : machine_at st.here p ≡ to →
+      broken_by st (leaving st.here p to ∷ []) ≡ Some (Same (record { 0 = p }))
+  unfolding broken_by
+  broken_same same = behind _ _ (no_repeat st.here p to) ∙ before _ _ _ (same_some st.here p to same)
 
--- a shift elsewhere
-broken_first : (st : Situation) (p to : ℕ) (cause : Cause) → machine_at st.here p ≢ to →
-    broken_at (record st { here = shifted st.here p to }) ≡ Some cause → broken_by st (leaving st.here p to ∷ [])
-    ≡ Some cause
-unfolding broken_by
-broken_first st p to cause apart found = behind _ _ (no_repeat st.here p to) ∙ behind _ _ (same_none st.here p to apart)
-    ∙ ap (first_broken st.tables st.start) (applied_one st.here p to) ∙ found
+  -- a shift elsewhere
+  broken_first : (cause : Cause) → machine_at st.here p ≢ to →
+      broken_at (record st { here = shifted st.here p to }) ≡ Some cause → broken_by st (leaving st.here p to ∷ [])
+      ≡ Some cause
+  unfolding broken_by
+  broken_first cause apart found = behind _ _ (no_repeat st.here p to) ∙ behind _ _ (same_none st.here p to apart)
+      ∙ ap (first_broken st.tables st.start) (applied_one st.here p to) ∙ found
 
--- too little room
-no_row_before : (st : Situation) (p to m : ℕ) → IsStart st p to → m < to →
-    row_capacity st.tables (shifted st.here p to) m ≡ None
-unfolding row_capacity capacity_test
-no_row_before st p to m h below = first_none_from _ _ (λ r within. cause_free _ _ (le-ltb _ _ (omega (
-  arith,
-  use_other st p to m r h (λ same. absurd (omega (arith, same, below))),
-  h.feasible.capacity m r (omega (arith, below, h.reach)) within,
-))))
+  -- too little room
+  no_row_before : (m : ℕ) → IsStart st p to → m < to →
+      row_capacity st.tables (shifted st.here p to) m ≡ None
+  unfolding row_capacity capacity_test
+  no_row_before m h below = first_none_from _ _ (λ r within. cause_free _ _ (le-ltb _ _ (omega (
+    arith,
+    use_other st p to m r h (λ same. absurd (omega (arith, same, below))),
+    h.feasible.capacity m r (omega (arith, below, h.reach)) within,
+  ))))
 
-row_over : (st : Situation) (p to r : ℕ) → IsStart st p to → r < resource_count st.tables →
-    ((k : ℕ) → k < r → use_of st.tables st.here to k + requirement_of st.tables p k ≤ capacity_of st.tables to k) →
-    capacity_of st.tables to r < use_of st.tables st.here to r + requirement_of st.tables p r →
-    row_capacity st.tables (shifted st.here p to) to ≡
-    Some (Capacity (record { 0 = to }) (record { 0 = r }) (use_of st.tables st.here to r + requirement_of st.tables p r)
-    (capacity_of st.tables to r))
-unfolding row_capacity capacity_test
-row_over st p to r h within fits above =
-    first_found r (resource_count st.tables) (capacity_test st.tables (shifted st.here p to) to) _ within
-    (first_none_from _ _
-    (λ k below. cause_free _ _ (le-ltb _ _ (omega (arith, use_entered st p to k h, fits k below)))))
-    (ap (λ u. cause_if (ltb (capacity_of st.tables to r) u)
-    (Capacity (record { 0 = to }) (record { 0 = r }) u (capacity_of st.tables to r)))
-    (use_entered st p to r h) ∙ cause_here _ _ (lt-ltb _ _ above))
+  -- too little room in between
+  no_between_before : (m : ℕ) → IsStart st p to → m < to →
+      row_transient st.tables st.start (shifted st.here p to) m ≡ None
+  unfolding row_transient transient_test
+  no_between_before m h below = first_none_from _ _ (λ r within. cause_free _ _ (⊎_elim
+      (λ (twice : transient_at st.tables r ≡ true). and_right _ _
+      (le-ltb (capacity_of st.tables m r) (transient_of st.tables st.start (shifted st.here p to) m r) (omega (
+        arith,
+        between_other st p to m r h (λ same. absurd (omega (arith, same, below))),
+        h.feasible.transient m r (omega (arith, below, h.reach)) within twice,
+      ))))
+      (λ (once : transient_at st.tables r ≡ false). and_left _ _ once)
+      (cases_Bool (transient_at st.tables r))))
 
-pub broken_over : (st : Situation) (p to r : ℕ) → IsStart st p to → r < resource_count st.tables →
-    ((k : ℕ) → k < r → use_of st.tables st.here to k + requirement_of st.tables p k ≤ capacity_of st.tables to k) →
-    capacity_of st.tables to r < use_of st.tables st.here to r + requirement_of st.tables p r →
-    broken_by st (leaving st.here p to ∷ []) ≡
-    Some (Capacity (record { 0 = to }) (record { 0 = r }) (use_of st.tables st.here to r + requirement_of st.tables p r)
-    (capacity_of st.tables to r))
-unfolding first_broken broken_capacity
-broken_over st p to r h within fits above =
-    broken_first st p to _ h.apart (before _ _ _
-    (first_found to (machine_count st.tables) (row_capacity st.tables (shifted st.here p to)) _ h.reach
-    (first_none_from _ _ (λ m below. no_row_before st p to m h below))
-    (row_over st p to r h within fits above)))
+  module _ (r : ℕ) where
+    row_over : IsStart st p to → r < resource_count st.tables →
+        ((k : ℕ) → k < r → use_of st.tables st.here to k + requirement_of st.tables p k ≤ capacity_of st.tables to k) →
+        capacity_of st.tables to r < use_of st.tables st.here to r + requirement_of st.tables p r →
+        row_capacity st.tables (shifted st.here p to) to ≡
+        Some (Capacity (record { 0 = to }) (record { 0 = r }) (use_of st.tables st.here to r + requirement_of st.tables p r)
+        (capacity_of st.tables to r))
+    unfolding row_capacity capacity_test
+    row_over h within fits above =
+        first_found r (resource_count st.tables) (capacity_test st.tables (shifted st.here p to) to) _ within
+        (first_none_from _ _
+        (λ k below. cause_free _ _ (le-ltb _ _ (omega (arith, use_entered st p to k h, fits k below)))))
+        (ap (λ u. cause_if (ltb (capacity_of st.tables to r) u)
+        (Capacity (record { 0 = to }) (record { 0 = r }) u (capacity_of st.tables to r)))
+        (use_entered st p to r h) ∙ cause_here _ _ (lt-ltb _ _ above))
 
--- too little room in between
-no_between_before : (st : Situation) (p to m : ℕ) → IsStart st p to → m < to →
-    row_transient st.tables st.start (shifted st.here p to) m ≡ None
-unfolding row_transient transient_test
-no_between_before st p to m h below = first_none_from _ _ (λ r within. cause_free _ _ (⊎_elim
-    (λ (twice : transient_at st.tables r ≡ true). and_right _ _
-    (le-ltb (capacity_of st.tables m r) (transient_of st.tables st.start (shifted st.here p to) m r) (omega (
-      arith,
-      between_other st p to m r h (λ same. absurd (omega (arith, same, below))),
-      h.feasible.transient m r (omega (arith, below, h.reach)) within twice,
-    ))))
-    (λ (once : transient_at st.tables r ≡ false). and_left _ _ once)
-    (cases_Bool (transient_at st.tables r))))
+    pub broken_over : IsStart st p to → r < resource_count st.tables →
+        ((k : ℕ) → k < r → use_of st.tables st.here to k + requirement_of st.tables p k ≤ capacity_of st.tables to k) →
+        capacity_of st.tables to r < use_of st.tables st.here to r + requirement_of st.tables p r →
+        broken_by st (leaving st.here p to ∷ []) ≡
+        Some (Capacity (record { 0 = to }) (record { 0 = r }) (use_of st.tables st.here to r + requirement_of st.tables p r)
+        (capacity_of st.tables to r))
+    unfolding first_broken broken_capacity
+    broken_over h within fits above =
+        broken_first _ h.apart (before _ _ _
+        (first_found to (machine_count st.tables) (row_capacity st.tables (shifted st.here p to)) _ h.reach
+        (first_none_from _ _ (λ m below. no_row_before m h below))
+        (row_over h within fits above)))
 
-row_between : (st : Situation) (p to r : ℕ) → IsStart st p to → machine_at st.start p ≢ to →
-    r < resource_count st.tables → transient_at st.tables r ≡ true →
-    ((k : ℕ) → k < r → transient_at st.tables k ≡ true → transient_of st.tables st.start st.here to k
-    + requirement_of st.tables p k ≤ capacity_of st.tables to k) →
-    capacity_of st.tables to r < transient_of st.tables st.start st.here to r + requirement_of st.tables p r →
-    row_transient st.tables st.start (shifted st.here p to) to ≡ Some (Transient (record { 0 = to }) (record { 0 = r })
-    (transient_of st.tables st.start st.here to r + requirement_of st.tables p r) (capacity_of st.tables to r))
-unfolding row_transient transient_test
-row_between st p to r h away within transient fits above =
-    first_found r (resource_count st.tables) (transient_test st.tables st.start (shifted st.here p to) to) _ within
-    (first_none_from _ _ (λ k below. cause_free _ _ (⊎_elim
-    (λ (twice : transient_at st.tables k ≡ true). and_right _ _
-    (le-ltb (capacity_of st.tables to k) (transient_of st.tables st.start (shifted st.here p to) to k)
-    (omega (arith, between_entered st p to k h away, fits k below twice))))
-    (λ (once : transient_at st.tables k ≡ false). and_left _ _ once)
-    (cases_Bool (transient_at st.tables k)))))
-    (ap (λ u. cause_if (transient_at st.tables r && ltb (capacity_of st.tables to r) u)
-    (Transient (record { 0 = to }) (record { 0 = r }) u (capacity_of st.tables to r)))
-    (between_entered st p to r h away) ∙ cause_here _ _ (and_from _ _ transient (lt-ltb _ _ above)))
+    row_between : IsStart st p to → machine_at st.start p ≢ to →
+        r < resource_count st.tables → transient_at st.tables r ≡ true →
+        ((k : ℕ) → k < r → transient_at st.tables k ≡ true → transient_of st.tables st.start st.here to k
+        + requirement_of st.tables p k ≤ capacity_of st.tables to k) →
+        capacity_of st.tables to r < transient_of st.tables st.start st.here to r + requirement_of st.tables p r →
+        row_transient st.tables st.start (shifted st.here p to) to ≡ Some (Transient (record { 0 = to }) (record { 0 = r })
+        (transient_of st.tables st.start st.here to r + requirement_of st.tables p r) (capacity_of st.tables to r))
+    unfolding row_transient transient_test
+    row_between h away within transient fits above =
+        first_found r (resource_count st.tables) (transient_test st.tables st.start (shifted st.here p to) to) _ within
+        (first_none_from _ _ (λ k below. cause_free _ _ (⊎_elim
+        (λ (twice : transient_at st.tables k ≡ true). and_right _ _
+        (le-ltb (capacity_of st.tables to k) (transient_of st.tables st.start (shifted st.here p to) to k)
+        (omega (arith, between_entered st p to k h away, fits k below twice))))
+        (λ (once : transient_at st.tables k ≡ false). and_left _ _ once)
+        (cases_Bool (transient_at st.tables k)))))
+        (ap (λ u. cause_if (transient_at st.tables r && ltb (capacity_of st.tables to r) u)
+        (Transient (record { 0 = to }) (record { 0 = r }) u (capacity_of st.tables to r)))
+        (between_entered st p to r h away) ∙ cause_here _ _ (and_from _ _ transient (lt-ltb _ _ above)))
 
-pub broken_between : (st : Situation) (p to r : ℕ) → IsStart st p to → HasRoom st.tables st.here p to →
-    machine_at st.start p ≢ to → r < resource_count st.tables → transient_at st.tables r ≡ true →
-    ((k : ℕ) → k < r → transient_at st.tables k ≡ true → transient_of st.tables st.start st.here to k
-    + requirement_of st.tables p k ≤ capacity_of st.tables to k) →
-    capacity_of st.tables to r < transient_of st.tables st.start st.here to r + requirement_of st.tables p r →
-    broken_by st (leaving st.here p to ∷ []) ≡ Some (Transient (record { 0 = to }) (record { 0 = r })
-    (transient_of st.tables st.start st.here to r + requirement_of st.tables p r) (capacity_of st.tables to r))
-unfolding first_broken broken_transient
-broken_between st p to r h room away within transient fits above =
-    broken_first st p to _ h.apart
-    (behind _ _ (capacity_unbroken st.tables (shifted st.here p to) (capacity_after st p to h room)) ∙ before _ _ _
-    (first_found to (machine_count st.tables) (row_transient st.tables st.start (shifted st.here p to)) _ h.reach
-    (first_none_from _ _ (λ m below. no_between_before st p to m h below))
-    (row_between st p to r h away within transient fits above)))
+    pub broken_between : IsStart st p to → HasRoom st.tables st.here p to →
+        machine_at st.start p ≢ to → r < resource_count st.tables → transient_at st.tables r ≡ true →
+        ((k : ℕ) → k < r → transient_at st.tables k ≡ true → transient_of st.tables st.start st.here to k
+        + requirement_of st.tables p k ≤ capacity_of st.tables to k) →
+        capacity_of st.tables to r < transient_of st.tables st.start st.here to r + requirement_of st.tables p r →
+        broken_by st (leaving st.here p to ∷ []) ≡ Some (Transient (record { 0 = to }) (record { 0 = r })
+        (transient_of st.tables st.start st.here to r + requirement_of st.tables p r) (capacity_of st.tables to r))
+    unfolding first_broken broken_transient
+    broken_between h room away within transient fits above =
+        broken_first _ h.apart
+        (behind _ _ (capacity_unbroken st.tables (shifted st.here p to) (capacity_after st p to h room)) ∙ before _ _ _
+        (first_found to (machine_count st.tables) (row_transient st.tables st.start (shifted st.here p to)) _ h.reach
+        (first_none_from _ _ (λ m below. no_between_before m h below))
+        (row_between h away within transient fits above)))
 
--- neither lacks
-no_row : (st : Situation) (p to : ℕ) (rest : Option Cause) → IsStart st p to → HasRoom st.tables st.here p to →
-    HasRoomBetween st p to →
-    or_else (broken_capacity st.tables (shifted st.here p to))
-    (or_else (broken_transient st.tables st.start (shifted st.here p to)) rest) ≡ rest
-no_row st p to rest h room between =
-    behind _ _ (capacity_unbroken st.tables (shifted st.here p to) (capacity_after st p to h room))
-    ∙ behind _ _ (transient_unbroken st.tables st.start (shifted st.here p to) (transient_after st p to h between))
+  -- neither lacks
+  no_row : (rest : Option Cause) → IsStart st p to → HasRoom st.tables st.here p to →
+      HasRoomBetween st p to →
+      or_else (broken_capacity st.tables (shifted st.here p to))
+      (or_else (broken_transient st.tables st.start (shifted st.here p to)) rest) ≡ rest
+  no_row rest h room between =
+      behind _ _ (capacity_unbroken st.tables (shifted st.here p to) (capacity_after st p to h room))
+      ∙ behind _ _ (transient_unbroken st.tables st.start (shifted st.here p to) (transient_after st p to h between))
 
--- twice on the machine
-one_before : (st : Situation) (p to s m : ℕ) → IsStart st p to → s < service_count st.tables →
-    m < machine_count st.tables → on_machine st.tables st.here s m ≤ 1
-unfolding broken_conflict service_conflict conflict_test
-one_before st p to s m h s_in m_in =
-    ltb-false _ _ (cause_none _ _ (first_none_at m _ _ m_in
-    (first_none_at s _ _ s_in (fine_from_feasible st.tables st.start st.here h.feasible).conflict)))
+  -- twice on the machine
+  one_before : (s m : ℕ) → IsStart st p to → s < service_count st.tables →
+      m < machine_count st.tables → on_machine st.tables st.here s m ≤ 1
+  unfolding broken_conflict service_conflict conflict_test
+  one_before s m h s_in m_in =
+      ltb-false _ _ (cause_none _ _ (first_none_at m _ _ m_in
+      (first_none_at s _ _ s_in (fine_from_feasible st.tables st.start st.here h.feasible).conflict)))
 
-none_other : (st : Situation) (p to s : ℕ) → IsStart st p to → s < service_count st.tables →
-    service_of st.tables p ≢ s → service_conflict st.tables (shifted st.here p to) s ≡ None
-unfolding service_conflict conflict_test on_machine
-none_other st p to s h s_in other = first_none_from _ _ (λ m m_in. cause_free _ _ (le-ltb _ _ (omega (
-  arith,
-  members_other st.tables st.here p to s (λ q at. eqb at m) h.fits h.known other,
-  one_before st p to s m h s_in m_in,
-))))
+  none_other : (s : ℕ) → IsStart st p to → s < service_count st.tables →
+      service_of st.tables p ≢ s → service_conflict st.tables (shifted st.here p to) s ≡ None
+  unfolding service_conflict conflict_test on_machine
+  none_other s h s_in other = first_none_from _ _ (λ m m_in. cause_free _ _ (le-ltb _ _ (omega (
+    arith,
+    members_other st.tables st.here p to s (λ q at. eqb at m) h.fits h.known other,
+    one_before s m h s_in m_in,
+  ))))
 
-none_before : (st : Situation) (p to m : ℕ) → IsStart st p to → m < to →
-    conflict_test st.tables (shifted st.here p to) (service_of st.tables p) m ≡ None
-unfolding conflict_test on_machine
-none_before st p to m h below = cause_free _ _ (le-ltb _ _ (omega (
-  arith,
-  members_mine st.tables st.here p to (service_of st.tables p) (λ q at. eqb at m) h.fits h.known refl,
-  one_if_false (eqb to m) (ne_eqb to m (λ same. absurd (omega (arith, same, below)))),
-  one_before st p to (service_of st.tables p) m h (h.formed.services p h.known) (omega (arith, below, h.reach)),
-)))
+  none_before : (m : ℕ) → IsStart st p to → m < to →
+      conflict_test st.tables (shifted st.here p to) (service_of st.tables p) m ≡ None
+  unfolding conflict_test on_machine
+  none_before m h below = cause_free _ _ (le-ltb _ _ (omega (
+    arith,
+    members_mine st.tables st.here p to (service_of st.tables p) (λ q at. eqb at m) h.fits h.known refl,
+    one_if_false (eqb to m) (ne_eqb to m (λ same. absurd (omega (arith, same, below)))),
+    one_before (service_of st.tables p) m h (h.formed.services p h.known) (omega (arith, below, h.reach)),
+  )))
 
-two_here : (st : Situation) (p to : ℕ) → IsStart st p to →
-    0 < on_machine st.tables st.here (service_of st.tables p) to →
-    conflict_test st.tables (shifted st.here p to) (service_of st.tables p) to ≡
-    Some (Conflict (record { 0 = service_of st.tables p }) (record { 0 = to }))
-unfolding conflict_test on_machine
-two_here st p to h some = cause_here _ _ (lt-ltb _ _ (omega (
-  arith,
-  members_mine st.tables st.here p to (service_of st.tables p) (λ q at. eqb at to) h.fits h.known refl,
-  one_if_true (eqb to to) (eq-eqb to to refl),
-  one_if_false (eqb (machine_at st.here p) to) (ne_eqb _ _ h.apart),
-  some,
-)))
+  two_here : IsStart st p to →
+      0 < on_machine st.tables st.here (service_of st.tables p) to →
+      conflict_test st.tables (shifted st.here p to) (service_of st.tables p) to ≡
+      Some (Conflict (record { 0 = service_of st.tables p }) (record { 0 = to }))
+  unfolding conflict_test on_machine
+  two_here h some = cause_here _ _ (lt-ltb _ _ (omega (
+    arith,
+    members_mine st.tables st.here p to (service_of st.tables p) (λ q at. eqb at to) h.fits h.known refl,
+    one_if_true (eqb to to) (eq-eqb to to refl),
+    one_if_false (eqb (machine_at st.here p) to) (ne_eqb _ _ h.apart),
+    some,
+  )))
 
-pub broken_twice : (st : Situation) (p to : ℕ) → IsStart st p to → HasRoom st.tables st.here p to →
-    HasRoomBetween st p to → 0 < on_machine st.tables st.here (service_of st.tables p) to →
-    broken_by st (leaving st.here p to ∷ []) ≡
-    Some (Conflict (record { 0 = service_of st.tables p }) (record { 0 = to }))
-unfolding first_broken broken_conflict service_conflict
-broken_twice st p to h room between some =
-    broken_first st p to _ h.apart
-    (no_row st p to _ h room between ∙ before _ _ _
-    (first_found (service_of st.tables p) (service_count st.tables) (service_conflict st.tables (shifted st.here p to))
-    _
-    (h.formed.services p h.known)
-    (first_none_from _ _ (λ s below. none_other st p to s h (omega (arith, below, h.formed.services p h.known))
-    (λ same. absurd (omega (arith, same, below)))))
-    (first_found to (machine_count st.tables) (conflict_test st.tables (shifted st.here p to) (service_of st.tables p))
-    _ h.reach
-    (first_none_from _ _ (λ m below. none_before st p to m h below)) (two_here st p to h some))))
+  pub broken_twice : IsStart st p to → HasRoom st.tables st.here p to →
+      HasRoomBetween st p to → 0 < on_machine st.tables st.here (service_of st.tables p) to →
+      broken_by st (leaving st.here p to ∷ []) ≡
+      Some (Conflict (record { 0 = service_of st.tables p }) (record { 0 = to }))
+  unfolding first_broken broken_conflict service_conflict
+  broken_twice h room between some =
+      broken_first _ h.apart
+      (no_row _ h room between ∙ before _ _ _
+      (first_found (service_of st.tables p) (service_count st.tables) (service_conflict st.tables (shifted st.here p to))
+      _
+      (h.formed.services p h.known)
+      (first_none_from _ _ (λ s below. none_other s h (omega (arith, below, h.formed.services p h.known))
+      (λ same. absurd (omega (arith, same, below)))))
+      (first_found to (machine_count st.tables) (conflict_test st.tables (shifted st.here p to) (service_of st.tables p))
+      _ h.reach
+      (first_none_from _ _ (λ m below. none_before m h below)) (two_here h some))))
 
--- in too few locations
-pub broken_apart : (st : Situation) (p to has : ℕ) → IsStart st p to → HasRoom st.tables st.here p to →
-    HasRoomBetween st p to → on_machine st.tables st.here (service_of st.tables p) to ≡ 0 →
-    has ≡ locations_of st.tables (shifted st.here p to) (service_of st.tables p) →
-    has < spread_of st.tables (service_of st.tables p) →
-    broken_by st (leaving st.here p to ∷ []) ≡
-    Some (Spread (record { 0 = service_of st.tables p }) has (spread_of st.tables (service_of st.tables p)))
-unfolding first_broken broken_spread spread_test
-broken_apart st p to has h room between alone is few =
-    broken_first st p to _ h.apart
-    (no_row st p to _ h room between
-    ∙ behind _ _ (conflict_unbroken st.tables (shifted st.here p to) (conflict_after st p to h alone)) ∙ before _ _ _
-    (first_found (service_of st.tables p) (service_count st.tables) (spread_test st.tables (shifted st.here p to)) _
-    (h.formed.services p h.known)
-    (first_none_from _ _ (λ s below. cause_free _ _ (le-ltb _ _ (omega (
-      arith,
-      locations_other st.tables st.here p to s h.fits h.known (λ same. absurd (omega (arith, same, below))),
-      h.feasible.spread s (omega (arith, below, h.formed.services p h.known)),
-    )))))
-    (ap (λ n. cause_if (ltb n (spread_of st.tables (service_of st.tables p)))
-    (Spread (record { 0 = service_of st.tables p }) n (spread_of st.tables (service_of st.tables p)))) (sym is)
-    ∙ cause_here _ _ (lt-ltb _ _ few))))
+  -- in too few locations
+  pub broken_apart : (has : ℕ) → IsStart st p to → HasRoom st.tables st.here p to →
+      HasRoomBetween st p to → on_machine st.tables st.here (service_of st.tables p) to ≡ 0 →
+      has ≡ locations_of st.tables (shifted st.here p to) (service_of st.tables p) →
+      has < spread_of st.tables (service_of st.tables p) →
+      broken_by st (leaving st.here p to ∷ []) ≡
+      Some (Spread (record { 0 = service_of st.tables p }) has (spread_of st.tables (service_of st.tables p)))
+  unfolding first_broken broken_spread spread_test
+  broken_apart has h room between alone is few =
+      broken_first _ h.apart
+      (no_row _ h room between
+      ∙ behind _ _ (conflict_unbroken st.tables (shifted st.here p to) (conflict_after st p to h alone)) ∙ before _ _ _
+      (first_found (service_of st.tables p) (service_count st.tables) (spread_test st.tables (shifted st.here p to)) _
+      (h.formed.services p h.known)
+      (first_none_from _ _ (λ s below. cause_free _ _ (le-ltb _ _ (omega (
+        arith,
+        locations_other st.tables st.here p to s h.fits h.known (λ same. absurd (omega (arith, same, below))),
+        h.feasible.spread s (omega (arith, below, h.formed.services p h.known)),
+      )))))
+      (ap (λ n. cause_if (ltb n (spread_of st.tables (service_of st.tables p)))
+      (Spread (record { 0 = service_of st.tables p }) n (spread_of st.tables (service_of st.tables p)))) (sym is)
+      ∙ cause_here _ _ (lt-ltb _ _ few))))

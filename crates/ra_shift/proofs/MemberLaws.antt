@@ -25,167 +25,160 @@ share_other : (i : Tables) (s p at : ℕ) (test : ℕ → ℕ → Bool) → serv
 unfolding of_service
 share_other i s p at test other = one_if_false _ (and_left _ _ (is_of_other i s p other))
 
--- counts of its own service, and of another
-pub members_mine : (i : Tables) (a : List Machine) (p to s : ℕ) (test : ℕ → ℕ → Bool) → IsAssignment i a →
-    p < process_count i → service_of i p ≡ s → members_at i (shifted a p to) s test + one_if (test p (machine_at a p)) ≡
-    members_at i a s test + one_if (test p to)
-members_mine i a p to s test fits within is =
-    omega (
-      arith,
-      members_set i a p (record { 0 = to }) s test fits within,
-      share_mine i s p (machine_at a p) test is,
-      share_mine i s p to test is,
-    )
+module _ (i : Tables) (a : List Machine) where
+  -- whether a process of the service other than p is on a machine
+  on_mine : (q s m : ℕ) → q < process_count i → service_of i q ≡ s → machine_at a q ≡ m →
+      0 < on_machine i a s m
+  unfolding is_of
+  on_mine q s m within is here =
+      rw (on_machine_count i a s m) (count_some (process_count i) q (λ k. is_of i s k && eqb (machine_at a k) m) within
+      (and_from _ _ (eq-eqb _ _ is) (eq-eqb _ _ here)))
+  module _ (p : ℕ) where
+    module _ (to s : ℕ) where
+      -- counts of its own service, and of another
+      pub members_mine : (test : ℕ → ℕ → Bool) → IsAssignment i a →
+          p < process_count i → service_of i p ≡ s → members_at i (shifted a p to) s test + one_if (test p (machine_at a p)) ≡
+          members_at i a s test + one_if (test p to)
+      members_mine test fits within is =
+          omega (
+            arith,
+            members_set i a p (record { 0 = to }) s test fits within,
+            share_mine i s p (machine_at a p) test is,
+            share_mine i s p to test is,
+          )
+      pub members_other : (test : ℕ → ℕ → Bool) → IsAssignment i a →
+          p < process_count i → service_of i p ≢ s → members_at i (shifted a p to) s test ≡ members_at i a s test
+      members_other test fits within other =
+          omega (
+            arith,
+            members_set i a p (record { 0 = to }) s test fits within,
+            share_other i s p (machine_at a p) test other,
+            share_other i s p to test other,
+          )
+      pub near_other : (label : ℕ) → IsAssignment i a → p < process_count i →
+          service_of i p ≢ s → in_neighbourhood i (shifted a p to) s label ≡ in_neighbourhood i a s label
+      unfolding in_neighbourhood
+      near_other label fits within other =
+          members_other (λ q at. eqb (neighbourhood_of i at) label) fits within other
+      location_other : (label : ℕ) → IsAssignment i a → p < process_count i →
+          service_of i p ≢ s → in_location i (shifted a p to) s label ≡ in_location i a s label
+      unfolding in_location
+      location_other label fits within other =
+          members_other (λ q at. eqb (location_of i at) label) fits within other
+      pub locations_other : IsAssignment i a → p < process_count i →
+          service_of i p ≢ s → locations_of i (shifted a p to) s ≡ locations_of i a s
+      unfolding locations_of
+      locations_other fits within other =
+          count_same (2 ^ 32) _ _ (λ label h. ap (ltb 0) (location_other label fits within other))
+    members_some : (s : ℕ) (test : ℕ → ℕ → Bool) → p < process_count i →
+        service_of i p ≡ s → one_if (test p (machine_at a p)) ≤ members_at i a s test
+    unfolding members_at
+    members_some s test within is =
+        omega (
+          arith,
+          tally_term (process_count i) p (of_service i s test) a within,
+          share_mine i s p (machine_at a p) test is,
+        )
+    -- neighbourhoods
+    pub near_mine : (to label : ℕ) → IsAssignment i a → p < process_count i →
+        in_neighbourhood i (shifted a p to) (service_of i p) label
+        + one_if (eqb (neighbourhood_of i (machine_at a p)) label) ≡ in_neighbourhood i a (service_of i p) label
+        + one_if (eqb (neighbourhood_of i to) label)
+    unfolding in_neighbourhood
+    near_mine to label fits within =
+        members_mine to (service_of i p) (λ q at. eqb (neighbourhood_of i at) label) fits within refl
+    -- locations
+    pub location_mine : (to label : ℕ) → IsAssignment i a → p < process_count i →
+        in_location i (shifted a p to) (service_of i p) label + one_if (eqb (location_of i (machine_at a p)) label) ≡
+        in_location i a (service_of i p) label + one_if (eqb (location_of i to) label)
+    unfolding in_location
+    location_mine to label fits within =
+        members_mine to (service_of i p) (λ q at. eqb (location_of i at) label) fits within refl
+    pub location_some : p < process_count i →
+        0 < in_location i a (service_of i p) (location_of i (machine_at a p))
+    unfolding in_location
+    location_some within =
+        omega (
+          arith,
+          members_some (service_of i p) (λ q at. eqb (location_of i at) (location_of i (machine_at a p)))
+              within refl,
+          one_if_true (eqb (location_of i (machine_at a p)) (location_of i (machine_at a p)))
+              (eq-eqb _ _ refl),
+        )
+    -- another process of the service isn't where p goes
+    not_there : (to q : ℕ) → on_machine i a (service_of i p) to ≡ 0 →
+        q < process_count i → service_of i q ≡ service_of i p → machine_at a q ≢ to
+    not_there to q alone within is here =
+        absurd (omega (arith, alone, on_mine q (service_of i p) to within is here))
+  on_some : (s m : ℕ) → 0 < on_machine i a s m → (q : ℕ) × (q < process_count i)
+      × (service_of i q ≡ s) × (machine_at a q ≡ m)
+  unfolding is_of
+  on_some s m some =
+      let found = count_positive (process_count i) (λ q. is_of i s q && eqb (machine_at a q) m)
+      (rw (on_machine_count i a s m) at some) in
+      let both = and_parts _ _ found.2 in
+      (found.0, found.1, eqb-true _ _ both.0, eqb-true _ _ both.1)
 
-pub members_other : (i : Tables) (a : List Machine) (p to s : ℕ) (test : ℕ → ℕ → Bool) → IsAssignment i a →
-    p < process_count i → service_of i p ≢ s → members_at i (shifted a p to) s test ≡ members_at i a s test
-members_other i a p to s test fits within other =
-    omega (
-      arith,
-      members_set i a p (record { 0 = to }) s test fits within,
-      share_other i s p (machine_at a p) test other,
-      share_other i s p to test other,
-    )
+module _ (st : Situation) (p to : ℕ) where
+  -- conflict
+  pub alone_from : IsStart st p to →
+      IsFeasible (record st { here = shifted st.here p to }) →
+      on_machine st.tables st.here (service_of st.tables p) to ≡ 0
+  alone_from h after = ⊎_elim
+      (λ (some : 0 < on_machine st.tables st.here (service_of st.tables p) to).
+      let found = on_some st.tables st.here (service_of st.tables p) to some in
+      let apart : found.0 ≢ p = λ e. h.apart (ap (machine_at st.here) (sym e) ∙ found.3) in
+      absurd (after.conflict found.0 p found.1 h.known apart found.2 (others st.here p to found.0 apart ∙ found.3
+      ∙ sym (placed st p to h))))
+      (λ (none : on_machine st.tables st.here (service_of st.tables p) to ≤ 0). omega arith)
+      (cases_lt 0 (on_machine st.tables st.here (service_of st.tables p) to))
 
-members_some : (i : Tables) (a : List Machine) (p s : ℕ) (test : ℕ → ℕ → Bool) → p < process_count i →
-    service_of i p ≡ s → one_if (test p (machine_at a p)) ≤ members_at i a s test
-unfolding members_at
-members_some i a p s test within is =
-    omega (
-      arith,
-      tally_term (process_count i) p (of_service i s test) a within,
-      share_mine i s p (machine_at a p) test is,
-    )
+  pub conflict_after : IsStart st p to →
+      on_machine st.tables st.here (service_of st.tables p) to ≡ 0 → (k l : ℕ) → k < process_count st.tables →
+      l < process_count st.tables → k ≢ l →
+      service_of st.tables k ≡ service_of st.tables l → machine_at (shifted st.here p to) k ≢ machine_at
+      (shifted st.here p to) l
+  conflict_after h alone k l k_in l_in apart one_service = ⊎_elim
+      (λ (k_is : k ≡ p). λ met.
+      let other : l ≢ p = λ e. apart (k_is ∙ sym e) in
+      not_there st.tables st.here p to l alone l_in (sym one_service ∙ ap (service_of st.tables) k_is)
+      (sym (others st.here p to l other) ∙ sym met
+      ∙ ap (machine_at (shifted st.here p to)) k_is ∙ placed st p to h))
+      (λ (k_other : k ≢ p). ⊎_elim
+      (λ (l_is : l ≡ p). λ met. not_there st.tables st.here p to k alone k_in
+      (one_service ∙ ap (service_of st.tables) l_is)
+      (sym (others st.here p to k k_other) ∙ met ∙ ap (machine_at (shifted st.here p to)) l_is ∙ placed st p to h))
+      (λ (l_other : l ≢ p). λ met. h.feasible.conflict k l k_in l_in apart one_service
+      (sym (others st.here p to k k_other)
+      ∙ met ∙ others st.here p to l l_other))
+      (cases_eq l p))
+      (cases_eq k p)
 
--- neighbourhoods
-pub near_mine : (i : Tables) (a : List Machine) (p to label : ℕ) → IsAssignment i a → p < process_count i →
-    in_neighbourhood i (shifted a p to) (service_of i p) label
-    + one_if (eqb (neighbourhood_of i (machine_at a p)) label) ≡ in_neighbourhood i a (service_of i p) label
-    + one_if (eqb (neighbourhood_of i to) label)
-unfolding in_neighbourhood
-near_mine i a p to label fits within =
-    members_mine i a p to (service_of i p) (λ q at. eqb (neighbourhood_of i at) label) fits within refl
+  -- spread
+  pub spread_after : IsStart st p to →
+      spread_of st.tables (service_of st.tables p) ≤ locations_of st.tables (shifted st.here p to)
+      (service_of st.tables p) → (s : ℕ) → s < service_count st.tables →
+      spread_of st.tables s ≤ locations_of st.tables (shifted st.here p to) s
+  spread_after h mine s within = ⊎_elim
+      (λ (same : s ≡ service_of st.tables p). rw same mine)
+      (λ (other : s ≢ service_of st.tables p). omega (
+        arith,
+        locations_other st.tables st.here p to s h.fits h.known (λ e. other (sym e)),
+        h.feasible.spread s within,
+      ))
+      (cases_eq s (service_of st.tables p))
 
-pub near_other : (i : Tables) (a : List Machine) (p to s label : ℕ) → IsAssignment i a → p < process_count i →
-    service_of i p ≢ s → in_neighbourhood i (shifted a p to) s label ≡ in_neighbourhood i a s label
-unfolding in_neighbourhood
-near_other i a p to s label fits within other =
-    members_other i a p to s (λ q at. eqb (neighbourhood_of i at) label) fits within other
-
--- locations
-pub location_mine : (i : Tables) (a : List Machine) (p to label : ℕ) → IsAssignment i a → p < process_count i →
-    in_location i (shifted a p to) (service_of i p) label + one_if (eqb (location_of i (machine_at a p)) label) ≡
-    in_location i a (service_of i p) label + one_if (eqb (location_of i to) label)
-unfolding in_location
-location_mine i a p to label fits within =
-    members_mine i a p to (service_of i p) (λ q at. eqb (location_of i at) label) fits within refl
-
-pub location_some : (i : Tables) (a : List Machine) (p : ℕ) → p < process_count i →
-    0 < in_location i a (service_of i p) (location_of i (machine_at a p))
-unfolding in_location
-location_some i a p within =
-    omega (
-      arith,
-      members_some i a p (service_of i p) (λ q at. eqb (location_of i at) (location_of i (machine_at a p)))
-          within refl,
-      one_if_true (eqb (location_of i (machine_at a p)) (location_of i (machine_at a p)))
-          (eq-eqb _ _ refl),
-    )
-
-location_other : (i : Tables) (a : List Machine) (p to s label : ℕ) → IsAssignment i a → p < process_count i →
-    service_of i p ≢ s → in_location i (shifted a p to) s label ≡ in_location i a s label
-unfolding in_location
-location_other i a p to s label fits within other =
-    members_other i a p to s (λ q at. eqb (location_of i at) label) fits within other
-
-pub locations_other : (i : Tables) (a : List Machine) (p to s : ℕ) → IsAssignment i a → p < process_count i →
-    service_of i p ≢ s → locations_of i (shifted a p to) s ≡ locations_of i a s
-unfolding locations_of
-locations_other i a p to s fits within other =
-    count_same (2 ^ 32) _ _ (λ label h. ap (ltb 0) (location_other i a p to s label fits within other))
-
--- whether a process of the service other than p is on a machine
-on_mine : (i : Tables) (a : List Machine) (q s m : ℕ) → q < process_count i → service_of i q ≡ s → machine_at a q ≡ m →
-    0 < on_machine i a s m
-unfolding is_of
-on_mine i a q s m within is here =
-    rw (on_machine_count i a s m) (count_some (process_count i) q (λ k. is_of i s k && eqb (machine_at a k) m) within
-    (and_from _ _ (eq-eqb _ _ is) (eq-eqb _ _ here)))
-
-on_some : (i : Tables) (a : List Machine) (s m : ℕ) → 0 < on_machine i a s m → (q : ℕ) × (q < process_count i)
-    × (service_of i q ≡ s) × (machine_at a q ≡ m)
-unfolding is_of
-on_some i a s m some =
-    let found = count_positive (process_count i) (λ q. is_of i s q && eqb (machine_at a q) m)
-    (rw (on_machine_count i a s m) at some) in
-    let both = and_parts _ _ found.2 in
-    (found.0, found.1, eqb-true _ _ both.0, eqb-true _ _ both.1)
-
--- conflict
-pub alone_from : (st : Situation) (p to : ℕ) → IsStart st p to →
-    IsFeasible (record st { here = shifted st.here p to }) →
-    on_machine st.tables st.here (service_of st.tables p) to ≡ 0
-alone_from st p to h after = ⊎_elim
-    (λ (some : 0 < on_machine st.tables st.here (service_of st.tables p) to).
-    let found = on_some st.tables st.here (service_of st.tables p) to some in
-    let apart : found.0 ≢ p = λ e. h.apart (ap (machine_at st.here) (sym e) ∙ found.3) in
-    absurd (after.conflict found.0 p found.1 h.known apart found.2 (others st.here p to found.0 apart ∙ found.3
-    ∙ sym (placed st p to h))))
-    (λ (none : on_machine st.tables st.here (service_of st.tables p) to ≤ 0). omega arith)
-    (cases_lt 0 (on_machine st.tables st.here (service_of st.tables p) to))
-
--- another process of the service isn't where p goes
-not_there : (i : Tables) (a : List Machine) (p to q : ℕ) → on_machine i a (service_of i p) to ≡ 0 →
-    q < process_count i → service_of i q ≡ service_of i p → machine_at a q ≢ to
-not_there i a p to q alone within is here =
-    absurd (omega (arith, alone, on_mine i a q (service_of i p) to within is here))
-
-pub conflict_after : (st : Situation) (p to : ℕ) → IsStart st p to →
-    on_machine st.tables st.here (service_of st.tables p) to ≡ 0 → (k l : ℕ) → k < process_count st.tables →
-    l < process_count st.tables → k ≢ l →
-    service_of st.tables k ≡ service_of st.tables l → machine_at (shifted st.here p to) k ≢ machine_at
-    (shifted st.here p to) l
-conflict_after st p to h alone k l k_in l_in apart one_service = ⊎_elim
-    (λ (k_is : k ≡ p). λ met.
-    let other : l ≢ p = λ e. apart (k_is ∙ sym e) in
-    not_there st.tables st.here p to l alone l_in (sym one_service ∙ ap (service_of st.tables) k_is)
-    (sym (others st.here p to l other) ∙ sym met
-    ∙ ap (machine_at (shifted st.here p to)) k_is ∙ placed st p to h))
-    (λ (k_other : k ≢ p). ⊎_elim
-    (λ (l_is : l ≡ p). λ met. not_there st.tables st.here p to k alone k_in
-    (one_service ∙ ap (service_of st.tables) l_is)
-    (sym (others st.here p to k k_other) ∙ met ∙ ap (machine_at (shifted st.here p to)) l_is ∙ placed st p to h))
-    (λ (l_other : l ≢ p). λ met. h.feasible.conflict k l k_in l_in apart one_service
-    (sym (others st.here p to k k_other)
-    ∙ met ∙ others st.here p to l l_other))
-    (cases_eq l p))
-    (cases_eq k p)
-
--- spread
-pub spread_after : (st : Situation) (p to : ℕ) → IsStart st p to →
-    spread_of st.tables (service_of st.tables p) ≤ locations_of st.tables (shifted st.here p to)
-    (service_of st.tables p) → (s : ℕ) → s < service_count st.tables →
-    spread_of st.tables s ≤ locations_of st.tables (shifted st.here p to) s
-spread_after st p to h mine s within = ⊎_elim
-    (λ (same : s ≡ service_of st.tables p). rw same mine)
-    (λ (other : s ≢ service_of st.tables p). omega (
-      arith,
-      locations_other st.tables st.here p to s h.fits h.known (λ e. other (sym e)),
-      h.feasible.spread s within,
-    ))
-    (cases_eq s (service_of st.tables p))
-
--- closed machines
-pub closed_after : (st : Situation) (p to : ℕ) → IsStart st p to →
-    (closed_at st.tables to ≡ true → machine_at st.start p ≡ to) → (q : ℕ) → q < process_count st.tables →
-    closed_at st.tables (machine_at (shifted st.here p to) q) ≡ true →
-    machine_at st.start q ≡ machine_at (shifted st.here p to) q
-closed_after st p to h admitted q within closed = ⊎_elim
-    (λ (same : q ≡ p).
-    let here : machine_at (shifted st.here p to) q ≡ to = ap (machine_at (shifted st.here p to)) same
-    ∙ placed st p to h in
-    ap (machine_at st.start) same ∙ admitted (ap (closed_at st.tables) (sym here) ∙ closed) ∙ sym here)
-    (λ (other : q ≢ p). h.feasible.closed q within (ap (closed_at st.tables) (sym (others st.here p to q other))
-    ∙ closed)
-    ∙ sym (others st.here p to q other))
-    (cases_eq q p)
+  -- closed machines
+  pub closed_after : IsStart st p to →
+      (closed_at st.tables to ≡ true → machine_at st.start p ≡ to) → (q : ℕ) → q < process_count st.tables →
+      closed_at st.tables (machine_at (shifted st.here p to) q) ≡ true →
+      machine_at st.start q ≡ machine_at (shifted st.here p to) q
+  closed_after h admitted q within closed = ⊎_elim
+      (λ (same : q ≡ p).
+      let here : machine_at (shifted st.here p to) q ≡ to = ap (machine_at (shifted st.here p to)) same
+      ∙ placed st p to h in
+      ap (machine_at st.start) same ∙ admitted (ap (closed_at st.tables) (sym here) ∙ closed) ∙ sym here)
+      (λ (other : q ≢ p). h.feasible.closed q within (ap (closed_at st.tables) (sym (others st.here p to q other))
+      ∙ closed)
+      ∙ sym (others st.here p to q other))
+      (cases_eq q p)

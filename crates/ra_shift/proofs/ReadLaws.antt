@@ -34,211 +34,214 @@ filled_more numbers f r v so_far within is k below = ⊎_elim
     (λ (other : k ≢ r). get_or-set_other numbers r k v 0 other ∙ so_far k (omega (arith, other)))
     (cases_eq k r)
 
--- a list begins with what p requires
-pub row_filled : (i : Tables) (p : ℕ) (row rest : List ℕ) → length row ≡ resource_count i →
-    ((r : ℕ) → r < resource_count i → slice_index row r ≡ requirement_of i p r) → AreRequired i p (row ++ rest)
-row_filled i p row rest long each = record {
-  each = λ r within. get_or_append_left row rest 0 r (omega (arith, long, within)) ∙ each r within;
-}
-
--- a machine's row of use, with what p requires and without it
-pub used_with : (i j : Tables) (a : List Machine) (p to r : ℕ) (used required : List ℕ) → j ≡ i →
-    IsUsageRow j a to used → AreRequired i p required → r < resource_count i →
-    slice_index used r + slice_index required r ≡ use_with i a p to r
-unfolding use_with
-used_with i j a p to r used required same row are within =
-    ap₂ (λ x y. x + y) ((rw same at row).each r within) (are.each r within)
-
-pub between_with : (i j : Tables) (a0 b0 a : List Machine) (p to r : ℕ) (between required : List ℕ) → j ≡ i → b0 ≡ a0 →
-    IsTransientRow j b0 a to between → AreRequired i p required → r < resource_count i →
-    slice_index between r + slice_index required r ≡ transient_of i a0 a to r + requirement_of i p r
-between_with i j a0 b0 a p to r between required same start row are within =
-    ap₂ (λ x y. x + y) ((rw (same, start) at row).each r within) (are.each r within)
-
-pub used_without : (i j : Tables) (a : List Machine) (p from r : ℕ) (used required : List ℕ) → j ≡ i →
-    IsUsageRow j a from used → AreRequired i p required → from ≡ machine_at a p → r < resource_count i →
-    slice_index used r - slice_index required r ≡ use_without i a p r
-unfolding use_without
-used_without i j a p from r used required same row are here within =
-    ap₂ (λ x y. x - y) ((rw same at row).each r within ∙ ap (λ m. use_of i a m r) here) (are.each r within)
-
--- a machine uses at least what each of its processes requires
-use_has : (i : Tables) (a : List Machine) (p r : ℕ) → p < process_count i →
-    use_share i (machine_at a p) r p (machine_at a p) ≤ use_of i a (machine_at a p) r
-unfolding use_of
-use_has i a p r within = tally_term (process_count i) p (use_share i (machine_at a p) r) a within
-
-use_own : (i : Tables) (m r p : ℕ) → use_share i m r p m ≡ requirement_of i p r
-unfolding use_share
-use_own i m r p = cond-true (eqb m m) _ _ (eq-eqb m m refl)
-
-pub use_covers : (i : Tables) (a : List Machine) (p r : ℕ) → p < process_count i →
-    requirement_of i p r ≤ use_of i a (machine_at a p) r
-use_covers i a p r within = omega (arith, use_has i a p r within, use_own i (machine_at a p) r p)
-
-pub used_covers : (i j : Tables) (a : List Machine) (p from r : ℕ) (used required : List ℕ) → j ≡ i →
-    IsUsageRow j a from used → AreRequired i p required → from ≡ machine_at a p → p < process_count i →
-    r < resource_count i → slice_index required r ≤ slice_index used r
-used_covers i j a p from r used required same row are here known within =
-    omega (
-      arith,
-      (rw same at row).each r within,
-      ap (λ m. use_of i a m r) here,
-      are.each r within,
-      use_covers i a p r known,
-    )
-
--- room
-pub room_holds : (i j : Tables) (a : List Machine) (p to : ℕ) (used required : List ℕ) → j ≡ i →
-    IsUsageRow j a to used → AreRequired i p required →
-    ((k : ℕ) → k < resource_count i → slice_index used k + slice_index required k ≤ capacity_of i to k) →
-    HasRoom i a p to
-room_holds i j a p to used required same row are all = record {
-  each = λ r within. omega (arith, (rw same at row).each r within, are.each r within, all r within);
-}
-
-pub between_holds : (i j : Tables) (a0 b0 a : List Machine) (p to : ℕ) (between required : List ℕ) → j ≡ i → b0 ≡ a0 →
-    IsTransientRow j b0 a to between → AreRequired i p required →
-    ((k : ℕ) → k < resource_count i → transient_at i k ≡ true → slice_index between k + slice_index required k ≤
-    capacity_of i to k) → HasRoomBetween (situation i a0 a) p to
-between_holds i j a0 b0 a p to between required same start row are all = record {
-  each = λ r within transient away.
-      omega (arith, (rw (same, start) at row).each r within, are.each r within, all r within transient);
-}
-
--- the locations without p
-pub without_last : (i : Tables) (a : List Machine) (p s label n held : ℕ) → Small i → p < process_count i →
-    s ≡ service_of i p → label ≡ location_of i (machine_at a p) → n ≡ locations_of i a s →
-    held ≡ in_location i a s label → held ≡ 1 → (1 ≤ n) × (n - 1 ≡ locations_without i a p)
-unfolding locations_without
-without_last i a p s label n held small within s_is label_is n_is held_is last =
-    let here : in_location i a (service_of i p) (location_of i (machine_at a p)) ≡ 1 =
-    ap₂ (in_location i a) (sym s_is) (sym label_is) ∙ sym held_is ∙ last in
-    let one = one_if_true (eqb (in_location i a (service_of i p) (location_of i (machine_at a p))) 1)
-    (eq-eqb _ _ here) in
-    let all : n ≡ locations_of i a (service_of i p) = n_is ∙ ap (locations_of i a) s_is in
-    (omega (arith, all, one, some_location i a p small within), omega (arith, all, one))
-
-pub without_more : (i : Tables) (a : List Machine) (p s label n held : ℕ) → s ≡ service_of i p →
-    label ≡ location_of i (machine_at a p) → n ≡ locations_of i a s → held ≡ in_location i a s label → held ≢ 1 →
-    n ≡ locations_without i a p
-unfolding locations_without
-without_more i a p s label n held s_is label_is n_is held_is more =
-    let here : in_location i a (service_of i p) (location_of i (machine_at a p)) ≡ held =
-    ap₂ (in_location i a) (sym s_is) (sym label_is) ∙ sym held_is in
-    let none = one_if_false (eqb (in_location i a (service_of i p) (location_of i (machine_at a p))) 1)
-    (ne_eqb _ _ (λ e. more (sym here ∙ e))) in
-    let all : n ≡ locations_of i a (service_of i p) = n_is ∙ ap (locations_of i a) s_is in
-    omega (arith, all, none)
-
 -- the dependants of a service, by place
 number_at : (services : List Service) (k : ℕ) → k < length services → slice_index (numbers_of services) k ≡
     service_at services k
 unfolding service_at
 number_at services k within = get_or-map (λ (s : Service). s.0) services k (record { 0 = 0 }) 0 within
 
-pub dependant_at : (i : Tables) (s k : ℕ) (services : List Service) → AreDependantsOf i s services →
-    k < length services → (service_at services k < service_count i) × (depends i (service_at services k) s ≡ true)
-unfolding is_dependant
-dependant_at i s k services are within =
-    let here = sym (number_at services k within) ∙ ap (λ xs. slice_index xs k) are.numbers in
-    let inside : k < length (pick (service_count i) (is_dependant i s)) =
-    omega (arith, length-map services (λ (u : Service). u.0), ap (length {A = ℕ}) are.numbers) in
-    let at = pick_at (service_count i) (is_dependant i s) k inside in
-    (omega (arith, here, at.0), ap (λ u. depends i u s) here ∙ at.1)
+module _ (i : Tables) where
+  -- a list begins with what p requires
+  pub row_filled : (p : ℕ) (row rest : List ℕ) → length row ≡ resource_count i →
+      ((r : ℕ) → r < resource_count i → slice_index row r ≡ requirement_of i p r) → AreRequired i p (row ++ rest)
+  row_filled p row rest long each = record {
+    each = λ r within. get_or_append_left row rest 0 r (omega (arith, long, within)) ∙ each r within;
+  }
 
-pub dependant_found : (i : Tables) (s d : ℕ) (services : List Service) → AreDependantsOf i s services →
-    d < service_count i → depends i d s ≡ true → (k : ℕ) × (k < length services) × (service_at services k ≡ d)
-unfolding is_dependant
-dependant_found i s d services are within needs =
-    let place = pick_place (service_count i) d (is_dependant i s) within needs in
-    let k = count d (is_dependant i s) in
-    let inside : k < length services =
-    omega (arith, place.0, length-map services (λ (u : Service). u.0), ap (length {A = ℕ}) are.numbers) in
-    (k, inside, sym (number_at services k inside) ∙ ap (λ xs. slice_index xs k) are.numbers ∙ place.1)
+  -- a machine's row of use, with what p requires and without it
+  pub used_with : (j : Tables) (a : List Machine) (p to r : ℕ) (used required : List ℕ) → j ≡ i →
+      IsUsageRow j a to used → AreRequired i p required → r < resource_count i →
+      slice_index used r + slice_index required r ≡ use_with i a p to r
+  unfolding use_with
+  used_with j a p to r used required same row are within =
+      ap₂ (λ x y. x + y) ((rw same at row).each r within) (are.each r within)
 
--- whether p may leave, from its service's dependants
-pub may_from_many : (i : Tables) (a : List Machine) (p s label n : ℕ) → s ≡ service_of i p →
-    label ≡ neighbourhood_of i (machine_at a p) → n ≡ in_neighbourhood i a s label → 1 < n → MayLeave i a p
-may_from_many i a p s label n s_is label_is n_is many = record {
-  each = λ d within needs other last. absurd (omega (arith, n_is, ap₂ (in_neighbourhood i a) s_is label_is));
-}
+  pub between_with : (j : Tables) (a0 b0 a : List Machine) (p to r : ℕ) (between required : List ℕ) → j ≡ i → b0 ≡ a0 →
+      IsTransientRow j b0 a to between → AreRequired i p required → r < resource_count i →
+      slice_index between r + slice_index required r ≡ transient_of i a0 a to r + requirement_of i p r
+  between_with j a0 b0 a p to r between required same start row are within =
+      ap₂ (λ x y. x + y) ((rw (same, start) at row).each r within) (are.each r within)
 
-pub may_from_none : (i : Tables) (a : List Machine) (p s label : ℕ) (services : List Service) → s ≡ service_of i p →
-    label ≡ neighbourhood_of i (machine_at a p) → AreDependantsOf i s services →
-    ((k : ℕ) → k < length services → service_at services k ≢ s → in_neighbourhood i a (service_at services k) label ≡
-    0) → MayLeave i a p
-may_from_none i a p s label services s_is label_is are none = record {
-  each = λ d within needs other last.
-      let found = dependant_found i s d services are within (ap (depends i d) s_is ∙ needs) in
-      ap₂ (in_neighbourhood i a) (sym found.2) (sym label_is)
-      ∙ none found.0 found.1 (λ e. other (sym found.2 ∙ e ∙ s_is));
-}
+  pub used_without : (j : Tables) (a : List Machine) (p from r : ℕ) (used required : List ℕ) → j ≡ i →
+      IsUsageRow j a from used → AreRequired i p required → from ≡ machine_at a p → r < resource_count i →
+      slice_index used r - slice_index required r ≡ use_without i a p r
+  unfolding use_without
+  used_without j a p from r used required same row are here within =
+      ap₂ (λ x y. x - y) ((rw same at row).each r within ∙ ap (λ m. use_of i a m r) here) (are.each r within)
 
-pub may_not_from : (i : Tables) (a : List Machine) (p s label k n : ℕ) (services : List Service) → s ≡ service_of i p →
-    label ≡ neighbourhood_of i (machine_at a p) → AreDependantsOf i s services → n ≡ in_neighbourhood i a s label →
-    n ≤ 1 → k < length services → service_at services k ≢ s → 0 < in_neighbourhood i a (service_at services k) label →
-    MayLeave i a p → ⊥
-may_not_from i a p s label k n services s_is label_is are n_is few within other some may =
-    let at = dependant_at i s k services are within in
-    let none = may.each (service_at services k) at.0 (ap (depends i (service_at services k)) (sym s_is) ∙ at.1)
-    (λ e. other (e ∙ sym s_is)) (omega (arith, n_is, ap₂ (in_neighbourhood i a) s_is label_is)) in
-    omega (arith, some, none, ap (in_neighbourhood i a (service_at services k)) label_is)
+  use_own : (m r p : ℕ) → use_share i m r p m ≡ requirement_of i p r
+  unfolding use_share
+  use_own m r p = cond-true (eqb m m) _ _ (eq-eqb m m refl)
 
--- what is needed, by place
--- each dependency is one of the needs that are listed once, and each of those is that of a dependency
-need_listed : (i : Tables) (s k : ℕ) (services : List Service) → AreDistinctNeedsOf i s services →
-    k < dependency_count i s → (x : ℕ) × (x < length services) × (service_at services x ≡ need_of i s k)
-need_listed i s k services are within = is_named_from (length services) (service_at services) (need_of i s k)
-    (are.same (need_of i s k) ∙ is_named_at (dependency_count i s) k (need_of i s) (need_of i s k) within refl)
+  pub dependant_at : (s k : ℕ) (services : List Service) → AreDependantsOf i s services →
+      k < length services → (service_at services k < service_count i) × (depends i (service_at services k) s ≡ true)
+  unfolding is_dependant
+  dependant_at s k services are within =
+      let here = sym (number_at services k within) ∙ ap (λ xs. slice_index xs k) are.numbers in
+      let inside : k < length (pick (service_count i) (is_dependant i s)) =
+      omega (arith, length-map services (λ (u : Service). u.0), ap (length {A = ℕ}) are.numbers) in
+      let at = pick_at (service_count i) (is_dependant i s) k inside in
+      (omega (arith, here, at.0), ap (λ u. depends i u s) here ∙ at.1)
 
-listed_need : (i : Tables) (s x : ℕ) (services : List Service) → AreDistinctNeedsOf i s services → x < length services →
-    (k : ℕ) × (k < dependency_count i s) × (need_of i s k ≡ service_at services x)
-listed_need i s x services are within = is_named_from (dependency_count i s) (need_of i s) (service_at services x)
-    (sym (are.same (service_at services x)) ∙ is_named_at (length services) x (service_at services)
-    (service_at services x) within refl)
+  pub dependant_found : (s d : ℕ) (services : List Service) → AreDependantsOf i s services →
+      d < service_count i → depends i d s ≡ true → (k : ℕ) × (k < length services) × (service_at services k ≡ d)
+  unfolding is_dependant
+  dependant_found s d services are within needs =
+      let place = pick_place (service_count i) d (is_dependant i s) within needs in
+      let k = count d (is_dependant i s) in
+      let inside : k < length services =
+      omega (arith, place.0, length-map services (λ (u : Service). u.0), ap (length {A = ℕ}) are.numbers) in
+      (k, inside, sym (number_at services k inside) ∙ ap (λ xs. slice_index xs k) are.numbers ∙ place.1)
 
-pub needs_hold : (i : Tables) (a : List Machine) (p s to label : ℕ) (services : List Service) → s ≡ service_of i p →
-    label ≡ neighbourhood_of i to → AreDistinctNeedsOf i s services →
-    ((k : ℕ) → k < length services → service_at services k ≢ service_of i p →
-    0 < in_neighbourhood i a (service_at services k) label) → FindsOtherNeeds i a p to
-needs_hold i a p s to label services s_is label_is are all = record {
-  each = λ k within other.
-      let listed = need_listed i s k services are (omega (arith, within, ap (dependency_count i) s_is)) in
-      let here : service_at services listed.0 ≡ need_of i (service_of i p) k = listed.2
-      ∙ ap (λ u. need_of i u k) s_is in
-      omega (arith, all listed.0 listed.1 (λ e. other (sym here ∙ e)), ap₂ (in_neighbourhood i a) here label_is);
-}
+  -- what is needed, by place
+  -- each dependency is one of the needs that are listed once, and each of those is that of a dependency
+  need_listed : (s k : ℕ) (services : List Service) → AreDistinctNeedsOf i s services →
+      k < dependency_count i s → (x : ℕ) × (x < length services) × (service_at services x ≡ need_of i s k)
+  need_listed s k services are within = is_named_from (length services) (service_at services) (need_of i s k)
+      (are.same (need_of i s k) ∙ is_named_at (dependency_count i s) k (need_of i s) (need_of i s k) within refl)
 
-pub needs_lack : (i : Tables) (a : List Machine) (p s to label k : ℕ) (services : List Service) → s ≡ service_of i p →
-    label ≡ neighbourhood_of i to → AreDistinctNeedsOf i s services → k < length services →
-    service_at services k ≢ service_of i p → in_neighbourhood i a (service_at services k) label ≡ 0 →
-    FindsOtherNeeds i a p to → ⊥
-needs_lack i a p s to label k services s_is label_is are within other none finds =
-    let listed = listed_need i s k services are within in
-    let here : service_at services k ≡ need_of i (service_of i p) listed.0 = sym listed.2
-    ∙ ap (λ u. need_of i u listed.0) s_is in
-    omega (
-      arith,
-      none,
-      finds.each listed.0 (omega (arith, listed.1, ap (dependency_count i) s_is))
-          (λ e. other (here ∙ e)),
-      ap₂ (in_neighbourhood i a) here label_is,
-    )
+  listed_need : (s x : ℕ) (services : List Service) → AreDistinctNeedsOf i s services → x < length services →
+      (k : ℕ) × (k < dependency_count i s) × (need_of i s k ≡ service_at services x)
+  listed_need s x services are within = is_named_from (dependency_count i s) (need_of i s) (service_at services x)
+      (sym (are.same (service_at services x)) ∙ is_named_at (length services) x (service_at services)
+      (service_at services x) within refl)
 
--- the lists of a topology
-pub dependants_there : (i : Tables) (lists : List (List Service)) (s : ℕ) (services : List Service) →
-    AreDependants lists i → s < service_count i → services ≡ services_of lists s → AreDependantsOf i s services
-dependants_there i lists s services are within is =
-    subst (λ (xs : List Service). AreDependantsOf i s xs) (sym is) (are.each s within)
+  module _ (a : List Machine) (p : ℕ) where
+    -- a machine uses at least what each of its processes requires
+    use_has : (r : ℕ) → p < process_count i →
+        use_share i (machine_at a p) r p (machine_at a p) ≤ use_of i a (machine_at a p) r
+    unfolding use_of
+    use_has r within = tally_term (process_count i) p (use_share i (machine_at a p) r) a within
 
-pub needs_there : (i : Tables) (lists : List (List Service)) (s : ℕ) (services : List Service) →
-    AreDistinctNeeds lists i → s < service_count i → services ≡ services_of lists s → AreDistinctNeedsOf i s services
-needs_there i lists s services are within is =
-    subst (λ (xs : List Service). AreDistinctNeedsOf i s xs) (sym is) (are.each s within)
+    pub use_covers : (r : ℕ) → p < process_count i →
+        requirement_of i p r ≤ use_of i a (machine_at a p) r
+    use_covers r within = omega (arith, use_has r within, use_own (machine_at a p) r p)
 
-pub needs_within : (i : Tables) (s k : ℕ) (services : List Service) → WellFormed i → AreDistinctNeedsOf i s services →
-    s < service_count i → k < length services → service_at services k < service_count i
-needs_within i s k services limits are within inside =
-    let listed = listed_need i s k services are inside in
-    omega (arith, listed.2, need_within i s listed.0 limits within listed.1)
+    module _ (s label : ℕ) where
+      -- the locations without p
+      pub without_last : (n held : ℕ) → Small i → p < process_count i →
+          s ≡ service_of i p → label ≡ location_of i (machine_at a p) → n ≡ locations_of i a s →
+          held ≡ in_location i a s label → held ≡ 1 → (1 ≤ n) × (n - 1 ≡ locations_without i a p)
+      unfolding locations_without
+      without_last n held small within s_is label_is n_is held_is last =
+          let here : in_location i a (service_of i p) (location_of i (machine_at a p)) ≡ 1 =
+          ap₂ (in_location i a) (sym s_is) (sym label_is) ∙ sym held_is ∙ last in
+          let one = one_if_true (eqb (in_location i a (service_of i p) (location_of i (machine_at a p))) 1)
+          (eq-eqb _ _ here) in
+          let all : n ≡ locations_of i a (service_of i p) = n_is ∙ ap (locations_of i a) s_is in
+          (omega (arith, all, one, some_location i a p small within), omega (arith, all, one))
+
+      pub without_more : (n held : ℕ) → s ≡ service_of i p →
+          label ≡ location_of i (machine_at a p) → n ≡ locations_of i a s → held ≡ in_location i a s label → held ≢ 1 →
+          n ≡ locations_without i a p
+      unfolding locations_without
+      without_more n held s_is label_is n_is held_is more =
+          let here : in_location i a (service_of i p) (location_of i (machine_at a p)) ≡ held =
+          ap₂ (in_location i a) (sym s_is) (sym label_is) ∙ sym held_is in
+          let none = one_if_false (eqb (in_location i a (service_of i p) (location_of i (machine_at a p))) 1)
+          (ne_eqb _ _ (λ e. more (sym here ∙ e))) in
+          let all : n ≡ locations_of i a (service_of i p) = n_is ∙ ap (locations_of i a) s_is in
+          omega (arith, all, none)
+
+      -- whether p may leave, from its service's dependants
+      pub may_from_many : (n : ℕ) → s ≡ service_of i p →
+          label ≡ neighbourhood_of i (machine_at a p) → n ≡ in_neighbourhood i a s label → 1 < n → MayLeave i a p
+      may_from_many n s_is label_is n_is many = record {
+        each = λ d within needs other last. absurd (omega (arith, n_is, ap₂ (in_neighbourhood i a) s_is label_is));
+      }
+
+      pub may_from_none : (services : List Service) → s ≡ service_of i p →
+          label ≡ neighbourhood_of i (machine_at a p) → AreDependantsOf i s services →
+          ((k : ℕ) → k < length services → service_at services k ≢ s → in_neighbourhood i a (service_at services k) label ≡
+          0) → MayLeave i a p
+      may_from_none services s_is label_is are none = record {
+        each = λ d within needs other last.
+            let found = dependant_found s d services are within (ap (depends i d) s_is ∙ needs) in
+            ap₂ (in_neighbourhood i a) (sym found.2) (sym label_is)
+            ∙ none found.0 found.1 (λ e. other (sym found.2 ∙ e ∙ s_is));
+      }
+
+      pub may_not_from : (k n : ℕ) (services : List Service) → s ≡ service_of i p →
+          label ≡ neighbourhood_of i (machine_at a p) → AreDependantsOf i s services → n ≡ in_neighbourhood i a s label →
+          n ≤ 1 → k < length services → service_at services k ≢ s → 0 < in_neighbourhood i a (service_at services k) label →
+          MayLeave i a p → ⊥
+      may_not_from k n services s_is label_is are n_is few within other some may =
+          let at = dependant_at s k services are within in
+          let none = may.each (service_at services k) at.0 (ap (depends i (service_at services k)) (sym s_is) ∙ at.1)
+          (λ e. other (e ∙ sym s_is)) (omega (arith, n_is, ap₂ (in_neighbourhood i a) s_is label_is)) in
+          omega (arith, some, none, ap (in_neighbourhood i a (service_at services k)) label_is)
+
+    pub needs_hold : (s to label : ℕ) (services : List Service) → s ≡ service_of i p →
+        label ≡ neighbourhood_of i to → AreDistinctNeedsOf i s services →
+        ((k : ℕ) → k < length services → service_at services k ≢ service_of i p →
+        0 < in_neighbourhood i a (service_at services k) label) → FindsOtherNeeds i a p to
+    needs_hold s to label services s_is label_is are all = record {
+      each = λ k within other.
+          let listed = need_listed s k services are (omega (arith, within, ap (dependency_count i) s_is)) in
+          let here : service_at services listed.0 ≡ need_of i (service_of i p) k = listed.2
+          ∙ ap (λ u. need_of i u k) s_is in
+          omega (arith, all listed.0 listed.1 (λ e. other (sym here ∙ e)), ap₂ (in_neighbourhood i a) here label_is);
+    }
+
+    pub needs_lack : (s to label k : ℕ) (services : List Service) → s ≡ service_of i p →
+        label ≡ neighbourhood_of i to → AreDistinctNeedsOf i s services → k < length services →
+        service_at services k ≢ service_of i p → in_neighbourhood i a (service_at services k) label ≡ 0 →
+        FindsOtherNeeds i a p to → ⊥
+    needs_lack s to label k services s_is label_is are within other none finds =
+        let listed = listed_need s k services are within in
+        let here : service_at services k ≡ need_of i (service_of i p) listed.0 = sym listed.2
+        ∙ ap (λ u. need_of i u listed.0) s_is in
+        omega (
+          arith,
+          none,
+          finds.each listed.0 (omega (arith, listed.1, ap (dependency_count i) s_is))
+              (λ e. other (here ∙ e)),
+          ap₂ (in_neighbourhood i a) here label_is,
+        )
+
+  pub used_covers : (j : Tables) (a : List Machine) (p from r : ℕ) (used required : List ℕ) → j ≡ i →
+      IsUsageRow j a from used → AreRequired i p required → from ≡ machine_at a p → p < process_count i →
+      r < resource_count i → slice_index required r ≤ slice_index used r
+  used_covers j a p from r used required same row are here known within =
+      omega (
+        arith,
+        (rw same at row).each r within,
+        ap (λ m. use_of i a m r) here,
+        are.each r within,
+        use_covers a p r known,
+      )
+
+  -- room
+  pub room_holds : (j : Tables) (a : List Machine) (p to : ℕ) (used required : List ℕ) → j ≡ i →
+      IsUsageRow j a to used → AreRequired i p required →
+      ((k : ℕ) → k < resource_count i → slice_index used k + slice_index required k ≤ capacity_of i to k) →
+      HasRoom i a p to
+  room_holds j a p to used required same row are all = record {
+    each = λ r within. omega (arith, (rw same at row).each r within, are.each r within, all r within);
+  }
+
+  pub between_holds : (j : Tables) (a0 b0 a : List Machine) (p to : ℕ) (between required : List ℕ) → j ≡ i → b0 ≡ a0 →
+      IsTransientRow j b0 a to between → AreRequired i p required →
+      ((k : ℕ) → k < resource_count i → transient_at i k ≡ true → slice_index between k + slice_index required k ≤
+      capacity_of i to k) → HasRoomBetween (situation i a0 a) p to
+  between_holds j a0 b0 a p to between required same start row are all = record {
+    each = λ r within transient away.
+        omega (arith, (rw (same, start) at row).each r within, are.each r within, all r within transient);
+  }
+
+  -- the lists of a topology
+  pub dependants_there : (lists : List (List Service)) (s : ℕ) (services : List Service) →
+      AreDependants lists i → s < service_count i → services ≡ services_of lists s → AreDependantsOf i s services
+  dependants_there lists s services are within is =
+      subst (λ (xs : List Service). AreDependantsOf i s xs) (sym is) (are.each s within)
+
+  pub needs_there : (lists : List (List Service)) (s : ℕ) (services : List Service) →
+      AreDistinctNeeds lists i → s < service_count i → services ≡ services_of lists s → AreDistinctNeedsOf i s services
+  needs_there lists s services are within is =
+      subst (λ (xs : List Service). AreDistinctNeedsOf i s xs) (sym is) (are.each s within)
+
+  pub needs_within : (s k : ℕ) (services : List Service) → WellFormed i → AreDistinctNeedsOf i s services →
+      s < service_count i → k < length services → service_at services k < service_count i
+  needs_within s k services limits are within inside =
+      let listed = listed_need s k services are inside in
+      omega (arith, listed.2, need_within i s listed.0 limits within listed.1)

@@ -55,113 +55,115 @@ brought before after more = ⊎_elim
     ))
     (cases_eq before 0)
 
--- p stays in its location
-within_location : (i : Tables) (a : List Machine) (p to : ℕ) → IsAssignment i a → p < process_count i →
-    location_of i (machine_at a p) ≡ location_of i to → locations_of i (shifted a p to) (service_of i p) ≡
-    locations_of i a (service_of i p)
-unfolding locations_of
-within_location i a p to fits within same =
-    count_same (2 ^ 32) _ _
-    (λ label h. ap (ltb 0)
-    (omega (arith, location_mine i a p to label fits within, ap (λ x. one_if (eqb x label)) same)))
+module _ (i : Tables) (a : List Machine) (p : ℕ) where
+  -- the location of p is one of them
+  pub some_location : Small i → p < process_count i →
+      one_if (eqb (in_location i a (service_of i p) (location_of i (machine_at a p))) 1) ≤
+      locations_of i a (service_of i p)
+  unfolding locations_of
+  some_location small within =
+      let some = count_some (2 ^ 32) (location_of i (machine_at a p))
+      (λ label. ltb 0 (in_location i a (service_of i p) label)) (small.locations (machine_at a p))
+      (lt-ltb 0 _ (location_some i a p within)) in
+      omega (arith, some, one_if_le (eqb (in_location i a (service_of i p) (location_of i (machine_at a p))) 1))
 
--- p goes to another
-to_another : (i : Tables) (a : List Machine) (p to : ℕ) → Small i → IsAssignment i a → p < process_count i →
-    location_of i (machine_at a p) ≢ location_of i to → locations_of i (shifted a p to) (service_of i p)
-    + one_if (eqb (in_location i a (service_of i p) (location_of i (machine_at a p))) 1) ≡
-    locations_of i a (service_of i p) + one_if (eqb (in_location i a (service_of i p) (location_of i to)) 0)
-unfolding locations_of
-to_another i a p to small fits within apart =
-    let s = service_of i p in
-    let from_label = location_of i (machine_at a p) in
-    let to_label = location_of i to in
-    let changed =
-    count_change_two (2 ^ 32) from_label to_label (λ label. ltb 0 (in_location i (shifted a p to) s label))
-    (λ label. ltb 0 (in_location i a s label)) (small.locations (machine_at a p)) (small.locations to) apart
-    (λ label h not_from not_to.
-    ap (ltb 0) (omega (
-      arith,
-      location_mine i a p to label fits within,
-      one_if_false (eqb from_label label) (ne_eqb _ _ (λ e. not_from (sym e))),
-      one_if_false (eqb to_label label) (ne_eqb _ _ (λ e. not_to (sym e))),
-    ))) in
-    let at_from = location_mine i a p to from_label fits within in
-    let at_to = location_mine i a p to to_label fits within in
-    let left = taken_away (in_location i a s from_label) (in_location i (shifted a p to) s from_label)
-    (omega (
-      arith,
-      at_from,
-      one_if_true (eqb from_label from_label) (eq-eqb _ _ refl),
-      one_if_false (eqb to_label from_label) (ne_eqb _ _ (λ e. apart (sym e))),
-    )) in
-    let come = brought (in_location i a s to_label) (in_location i (shifted a p to) s to_label)
-    (omega (
-      arith,
-      at_to,
-      one_if_false (eqb from_label to_label) (ne_eqb _ _ apart),
-      one_if_true (eqb to_label to_label) (eq-eqb _ _ refl),
-    )) in
-    omega (arith, changed, left, come)
+  module _ (to : ℕ) where
+    -- p stays in its location
+    within_location : IsAssignment i a → p < process_count i →
+        location_of i (machine_at a p) ≡ location_of i to → locations_of i (shifted a p to) (service_of i p) ≡
+        locations_of i a (service_of i p)
+    unfolding locations_of
+    within_location fits within same =
+        count_same (2 ^ 32) _ _
+        (λ label h. ap (ltb 0)
+        (omega (arith, location_mine i a p to label fits within, ap (λ x. one_if (eqb x label)) same)))
 
--- the location of p is one of them
-pub some_location : (i : Tables) (a : List Machine) (p : ℕ) → Small i → p < process_count i →
-    one_if (eqb (in_location i a (service_of i p) (location_of i (machine_at a p))) 1) ≤
-    locations_of i a (service_of i p)
-unfolding locations_of
-some_location i a p small within =
-    let some = count_some (2 ^ 32) (location_of i (machine_at a p))
-    (λ label. ltb 0 (in_location i a (service_of i p) label)) (small.locations (machine_at a p))
-    (lt-ltb 0 _ (location_some i a p within)) in
-    omega (arith, some, one_if_le (eqb (in_location i a (service_of i p) (location_of i (machine_at a p))) 1))
+    -- p goes to another
+    to_another : Small i → IsAssignment i a → p < process_count i →
+        location_of i (machine_at a p) ≢ location_of i to → locations_of i (shifted a p to) (service_of i p)
+        + one_if (eqb (in_location i a (service_of i p) (location_of i (machine_at a p))) 1) ≡
+        locations_of i a (service_of i p) + one_if (eqb (in_location i a (service_of i p) (location_of i to)) 0)
+    unfolding locations_of
+    to_another small fits within apart =
+        let s = service_of i p in
+        let from_label = location_of i (machine_at a p) in
+        let to_label = location_of i to in
+        let changed =
+        count_change_two (2 ^ 32) from_label to_label (λ label. ltb 0 (in_location i (shifted a p to) s label))
+        (λ label. ltb 0 (in_location i a s label)) (small.locations (machine_at a p)) (small.locations to) apart
+        (λ label h not_from not_to.
+        ap (ltb 0) (omega (
+          arith,
+          location_mine i a p to label fits within,
+          one_if_false (eqb from_label label) (ne_eqb _ _ (λ e. not_from (sym e))),
+          one_if_false (eqb to_label label) (ne_eqb _ _ (λ e. not_to (sym e))),
+        ))) in
+        let at_from = location_mine i a p to from_label fits within in
+        let at_to = location_mine i a p to to_label fits within in
+        let left = taken_away (in_location i a s from_label) (in_location i (shifted a p to) s from_label)
+        (omega (
+          arith,
+          at_from,
+          one_if_true (eqb from_label from_label) (eq-eqb _ _ refl),
+          one_if_false (eqb to_label from_label) (ne_eqb _ _ (λ e. apart (sym e))),
+        )) in
+        let come = brought (in_location i a s to_label) (in_location i (shifted a p to) s to_label)
+        (omega (
+          arith,
+          at_to,
+          one_if_false (eqb from_label to_label) (ne_eqb _ _ apart),
+          one_if_true (eqb to_label to_label) (eq-eqb _ _ refl),
+        )) in
+        omega (arith, changed, left, come)
 
--- the locations with p on `to`: those of the other processes, and that of `to` if none of them is there
-pub spread_is : (i : Tables) (a : List Machine) (p to : ℕ) → Small i → IsAssignment i a → p < process_count i →
-    locations_of i (shifted a p to) (service_of i p) ≡ locations_without i a p
-    + one_if (eqb (in_location i a (service_of i p) (location_of i to))
-    (one_if (eqb (location_of i (machine_at a p)) (location_of i to))))
-unfolding locations_without
-spread_is i a p to small fits within = ⊎_elim
-    (λ (same : location_of i (machine_at a p) ≡ location_of i to).
-    let stays = within_location i a p to fits within same in
-    let one = one_if_true (eqb (location_of i (machine_at a p)) (location_of i to)) (eq-eqb _ _ same) in
-    let here = ap (λ x. one_if (eqb (in_location i a (service_of i p) (location_of i to)) x)) one in
-    let label = ap (λ x. one_if (eqb (in_location i a (service_of i p) x) 1)) same in
-    omega (arith, stays, here, label, some_location i a p small within))
-    (λ (apart : location_of i (machine_at a p) ≢ location_of i to).
-    let goes = to_another i a p to small fits within apart in
-    let none = one_if_false (eqb (location_of i (machine_at a p)) (location_of i to)) (ne_eqb _ _ apart) in
-    let there = ap (λ x. one_if (eqb (in_location i a (service_of i p) (location_of i to)) x)) none in
-    omega (arith, goes, there, some_location i a p small within))
-    (cases_eq (location_of i (machine_at a p)) (location_of i to))
+    -- the locations with p on `to`: those of the other processes, and that of `to` if none of them is there
+    pub spread_is : Small i → IsAssignment i a → p < process_count i →
+        locations_of i (shifted a p to) (service_of i p) ≡ locations_without i a p
+        + one_if (eqb (in_location i a (service_of i p) (location_of i to))
+        (one_if (eqb (location_of i (machine_at a p)) (location_of i to))))
+    unfolding locations_without
+    spread_is small fits within = ⊎_elim
+        (λ (same : location_of i (machine_at a p) ≡ location_of i to).
+        let stays = within_location fits within same in
+        let one = one_if_true (eqb (location_of i (machine_at a p)) (location_of i to)) (eq-eqb _ _ same) in
+        let here = ap (λ x. one_if (eqb (in_location i a (service_of i p) (location_of i to)) x)) one in
+        let label = ap (λ x. one_if (eqb (in_location i a (service_of i p) x) 1)) same in
+        omega (arith, stays, here, label, some_location small within))
+        (λ (apart : location_of i (machine_at a p) ≢ location_of i to).
+        let goes = to_another small fits within apart in
+        let none = one_if_false (eqb (location_of i (machine_at a p)) (location_of i to)) (ne_eqb _ _ apart) in
+        let there = ap (λ x. one_if (eqb (in_location i a (service_of i p) (location_of i to)) x)) none in
+        omega (arith, goes, there, some_location small within))
+        (cases_eq (location_of i (machine_at a p)) (location_of i to))
 
--- more locations than are wanted are left, whatever the machine
-pub keeps_anyway : (i : Tables) (a : List Machine) (p to least : ℕ) → Small i → IsAssignment i a →
-    p < process_count i → least ≡ spread_of i (service_of i p) → least < locations_of i a (service_of i p) →
-    spread_of i (service_of i p) ≤ locations_of i (shifted a p to) (service_of i p)
-unfolding locations_without
-keeps_anyway i a p to least small fits within least_is more =
-    omega (
-      arith,
-      least_is,
-      more,
-      spread_is i a p to small fits within,
-      one_if_le (eqb (in_location i a (service_of i p) (location_of i (machine_at a p))) 1),
-    )
+    -- more locations than are wanted are left, whatever the machine
+    pub keeps_anyway : (least : ℕ) → Small i → IsAssignment i a →
+        p < process_count i → least ≡ spread_of i (service_of i p) → least < locations_of i a (service_of i p) →
+        spread_of i (service_of i p) ≤ locations_of i (shifted a p to) (service_of i p)
+    unfolding locations_without
+    keeps_anyway least small fits within least_is more =
+        omega (
+          arith,
+          least_is,
+          more,
+          spread_is small fits within,
+          one_if_le (eqb (in_location i a (service_of i p) (location_of i (machine_at a p))) 1),
+        )
 
--- or with the location of the machine
-pub keeps_with : (i : Tables) (a : List Machine) (p to s without home label own held comes : ℕ) → Small i →
-    IsAssignment i a → p < process_count i → s ≡ service_of i p → without ≡ locations_without i a p →
-    home ≡ location_of i (machine_at a p) → label ≡ location_of i to → own ≡ one_if (eqb home label) →
-    held ≡ in_location i a s label → comes ≡ one_if (eqb held own) →
-    without + comes ≡ locations_of i (shifted a p to) (service_of i p)
-keeps_with i a p to s without home label own held comes small fits within s_is without_is home_is label_is own_is
-    held_is comes_is =
-    let own_there : own ≡ one_if (eqb (location_of i (machine_at a p)) (location_of i to)) = own_is
-    ∙ ap₂ (λ x y. one_if (eqb x y)) home_is label_is in
-    let held_there : held ≡ in_location i a (service_of i p) (location_of i to) = held_is
-    ∙ ap₂ (in_location i a) s_is label_is in
-    let comes_there : comes ≡
-    one_if (eqb (in_location i a (service_of i p) (location_of i to))
-    (one_if (eqb (location_of i (machine_at a p)) (location_of i to)))) = comes_is
-    ∙ ap₂ (λ x y. one_if (eqb x y)) held_there own_there in
-    omega (arith, without_is, comes_there, spread_is i a p to small fits within)
+    -- or with the location of the machine
+    pub keeps_with : (s without home label own held comes : ℕ) → Small i →
+        IsAssignment i a → p < process_count i → s ≡ service_of i p → without ≡ locations_without i a p →
+        home ≡ location_of i (machine_at a p) → label ≡ location_of i to → own ≡ one_if (eqb home label) →
+        held ≡ in_location i a s label → comes ≡ one_if (eqb held own) →
+        without + comes ≡ locations_of i (shifted a p to) (service_of i p)
+    keeps_with s without home label own held comes small fits within s_is without_is home_is label_is own_is
+        held_is comes_is =
+        let own_there : own ≡ one_if (eqb (location_of i (machine_at a p)) (location_of i to)) = own_is
+        ∙ ap₂ (λ x y. one_if (eqb x y)) home_is label_is in
+        let held_there : held ≡ in_location i a (service_of i p) (location_of i to) = held_is
+        ∙ ap₂ (in_location i a) s_is label_is in
+        let comes_there : comes ≡
+        one_if (eqb (in_location i a (service_of i p) (location_of i to))
+        (one_if (eqb (location_of i (machine_at a p)) (location_of i to)))) = comes_is
+        ∙ ap₂ (λ x y. one_if (eqb x y)) held_there own_there in
+        omega (arith, without_is, comes_there, spread_is small fits within)
