@@ -63,18 +63,21 @@ module _ (st : Situation) (p to : ℕ) where
     reach = h.reach;
     apart = apart;
   }
+
   -- what the judge asks of a shift
   unbroken_after : broken_by st (leaving st.here p to ∷ []) ≡ None →
       broken_at (record st { here = shifted st.here p to }) ≡ None
   unfolding broken_by
   unbroken_after none = ap (first_broken st.tables st.start) (sym (applied_one st.here p to))
       ∙ right_none (same_of (leaving st.here p to ∷ [])) _ (right_none (repeat_of (leaving st.here p to ∷ [])) _ none)
+
   pub apart_after : broken_by st (leaving st.here p to ∷ []) ≡ None →
       machine_at st.here p ≢ to
   unfolding broken_by
   apart_after none =
       apart_from st.here p to
       (left_none (same_of (leaving st.here p to ∷ [])) _ (right_none (repeat_of (leaving st.here p to ∷ [])) _ none))
+
   unbroken_from : machine_at st.here p ≢ to →
       broken_at (record st { here = shifted st.here p to }) ≡ None → broken_by st (leaving st.here p to ∷ []) ≡ None
   unfolding broken_by
@@ -82,6 +85,7 @@ module _ (st : Situation) (p to : ℕ) where
       both_none _ _ (no_repeat st.here p to)
       (both_none _ _ (same_none st.here p to apart) (ap (first_broken st.tables st.start) (applied_one st.here p to)
       ∙ none))
+
   -- all constraints after it
   feasible_after : IsStart st p to → Allows st p to →
       IsFeasible (record st { here = shifted st.here p to })
@@ -93,6 +97,7 @@ module _ (st : Situation) (p to : ℕ) where
     dependency = dependency_after st p to h allows.needs allows.leaves;
     closed = closed_after st p to h allows.admitted;
   }
+
   allows_from : IsStart st p to → IsFeasible (record st { here = shifted st.here p to }) →
       Allows st p to
   allows_from h after = record {
@@ -105,6 +110,7 @@ module _ (st : Situation) (p to : ℕ) where
     leaves = leaves_from st p to h after;
     admitted = λ closed. after.closed p h.known (ap (closed_at st.tables) (placed st p to h) ∙ closed) ∙ placed st p to h;
   }
+
   pub allowed : IsAt st p to →
       broken_by st (leaving st.here p to ∷ []) ≡ None → Allows st p to
   allowed h none =
@@ -112,12 +118,14 @@ module _ (st : Situation) (p to : ℕ) where
       allows_from start
       (feasible_from_unbroken st.tables st.start (shifted st.here p to) h.formed
       (fits_set st.tables st.here p (record { 0 = to }) h.fits h.known h.reach) (unbroken_after none))
+
   pub unbroken : IsAt st p to → Allows st p to →
       broken_by st (leaving st.here p to ∷ []) ≡ None
   unbroken h allows =
       unbroken_from allows.apart
       (unbroken_from_feasible st.tables st.start (shifted st.here p to)
       (feasible_after (start_of h allows.apart) allows))
+
   -- in a world
   pub at_of : IsSound st → p < process_count st.tables → to < machine_count st.tables →
       IsAt st p to

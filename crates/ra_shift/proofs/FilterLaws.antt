@@ -51,21 +51,25 @@ module _ (i : Tables) (a : List Machine) (p m : ℕ) where
         let q = requirement_of i p r in
         let s = safety_of i m r in
         omega (arith, mul-sub w (u + q) s, mul-sub w u s, mul-sub w s u)
+
     -- what is left of a resource of a machine that a process enters
     left_with : row_left i m (use_with i a p m) r ≡ available i a m r
         - requirement_of i p r
     unfolding row_left use_with available
     left_with = omega arith
+
     room_left : HasRoom i a p m → r < resource_count i →
         requirement_of i p r ≤ available i a m r
     unfolding available
     room_left room within = omega (arith, room.each r within)
+
   -- what a process adds to the load cost of a machine
   pub load_comes : row_load i m (use_with i a p m) ≡ machine_load i a m
       + load_above i a p m
   unfolding row_load machine_load load_above
   load_comes = total_same (resource_count i) _ _ (λ r within. share_comes r)
       ∙ total_of_sum (resource_count i) (load_share i m (use_of i a m)) (λ r. load_asked i p r - load_row i a m r)
+
   balance_comes_at : (b : ℕ) → WellFormed i → HasRoom i a p m → b < balance_count i →
       balance_share i m (use_with i a p m) b + first_asked i p b ≡ balance_share i m (use_of i a m) b
       + ((first_asked i p b - first_row i a m b) + (second_asked i p b - second_row i a m b))
@@ -85,12 +89,14 @@ module _ (i : Tables) (a : List Machine) (p m : ℕ) where
       let spread = ap (λ x. w * (x - (a2 - q2))) (mul-sub t a1 q1) in
       let law = weighed_comes w (t * a1) (t * q1) a2 q2 (mul-le-mul_left t first_room) second_room in
       ap (λ x. x + w * (t * q1 - q2)) (same ∙ spread) ∙ law
+
   -- what a process with room adds to the balance cost of a machine
   pub balance_comes : WellFormed i → HasRoom i a p m →
       row_balance i m (use_with i a p m) + saved i p ≡ machine_balance i a m + balance_above i a p m
   unfolding row_balance machine_balance saved balance_above
   balance_comes limits room =
       total_balance (balance_count i) _ _ _ _ (λ b within. balance_comes_at b limits room within)
+
   -- both costs of the machine that is entered
   cost_comes : WellFormed i → HasRoom i a p m →
       row_cost_with i m (use_with i a p m) + saved i p ≡ cost_of i a m + load_above i a p m + balance_above i a p m
@@ -122,17 +128,20 @@ module _ (st : Situation) (p : ℕ) where
   unfolding moved_away
   away_mine n s mine is = is ∙ ap (λ k. moved_at st k + 1 - away (machine_at st.start p) (machine_at st.here p))
       (sym mine) ∙ sym (cond-true (eqb s (service_of st.tables p)) _ _ (eq-eqb s (service_of st.tables p) mine))
+
   pub away_other : (n s : ℕ) → s ≢ service_of st.tables p → n ≡ moved_at st s →
       n ≡ moved_away st p s
   unfolding moved_away
   away_other n s other is =
       is ∙ sym (cond-false (eqb s (service_of st.tables p)) _ (moved_at st s) (ne_eqb s (service_of st.tables p) other))
+
   module _ (to : ℕ) where
     module _ (s : ℕ) where
       moved_other : IsAssignment st.tables st.here → p < process_count st.tables →
           service_of st.tables p ≢ s → moved_at (record st { here = shifted st.here p to }) s ≡ moved_at st s
       unfolding moved_of
       moved_other fits within other = members_other st.tables st.here p to s _ fits within other
+
       pub moved_once_away : IsAssignment st.tables st.here → p < process_count st.tables →
           machine_at st.start p ≢ to → moved_at (record st { here = shifted st.here p to }) s ≡ moved_away st p s
       moved_once_away fits within apart = ⊎_elim
@@ -144,10 +153,12 @@ module _ (st : Situation) (p : ℕ) where
           (λ (other : s ≢ service_of st.tables p).
           away_other _ s other (moved_other fits within (λ same. other (sym same))))
           (cases_eq s (service_of st.tables p))
+
       -- the moved count of another service stays
       pub count_stays : IsAssignment st.tables st.here → p < process_count st.tables →
           s ≢ service_of st.tables p → moved_at st s ≡ moved_at (record st { here = shifted st.here p to }) s
       count_stays fits within other = sym (moved_other fits within (λ same. other (sym same)))
+
     service_then : IsAssignment st.tables st.here → p < process_count st.tables →
         machine_at st.start p ≢ to → service_cost_at (record st { here = shifted st.here p to }) ≡ service_away st p
     unfolding service_cost service_away
@@ -155,6 +166,7 @@ module _ (st : Situation) (p : ℕ) where
         ap (λ x. service_weight_of st.tables * x)
         (greatest_same (service_count st.tables) (moved_at (record st { here = shifted st.here p to })) (moved_away st p)
         (λ s h. moved_once_away s fits within apart))
+
     -- the whole change
     pub filtered : IsStart st p to → HasRoom st.tables st.here p to →
         machine_at st.start p ≢ to → IsFiltered st p to
@@ -172,6 +184,7 @@ module _ (st : Situation) (p : ℕ) where
         objective_parts (record st { here = shifted st.here p to }),
       );
     }
+
     -- and if p comes home
     pub home_change : IsStart st p to →
         cost_at (record st { here = shifted st.here p to })
@@ -188,6 +201,7 @@ module _ (st : Situation) (p : ℕ) where
       objective_parts st,
       objective_parts (record st { here = shifted st.here p to }),
     )
+
   -- none is above the number of all processes
   pub moved_away_few : (s : ℕ) → IsAssignment st.tables st.here → p < process_count st.tables →
       moved_away st p s ≤ process_count st.tables

@@ -17,7 +17,8 @@ use Rattle.ra_base.proofs.Sums.{total_more}
 use Rattle.ra_base.proofs.Greatest.{greatest_same}
 use Rattle.ra_cells.specs.Replaced.{counted_after, greatest_with}
 use Rattle.ra_rows.specs.Rows.{IsUsageRow}
-use Rattle.ra_shift.specs.Sharing.{AreRequired}
+use Rattle.ra_shift.specs.declared.filter.Asked.{Asked}
+use Rattle.ra_shift.specs.Sharing.{AreRequired, HasAsked}
 
 -- one more term
 pub more_sum : (n s x : ℕ) (f : ℕ → ℕ) → s ≡ total n f → x ≡ f n → s + x ≡ total (n + 1) f
@@ -58,17 +59,15 @@ module _ (i : Tables) where
         are.each row.second.0 (omega (arith, limits.seconds b within, second_read i b row is))
         ∙ ap (requirement_of i p) (second_read i b row is)
 
-    pub saved_by_is : (weight target q1 q2 : ℕ) → weight ≡ balance_weight_of i b → target ≡ target_of i b →
-        q1 ≡ requirement_of i p (first_of i b) → q2 ≡ requirement_of i p (second_of i b) →
-        weight * (target * q1 - q2) ≡ first_asked i p b
+    pub saved_by_is : (weight : ℕ) (asked : Asked) → weight ≡ balance_weight_of i b → HasAsked i p b asked →
+        weight * (asked.wanted - asked.taken) ≡ first_asked i p b
     unfolding first_asked
-    saved_by_is weight target q1 q2 weight_is target_is q1_is q2_is = rw (weight_is, target_is, q1_is, q2_is) refl
+    saved_by_is weight asked weight_is are = rw (weight_is, are.wanted, are.taken) refl
 
-    pub second_asked_is : (weight target q1 q2 : ℕ) → weight ≡ balance_weight_of i b →
-        target ≡ target_of i b → q1 ≡ requirement_of i p (first_of i b) → q2 ≡ requirement_of i p (second_of i b) →
-        weight * (q2 - target * q1) ≡ second_asked i p b
+    pub second_asked_is : (weight : ℕ) (asked : Asked) → weight ≡ balance_weight_of i b → HasAsked i p b asked →
+        weight * (asked.taken - asked.wanted) ≡ second_asked i p b
     unfolding second_asked
-    second_asked_is weight target q1 q2 weight_is target_is q1_is q2_is = rw (weight_is, target_is, q1_is, q2_is) refl
+    second_asked_is weight asked weight_is are = rw (weight_is, are.wanted, are.taken) refl
 
   -- what an objective has of its row
   pub target_read : (b : ℕ) (row : BalanceRow) → row ≡ balance_row i b → row.target ≡ target_of i b
@@ -79,15 +78,15 @@ module _ (i : Tables) where
   unfolding balance_weight_of
   weight_read b row is = ap (λ (r : BalanceRow). r.weight) is
 
-  pub balance_more_is : (a : List Machine) (p m b weight target aim first second q1 q2 : ℕ) →
-      weight ≡ balance_weight_of i b → target ≡ target_of i b → aim ≡ target_of i b →
-      first ≡ available i a m (first_of i b) → second ≡ available i a m (second_of i b) →
-      q1 ≡ requirement_of i p (first_of i b) → q2 ≡ requirement_of i p (second_of i b) →
-      weight * ((aim * q1 - q2 - (target * first - second)) + (q2 - aim * q1 - (second - target * first))) ≡
+  pub balance_more_is : (a : List Machine) (p m b weight target first second : ℕ) (asked : Asked) →
+      weight ≡ balance_weight_of i b → target ≡ target_of i b → first ≡ available i a m (first_of i b) →
+      second ≡ available i a m (second_of i b) → HasAsked i p b asked →
+      weight * ((asked.wanted - asked.taken - (target * first - second))
+      + (asked.taken - asked.wanted - (second - target * first))) ≡
       first_asked i p b - first_row i a m b + (second_asked i p b - second_row i a m b)
   unfolding first_asked first_row second_asked second_row
-  balance_more_is a p m b weight target aim first second q1 q2 weight_is target_is aim_is first_is second_is q1_is
-      q2_is = rw (weight_is, target_is, aim_is, first_is, second_is, q1_is, q2_is)
+  balance_more_is a p m b weight target first second asked weight_is target_is first_is second_is are =
+      rw (weight_is, target_is, first_is, second_is, are.wanted, are.taken)
       (weighed_more (balance_weight_of i b) (target_of i b * requirement_of i p (first_of i b))
       (requirement_of i p (second_of i b)) (target_of i b * available i a m (first_of i b))
       (available i a m (second_of i b)))

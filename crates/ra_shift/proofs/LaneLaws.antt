@@ -36,12 +36,14 @@ module _ (i : Tables) where
   asked_load : (p j : ℕ) → j < resource_count i → filter_asked i p j ≡ load_asked i p j
   unfolding filter_asked
   asked_load p j below = cond-true (ltb j (resource_count i)) _ _ (lt-ltb _ _ below)
+
   asked_first : (p b : ℕ) → b < balance_count i → filter_asked i p (resource_count i + b) ≡ first_asked i p b
   unfolding filter_asked
   asked_first p b below =
       cond-false (ltb (resource_count i + b) (resource_count i)) _ _ (le-ltb _ _ (omega arith))
       ∙ cond-true (ltb (resource_count i + b) (resource_count i + balance_count i)) _ _ (lt-ltb _ _ (omega arith))
       ∙ ap (first_asked i p) (omega arith)
+
   asked_second : (p b : ℕ) → filter_asked i p (resource_count i + balance_count i + b) ≡ second_asked i p b
   unfolding filter_asked
   asked_second p b =
@@ -49,10 +51,12 @@ module _ (i : Tables) where
       ∙ cond-false (ltb (resource_count i + balance_count i + b) (resource_count i + balance_count i)) _ _
       (le-ltb _ _ (omega arith))
       ∙ ap (second_asked i p) (omega arith)
+
   module _ (a : List Machine) where
     row_load : (m j : ℕ) → j < resource_count i → filter_row i a m j ≡ load_row i a m j
     unfolding filter_row
     row_load m j below = cond-true (ltb j (resource_count i)) _ _ (lt-ltb _ _ below)
+
     row_first : (m b : ℕ) → b < balance_count i → filter_row i a m (resource_count i + b) ≡
         first_row i a m b
     unfolding filter_row
@@ -60,6 +64,7 @@ module _ (i : Tables) where
         cond-false (ltb (resource_count i + b) (resource_count i)) _ _ (le-ltb _ _ (omega arith))
         ∙ cond-true (ltb (resource_count i + b) (resource_count i + balance_count i)) _ _ (lt-ltb _ _ (omega arith))
         ∙ ap (first_row i a m) (omega arith)
+
     row_second : (m b : ℕ) → filter_row i a m (resource_count i + balance_count i + b) ≡
         second_row i a m b
     unfolding filter_row
@@ -68,11 +73,13 @@ module _ (i : Tables) where
         ∙ cond-false (ltb (resource_count i + balance_count i + b) (resource_count i + balance_count i)) _ _
         (le-ltb _ _ (omega arith))
         ∙ ap (second_row i a m) (omega arith)
+
     module _ (p m : ℕ) where
       load_rows : total (resource_count i) (above_of i a p m) ≡ load_above i a p m
       unfolding load_above above_of
       load_rows = total_same (resource_count i) (above_of i a p m) (λ r. load_asked i p r - load_row i a m r)
           (λ r below. ap₂ (λ x y. x - y) (asked_load p r below) (row_load m r below))
+
       balance_rows : total (balance_count i) (λ b. above_of i a p m (resource_count i + b)) + total (balance_count i)
           (λ b. above_of i a p m (resource_count i + balance_count i + b)) ≡ balance_above i a p m
       unfolding balance_above above_of
@@ -84,6 +91,7 @@ module _ (i : Tables) where
           let seconds = total_same (balance_count i) (λ b. above_of i a p m (resource_count i + balance_count i + b)) two
           (λ b below. ap₂ (λ x y. x - y) (asked_second p b) (row_second m b)) in
           ap₂ (λ x y. x + y) firsts seconds ∙ sym (total_of_sum (balance_count i) one two)
+
       rows_add_up : total (filter_row_count i) (above_of i a p m) ≡
           load_above i a p m + balance_above i a p m
       rows_add_up = omega (
@@ -93,6 +101,7 @@ module _ (i : Tables) where
         load_rows,
         balance_rows,
       )
+
     pub lanes_lack : (p place : ℕ) (table : List ℕ) (terms : List Term) →
         IsRowTable i a table → AreTerms i (filter_row_count i) (filter_asked i p) terms → amounts terms ≤ 2 ^ 30 →
         place < filter_width i → lacking table terms place ≡ load_above i a p (place % machine_count i)
@@ -108,6 +117,7 @@ module _ (i : Tables) where
         ∙ capped_lacks (filter_asked i p j) (filter_row i a m j)
         (omega (arith, low, total_term n j (filter_asked i p) below)))
         ∙ rows_add_up p m
+
     -- a window is within each row
     pub rows_within : (first : ℕ) (table : List ℕ) (terms : List Term) →
         IsRowTable i a table → AreInRows i terms → first < machine_count i →
@@ -117,6 +127,7 @@ module _ (i : Tables) where
         (λ (t : Term). t.row + first + 64 ≤ length table)
         (λ (t : Term) (inside : t.row + filter_width i ≤ filter_row_count i * filter_width i).
         omega (arith, inside, rows.many, within)) terms are
+
   -- the ways of a window, cut out of the ring of all ways from a machine
   pub ways_in_ring : (home first : ℕ) (ring part : List ℕ) → first < machine_count i →
       length ring ≡ machine_count i → ((to : ℕ) → to < machine_count i → get_or ring to 0 ≡ way_cost_of i home to) →
@@ -155,6 +166,7 @@ above_limit room limit sum some is small above = omega arith
 module _ (w : Situation) where
   in_machines : (first k : ℕ) → IsSound w → machine_in w first k < machine_count w.tables
   in_machines first k sound = omega (arith, sound.well_formed.some_machine)
+
   module _ (p : ℕ) where
     dear_at : (to bound taken added room : ℕ) → IsSound w → p < process_count w.tables →
         to < machine_count w.tables → machine_at w.start p ≢ to → taken ≡ cost_taken w p →
@@ -162,12 +174,14 @@ module _ (w : Situation) where
     dear_at to bound taken added room sound known reach apart taken_is added_is room_is above =
         dear_cost w p to bound taken added room None None sound known reach apart taken_is added_is room_is
         (sum_none w p to room (sum_at w p to) above (omega arith)) refl refl
+
     cheap_at : (to bound taken added room limit : ℕ) → IsSound w → p < process_count w.tables →
         to < machine_count w.tables → machine_at w.start p ≢ to → taken ≡ cost_taken w p →
         added ≡ cost_added w p → room ≡ bound + taken - added → 0 < room → limit ≡ min (room - 1) (2 ^ 32 - 1) →
         sum_at w p to ≤ limit → BreaksNothing w p to → cost_after w p to < bound
     cheap_at to bound taken added room limit sound known reach apart taken_is added_is room_is some limit_is low free =
         omega (arith, filtered_at w p to sound known reach free apart, taken_is, added_is, room_is, some, limit_is, low)
+
     module _ (first : ℕ) where
       -- what the machines of a window lack, and their ways
       pub window_lacks : (table : List ℕ) (terms : List Term) →
@@ -178,6 +192,7 @@ module _ (w : Situation) where
       unfolding filter_sum
       window_lacks table terms rows are small within k below =
           omega (arith, lanes_lack w.tables w.here p (first + k) table terms rows are small (omega arith))
+
       -- the sums of a window of which no machine is at most a limit even without its way
       pub far_sums : (limit : ℕ) (table said sums : List ℕ) (terms : List Term) →
           amounts terms ≤ 2 ^ 30 →
@@ -197,6 +212,7 @@ module _ (w : Situation) where
             each = λ k below set. absurd (zero_unset k set);
             passed = λ k below _. omega (arith, above k below, small, lacking_within table terms (first + k));
           }
+
       -- the sums of a window with the ways
       pub near_sums : (limit marks : ℕ) (table said sums : List ℕ) (terms : List Term) →
           amounts terms ≤ 2 ^ 30 → ((k : ℕ) → k < 64 → sum_at w p (machine_in w first k) ≡ lacking table terms (first + k)
@@ -234,8 +250,10 @@ module _ (w : Situation) where
         where
           said_is : (k : ℕ) → k < 64 → get_or sums k 0 ≤ limit → get_or said k 0 ≡ lacking table terms (first + k)
           said_is k below low = same_if_small limit (get_or said k 0) _ (are k below) (omega (arith, low, have.each k below))
+
           said_least : (k : ℕ) → k < 64 → get_or said k 0 ≤ lacking table terms (first + k)
           said_least k below = at_most limit (get_or said k 0) _ (are k below)
+
       pub marked : (bound taken added room limit marks : ℕ) (sums : List ℕ) →
           IsSound w → p < process_count w.tables → taken ≡ cost_taken w p → added ≡ cost_added w p →
           room ≡ bound + taken - added →
@@ -256,6 +274,7 @@ module _ (w : Situation) where
                 (in_machines first k sound) apart taken_is added_is room_is some limit_is ((are.bits k below).0 set) free;
             each = λ k below set apart. are.each k below set;
           }
+
       -- if there is no room, nothing is marked
       pub none_marked : (bound taken added room : ℕ) (sums : List ℕ) → IsSound w →
           p < process_count w.tables →

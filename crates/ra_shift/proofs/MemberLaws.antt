@@ -33,6 +33,7 @@ module _ (i : Tables) (a : List Machine) where
   on_mine q s m within is here =
       rw (on_machine_count i a s m) (count_some (process_count i) q (λ k. is_of i s k && eqb (machine_at a k) m) within
       (and_from _ _ (eq-eqb _ _ is) (eq-eqb _ _ here)))
+
   module _ (p : ℕ) where
     module _ (to s : ℕ) where
       -- counts of its own service, and of another
@@ -46,6 +47,7 @@ module _ (i : Tables) (a : List Machine) where
             share_mine i s p (machine_at a p) test is,
             share_mine i s p to test is,
           )
+
       pub members_other : (test : ℕ → ℕ → Bool) → IsAssignment i a →
           p < process_count i → service_of i p ≢ s → members_at i (shifted a p to) s test ≡ members_at i a s test
       members_other test fits within other =
@@ -55,21 +57,25 @@ module _ (i : Tables) (a : List Machine) where
             share_other i s p (machine_at a p) test other,
             share_other i s p to test other,
           )
+
       pub near_other : (label : ℕ) → IsAssignment i a → p < process_count i →
           service_of i p ≢ s → in_neighbourhood i (shifted a p to) s label ≡ in_neighbourhood i a s label
       unfolding in_neighbourhood
       near_other label fits within other =
           members_other (λ q at. eqb (neighbourhood_of i at) label) fits within other
+
       location_other : (label : ℕ) → IsAssignment i a → p < process_count i →
           service_of i p ≢ s → in_location i (shifted a p to) s label ≡ in_location i a s label
       unfolding in_location
       location_other label fits within other =
           members_other (λ q at. eqb (location_of i at) label) fits within other
+
       pub locations_other : IsAssignment i a → p < process_count i →
           service_of i p ≢ s → locations_of i (shifted a p to) s ≡ locations_of i a s
       unfolding locations_of
       locations_other fits within other =
           count_same (2 ^ 32) _ _ (λ label h. ap (ltb 0) (location_other label fits within other))
+
     members_some : (s : ℕ) (test : ℕ → ℕ → Bool) → p < process_count i →
         service_of i p ≡ s → one_if (test p (machine_at a p)) ≤ members_at i a s test
     unfolding members_at
@@ -79,6 +85,7 @@ module _ (i : Tables) (a : List Machine) where
           tally_term (process_count i) p (of_service i s test) a within,
           share_mine i s p (machine_at a p) test is,
         )
+
     -- neighbourhoods
     pub near_mine : (to label : ℕ) → IsAssignment i a → p < process_count i →
         in_neighbourhood i (shifted a p to) (service_of i p) label
@@ -87,6 +94,7 @@ module _ (i : Tables) (a : List Machine) where
     unfolding in_neighbourhood
     near_mine to label fits within =
         members_mine to (service_of i p) (λ q at. eqb (neighbourhood_of i at) label) fits within refl
+
     -- locations
     pub location_mine : (to label : ℕ) → IsAssignment i a → p < process_count i →
         in_location i (shifted a p to) (service_of i p) label + one_if (eqb (location_of i (machine_at a p)) label) ≡
@@ -94,6 +102,7 @@ module _ (i : Tables) (a : List Machine) where
     unfolding in_location
     location_mine to label fits within =
         members_mine to (service_of i p) (λ q at. eqb (location_of i at) label) fits within refl
+
     pub location_some : p < process_count i →
         0 < in_location i a (service_of i p) (location_of i (machine_at a p))
     unfolding in_location
@@ -105,11 +114,13 @@ module _ (i : Tables) (a : List Machine) where
           one_if_true (eqb (location_of i (machine_at a p)) (location_of i (machine_at a p)))
               (eq-eqb _ _ refl),
         )
+
     -- another process of the service isn't where p goes
     not_there : (to q : ℕ) → on_machine i a (service_of i p) to ≡ 0 →
         q < process_count i → service_of i q ≡ service_of i p → machine_at a q ≢ to
     not_there to q alone within is here =
         absurd (omega (arith, alone, on_mine q (service_of i p) to within is here))
+
   on_some : (s m : ℕ) → 0 < on_machine i a s m → (q : ℕ) × (q < process_count i)
       × (service_of i q ≡ s) × (machine_at a q ≡ m)
   unfolding is_of

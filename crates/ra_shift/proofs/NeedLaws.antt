@@ -141,6 +141,7 @@ module _ (st : Situation) (p to : ℕ) where
       where
         label : ℕ
         label = neighbourhood_of st.tables (machine_at st.here q)
+
         near_q : 0 < in_neighbourhood st.tables st.here (service_of st.tables p)
             (neighbourhood_of st.tables (machine_at st.here q))
         near_q = omega (
@@ -149,9 +150,11 @@ module _ (st : Situation) (p to : ℕ) where
               (h.feasible.dependency s k q s_in k_in q_in one_service),
           ap (λ u. in_neighbourhood st.tables st.here u (neighbourhood_of st.tables (machine_at st.here q))) mine,
         )
+
         here_q : 0 < in_neighbourhood st.tables st.here s (neighbourhood_of st.tables (machine_at st.here q))
         here_q = count_from_near st.tables st.here s (neighbourhood_of st.tables (machine_at st.here q))
             (q, q_in, one_service, refl)
+
         leaving_it : s ≢ service_of st.tables p → neighbourhood_of st.tables (machine_at st.here p)
             ≡ neighbourhood_of st.tables (machine_at st.here q) →
             neighbourhood_of st.tables (machine_at st.here p) ≢ neighbourhood_of st.tables to →
@@ -171,6 +174,7 @@ module _ (st : Situation) (p to : ℕ) where
             )))
             (cases_lt 1 (in_neighbourhood st.tables st.here (service_of st.tables p)
             (neighbourhood_of st.tables (machine_at st.here q))))
+
         left : s ≢ service_of st.tables p → 0 < in_neighbourhood st.tables (shifted st.here p to) (service_of st.tables p)
             (neighbourhood_of st.tables (machine_at st.here q))
         left apart = ⊎_elim

@@ -52,6 +52,7 @@ module _ (st : Situation) (p to : ℕ) where
   -- where the processes are after the shift
   pub placed : IsStart st p to → machine_at (shifted st.here p to) p ≡ to
   placed h = machine_at_set_same st.here p (record { 0 = to }) (omega (arith, h.known, h.fits.one_each))
+
   module _ (r : ℕ) where
     pub use_entered : IsStart st p to →
         use_of st.tables (shifted st.here p to) to r ≡ use_of st.tables st.here to r + requirement_of st.tables p r
@@ -62,6 +63,7 @@ module _ (st : Situation) (p to : ℕ) where
           use_elsewhere st.tables to r p (machine_at st.here p) h.apart,
           use_here st.tables to r p to refl,
         )
+
     pub use_left : IsStart st p to →
         use_of st.tables (shifted st.here p to) (machine_at st.here p) r + requirement_of st.tables p r
         ≡ use_of st.tables st.here (machine_at st.here p) r
@@ -72,6 +74,7 @@ module _ (st : Situation) (p to : ℕ) where
           use_elsewhere st.tables (machine_at st.here p) r p to (λ e. h.apart (sym e)),
           use_here st.tables (machine_at st.here p) r p (machine_at st.here p) refl,
         )
+
     pub between_entered : IsStart st p to → machine_at st.start p ≢ to →
         transient_of st.tables st.start (shifted st.here p to) to r ≡ transient_of st.tables st.start st.here to r
         + requirement_of st.tables p r
@@ -82,6 +85,7 @@ module _ (st : Situation) (p to : ℕ) where
           between_elsewhere st.tables st.start to r p (machine_at st.here p) away h.apart,
           between_here st.tables st.start to r p to refl,
         )
+
     between_returned : IsStart st p to → machine_at st.start p ≡ to →
         transient_of st.tables st.start (shifted st.here p to) to r ≡ transient_of st.tables st.start st.here to r
     between_returned h home =
@@ -91,6 +95,7 @@ module _ (st : Situation) (p to : ℕ) where
           between_home st.tables st.start to r p (machine_at st.here p) home,
           between_home st.tables st.start to r p to home,
         )
+
   pub use_other : (m r : ℕ) → IsStart st p to → m ≢ to →
       use_of st.tables (shifted st.here p to) m r ≤ use_of st.tables st.here m r
   use_other m r h apart =
@@ -100,6 +105,7 @@ module _ (st : Situation) (p to : ℕ) where
         use_elsewhere st.tables m r p to
             (λ e. apart (sym e)),
       )
+
   between_less : (m r : ℕ) → to ≢ m →
       transient_share st.tables st.start m r p to ≤ transient_share st.tables st.start m r p (machine_at st.here p)
   between_less m r apart = ⊎_elim
@@ -112,6 +118,7 @@ module _ (st : Situation) (p to : ℕ) where
       ))
       (λ (away : machine_at st.start p ≢ m). omega (arith, between_elsewhere st.tables st.start m r p to away apart))
       (cases_eq (machine_at st.start p) m)
+
   pub between_other : (m r : ℕ) → IsStart st p to → m ≢ to →
       transient_of st.tables st.start (shifted st.here p to) m r ≤ transient_of st.tables st.start st.here m r
   between_other m r h apart =
@@ -120,18 +127,21 @@ module _ (st : Situation) (p to : ℕ) where
         transient_set st.tables st.start st.here p (record { 0 = to }) m r h.fits h.known,
         between_less m r (λ e. apart (sym e)),
       )
+
   -- what the constraints say of the machine that is entered
   pub room_from : IsStart st p to → IsFeasible (record st { here = shifted st.here p to }) →
       HasRoom st.tables st.here p to
   room_from h after = record {
     each = λ r within. omega (arith, use_entered r h, after.capacity to r h.reach within);
   }
+
   pub between_from : IsStart st p to →
       IsFeasible (record st { here = shifted st.here p to }) → HasRoomBetween st p to
   between_from h after = record {
     each = λ r within transient away.
         omega (arith, between_entered r h away, after.transient to r h.reach within transient);
   }
+
   -- and that this is all
   pub capacity_after : IsStart st p to → HasRoom st.tables st.here p to →
       (m r : ℕ) → m < machine_count st.tables → r < resource_count st.tables →
@@ -140,6 +150,7 @@ module _ (st : Situation) (p to : ℕ) where
       (λ (same : m ≡ to). rw same (omega (arith, use_entered r h, room.each r r_in)))
       (λ (apart : m ≢ to). omega (arith, use_other m r h apart, h.feasible.capacity m r m_in r_in))
       (cases_eq m to)
+
   entered_between : IsStart st p to → HasRoomBetween st p to →
       (r : ℕ) → r < resource_count st.tables → IsTrue (transient_at st.tables r) →
       transient_of st.tables st.start (shifted st.here p to) to r ≤
@@ -150,6 +161,7 @@ module _ (st : Situation) (p to : ℕ) where
       (λ (away : machine_at st.start p ≢ to).
       omega (arith, between_entered r h away, room.each r r_in transient away))
       (cases_eq (machine_at st.start p) to)
+
   pub transient_after : IsStart st p to → HasRoomBetween st p to →
       (m r : ℕ) → m < machine_count st.tables → r < resource_count st.tables → IsTrue (transient_at st.tables r) →
       transient_of st.tables st.start (shifted st.here p to) m r ≤ capacity_of st.tables m r
@@ -158,9 +170,11 @@ module _ (st : Situation) (p to : ℕ) where
       (λ (apart : m ≢ to).
       omega (arith, between_other m r h apart, h.feasible.transient m r m_in r_in transient))
       (cases_eq m to)
+
   -- a machine of which a resource is too much has no room
   pub not_over : (cause : Cause) → IsOver st p to cause → HasRoom st.tables st.here p to → ⊥
   not_over cause over room = omega (arith, over.above, room.each over.r over.within)
+
   pub not_over_between : (cause : Cause) → IsOverBetween st p to cause →
       HasRoomBetween st p to → ⊥
   not_over_between cause over room =

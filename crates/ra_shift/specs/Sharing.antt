@@ -3,16 +3,22 @@ use Rattle.std.specs.Prelude.{◌≡◌, ℕ, ◌+◌, ◌-◌, ◌*◌, ◌<◌
 use Rattle.ra_base.specs.Sums.{one_if}
 use Rattle.ra_base.specs.declared.ids.Machine.{Machine}
 use Rattle.ra_model.specs.declared.raw.Tables.{Tables}
-use Rattle.ra_model.specs.Numbers.{resource_count, service_of, requirement_of, location_of, process_weight_of, machine_weight_of}
+use Rattle.ra_model.specs.Numbers.{resource_count, service_of, requirement_of, location_of, first_of, second_of, target_of, process_weight_of, machine_weight_of}
 use Rattle.ra_model.specs.Assignments.{machine_at}
 use Rattle.ra_model.specs.Usage.{use_of}
 use Rattle.ra_model.specs.Services.{in_location, locations_of}
 use Rattle.ra_model.specs.Costs.{process_share, way_share}
+use Rattle.ra_shift.specs.declared.filter.Asked.{Asked}
 use Rattle.ra_model.specs.MachineCosts.{row_load, row_balance, machine_load, machine_balance}
 
 -- what p requires of each resource
 pub record AreRequired (i : Tables) (p : ℕ) (numbers : List ℕ) : Type 0 where
   pub each : (r : ℕ) → r < resource_count i → slice_index numbers r ≡ requirement_of i p r
+
+-- what p asks for by objective b: what it requires of the first resource, times the target, and what it takes of the second
+pub record HasAsked (i : Tables) (p b : ℕ) (asked : Asked) : Type 0 where
+  pub wanted : asked.wanted ≡ target_of i b * requirement_of i p (first_of i b)
+  pub taken : asked.taken ≡ requirement_of i p (second_of i b)
 
 -- the use of the machine of p without p, and of a machine with p
 unfoldable pub use_without : Tables → List Machine → ℕ → ℕ → ℕ

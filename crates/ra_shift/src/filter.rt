@@ -10,6 +10,7 @@ ghost use Rattle.ra_rows.specs.Rows.{IsUsageRow};
 ghost use Rattle.ra_rows.specs.FilterRows.{load_asked, load_row, first_asked, first_row, second_asked, second_row};
 ghost use Rattle.ra_shift.specs.Sharing.{AreRequired};
 ghost use Rattle.ra_shift.specs.Filter.{load_above, balance_above, saved, service_away};
+ghost use Rattle.ra_shift.specs.Sharing.{HasAsked};
 
 use crate::reads::is_away;
 use ra_base::{Machine, MovedCount, Process, Resource, Service};
@@ -82,9 +83,31 @@ fn balance_more(inst: &Instance, m: Machine, used: &[u64], required: &[u32; 20],
     let first = left_of(inst, m, used, objective.first);
     let second = left_of(inst, m, used, objective.second);
     let wanted = u64::from(objective.target) * first;
-    let asked = u64::from(objective.target) * u64::from(required[objective.first.0 as usize]);
-    let taken = u64::from(required[objective.second.0 as usize]);
-    u128::from(objective.weight) * u128::from(lack_more(wanted, second, asked, taken))
+    let asked = asked_of(inst, required, b);
+    let more = lack_more(wanted, second, asked.wanted, asked.taken);
+    u128::from(objective.weight) * u128::from(more)
+}
+
+/// What a process asks for by one objective: what it requires of the first resource, times the target, and what it
+/// takes of the second.
+#[derive(Clone, Copy)]
+pub(crate) struct Asked {
+    pub(crate) wanted: u64,
+    pub(crate) taken: u64,
+}
+
+/// What a process asks for by one objective.
+#[inline(always)]
+pub(crate) fn asked_of(inst: &Instance, required: &[u32; 20], b: u32) -> Asked
+    requires { b < balance_count inst.now.tables }
+    ensures { (p : ℕ) → AreRequired inst.now.tables p required.now →
+        HasAsked inst.now.tables p b result }
+{
+    let objective = inst.balance(b);
+    Asked {
+        wanted: u64::from(objective.target) * u64::from(required[objective.first.0 as usize]),
+        taken: u64::from(required[objective.second.0 as usize]),
+    }
 }
 
 /// The growth of max(0, wanted - left) if `wanted` falls by `asked` and `left` by `taken`, counted from the most that
@@ -136,10 +159,8 @@ fn saved_by(inst: &Instance, required: &[u32; 20], b: u32) -> u128
         first_asked inst.now.tables p b }
     ensures bound { result ≤ 2 ^ 96 }
 {
-    let objective = inst.balance(b);
-    let asked = u64::from(objective.target) * u64::from(required[objective.first.0 as usize]);
-    let taken = u64::from(required[objective.second.0 as usize]);
-    u128::from(objective.weight) * u128::from(asked.saturating_sub(taken))
+    let asked = asked_of(inst, required, b);
+    u128::from(inst.balance(b).weight) * u128::from(asked.wanted.saturating_sub(asked.taken))
 }
 
 /// The service cost with a process on a machine other than its initial one.

@@ -1,37 +1,11 @@
--- The two resources, the target and the weight are those of the objective.
-use Rattle.std.proofs.Common.{◌∙◌, ◌*◌, ℕ, ap, arith}
-use Rattle.ra_world.proofs.CostLaws.{first_within, second_within}
-use Rattle.ra_shift.proofs.FilterReads.{saved_by_is, required_first, required_second, target_read, weight_read}
+-- The weight is that of the objective.
+use Rattle.std.proofs.Common.{◌∙◌, ◌*◌, ℕ, ap}
+use Rattle.ra_shift.proofs.FilterReads.{saved_by_is, weight_read}
 use Rattle.ra_shift.proofs.filter.saved_by.Goals as goal
-
-pub bounds-required-objective : goal.bounds-required-objective
-bounds-required-objective c =
-    omega (
-      arith,
-      first_within c.args.inst.now.tables c.args.b c.balance-objective.result c.args.inst.now.well_formed
-          c.requires c.balance-objective.ensures,
-      c.args.inst.now.well_formed.few_resources,
-    )
-
-pub bounds-required-objective-2 : goal.bounds-required-objective-2
-bounds-required-objective-2 c =
-    omega (
-      arith,
-      second_within c.args.inst.now.tables c.args.b c.balance-objective.result c.args.inst.now.well_formed
-          c.requires c.balance-objective.ensures,
-      c.args.inst.now.well_formed.few_resources,
-    )
 
 pub returns-clause-value : goal.returns-clause-value
 returns-clause-value c = λ p are.
     let i = c.args.inst.now.tables in
-    let limits = c.args.inst.now.well_formed in
-    let is = c.balance-objective.ensures in
-    let law = saved_by_is i p c.args.b c.from-3.result c.from.result c.from-2.result c.from-taken.result
-    (c.from-3.ensures ∙ weight_read i c.args.b c.balance-objective.result is)
-    (c.from.ensures ∙ target_read i c.args.b c.balance-objective.result is)
-    (c.from-2.ensures ∙ required_first i p c.args.b c.balance-objective.result c.args.required.now limits c.requires is
-    are)
-    (c.from-taken.ensures ∙ required_second i p c.args.b c.balance-objective.result c.args.required.now limits
-    c.requires is are) in
-    ap (λ (x : ℕ). c.from-3.result * x) (c.from-4.ensures ∙ c.saturating_sub.ensures) ∙ law
+    ap (λ (x : ℕ). c.from.result * x) (c.from-2.ensures ∙ c.saturating_sub.ensures)
+    ∙ saved_by_is i p c.args.b _ _ (c.from.ensures ∙ weight_read i c.args.b _ c.balance.ensures)
+    (c.asked_of-asked.ensures p are)
