@@ -1,5 +1,6 @@
 -- A plan that is too dear is refused wherever its guards are untouched.
-use Rattle.std.proofs.Common.{◌≡◌, ◌⊎◌, ℕ, zero, suc, ◌+◌, ◌*◌, ◌<◌, ◌≤◌, ℤ, pos, negsuc, ◌<ℤ◌, ◌-ℤ◌, true, false, List, length, get_or, Option, Some, None, IfSome, refl, sym, ap, ◌∙◌, subst, ⊎_elim, lt-ltb, arith}
+use Rattle.std.proofs.Common.{Bool, ◌≡◌, ◌⊎◌, ℕ, zero, suc, ◌+◌, ◌*◌, ◌<◌, ◌≤◌, ℤ, pos, negsuc, ◌<ℤ◌, ◌-ℤ◌, true, false, List, length, get_or, Option, Some, None, IfSome, refl, sym, ap, ◌∙◌, subst, ⊎_elim, lt-ltb, arith}
+use Rattle.std.specs.Bool.{Decides}
 use Rattle.std.specs.Prelude.{unsigned_abs}
 use Rattle.std.proofs.Math.Nat.{mul-le-mul_left}
 use Rattle.std.proofs.lemmas.Bool.{cases_Bool}
@@ -44,6 +45,23 @@ use Rattle.ra_journal.proofs.Refusals.{broken_of, broken_is_refused}
 pub above : (change : ℤ) (most : ℕ) → pos 0 <ℤ change → most < unsigned_abs change → pos most <ℤ change
 above (pos n) most positive more = omega (arith, ints)
 above (negsuc n) most positive more = absurd (omega (arith, ints))
+
+-- a move that breaks nothing is too dear if it is so at the least number by which no moved count falls more
+pub is_dear_at_least : (i : Tables) (rise weight fall : ℕ) (weighed : Weighed) (r : Bool) →
+    weighed.broken ≡ None → weight ≡ service_weight_of i → FallsBy weighed fall →
+    ((n : ℕ) → FallsBy weighed n → fall ≤ n) →
+    Decides r (pos (rise + weight * fall) <ℤ weighed.local) → Decides r (IsDear i rise weighed)
+is_dear_at_least i rise weight fall weighed r none same falls least above = (
+  λ yes. record {
+    unbroken = none;
+    fall = fall;
+    falls = falls;
+    above = subst (λ (w : ℕ). pos (rise + w * fall) <ℤ weighed.local) same (above.0 yes);
+  },
+  λ dear. above.1
+      (subst (λ (w : ℕ). pos (rise + w * fall) <ℤ weighed.local) (sym same)
+      (omega (arith, ints, dear.above, mul-le-mul_left (service_weight_of i) (least dear.fall dear.falls)))),
+)
 
 -- a count that falls by no more than m falls by no more than n
 pub falls_less : (count : Option MovedCount) (m n : ℕ) → m ≤ n →

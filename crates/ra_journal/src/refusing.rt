@@ -1,4 +1,5 @@
-ghost use Rattle.std.specs.Prelude.{◌≡◌, ◌+◌, ◌*◌, ◌<◌, ◌≤◌, pos, ◌<ℤ◌, true, None, IfSome};
+ghost use Rattle.std.specs.Prelude.{◌≡◌, ℕ, ◌+◌, ◌*◌, ◌<◌, ◌≤◌, pos, ◌<ℤ◌, None, IfSome};
+ghost use Rattle.std.specs.Bool.{Decides};
 ghost use Rattle.ra_model.specs.Numbers.{service_weight_of};
 ghost use Rattle.ra_journal.specs.Entries.{worker_count, budget, allowed};
 ghost use Rattle.ra_journal.specs.Refusing.{FallsBy, IsDear, IsRefused};
@@ -15,8 +16,8 @@ use ra_moves::{Plan, Weighed};
 pub fn is_refused(inst: &Instance, lots: &Lots, worker: u32, plan: &Plan) -> bool
     requires worker { worker < worker_count lots.now }
     requires left { plan.now.k < budget lots.now worker }
-    ensures { result ≡ true →
-        IsRefused inst.now.tables (allowed lots.now worker plan.now.k) plan.now }
+    ensures { Decides result
+        (IsRefused inst.now.tables (allowed lots.now worker plan.now.k) plan.now) }
 {
     if plan.weighed.broken.is_some() {
         return true;
@@ -26,9 +27,10 @@ pub fn is_refused(inst: &Instance, lots: &Lots, worker: u32, plan: &Plan) -> boo
 
 /// Whether a move that breaks nothing costs more than the allowance permits, however far the greatest moved count
 /// falls.
+#[tactic(auto, using(crate::proofs::RisesLemmas::is_dear_at_least))]
 fn is_dear(inst: &Instance, weighed: &Weighed, rise: u64) -> bool
     requires unbroken { weighed.now.broken ≡ None }
-    ensures { result ≡ true → IsDear inst.now.tables rise weighed.now }
+    ensures { Decides result (IsDear inst.now.tables rise weighed.now) }
 {
     let fall = fall_of(weighed);
     let most = rise as u128 + inst.service_weight() as u128 * fall as u128;
@@ -38,14 +40,15 @@ fn is_dear(inst: &Instance, weighed: &Weighed, rise: u64) -> bool
 /// Whether a change is above a number.
 #[tactic(auto, using(crate::proofs::RisesLemmas::above))]
 fn is_above(change: i128, most: u128) -> bool
-    ensures { result ≡ true → pos most <ℤ change }
+    ensures { Decides result (pos most <ℤ change) }
 {
     change > 0 && change.unsigned_abs() > most
 }
 
 /// The most by which a moved count of a weighing falls.
 fn fall_of(weighed: &Weighed) -> u32
-    ensures { FallsBy weighed.now result }
+    ensures falls { FallsBy weighed.now result }
+    ensures least { (n : ℕ) → FallsBy weighed.now n → result ≤ n }
 {
     let first = fall(weighed.first);
     let second = fall(weighed.second);
@@ -55,7 +58,8 @@ fn fall_of(weighed: &Weighed) -> u32
 
 /// By how much a count falls; 0 if there is no count.
 fn fall(count: Option<MovedCount>) -> u32
-    ensures { IfSome count (λ c. c.before ≤ c.after + result) }
+    ensures falls { IfSome count (λ c. c.before ≤ c.after + result) }
+    ensures least { (n : ℕ) → IfSome count (λ c. c.before ≤ c.after + n) → result ≤ n }
 {
     match count {
         Some(c) => c.before.saturating_sub(c.after),

@@ -9,7 +9,28 @@ use Rattle.ra_worker.specs.declared.replica.Replica.{Replica}
 use Rattle.ra_worker.specs.Replicas.{place_at, next_at, budget_at, IsPlanAt, IsNextPlan, HasPassed}
 use Rattle.ra_worker.proofs.FollowingLemmas.{one_situation}
 use Rattle.ra_worker.specs.declared.ahead.Ahead.{Ahead}
-use Rattle.ra_worker.specs.Ahead.{moved_to, ahead_at, HasPlaced, AreAhead, PlansStand}
+use Rattle.ra_worker.specs.Ahead.{moved_to, ahead_at, HasAdded, HasPlaced, AreAhead, PlansStand}
+
+-- one plan more is made ahead
+pub ahead_added : (r : Replica) (n k : ℕ) (before after : Ahead) (plan : Plan) → AreAhead r n before →
+    HasAdded before after plan → before.made < 63 → k ≡ n + before.made → k < budget_at r → IsPlanAt r k plan →
+    AreAhead r n after
+ahead_added r n k before after plan are added few number left is = record {
+  few = omega (arith, added.made, few);
+  within = omega (arith, added.made, number, left);
+  each = λ j d there. ⊎_elim
+      (λ (low : j < before.made).
+      subst (λ (p : Plan). IsPlanAt r (n + j) (moved_to (place_at r) p)) (sym (added.others j d low)) (are.each j d low))
+      (λ (high : before.made ≤ j).
+      let last : j ≡ before.made = omega (arith, high, there, added.made) in
+      let here : ahead_at after j d ≡ plan = rw last (added.last d) in
+      let at : k ≡ n + j = omega (arith, number, last) in
+      let moved : IsPlanAt r k (moved_to (place_at r) plan) =
+      record { place = refl; number = is.number; planned = is.planned; weighed = is.weighed } in
+      subst (λ (p : Plan). IsPlanAt r (n + j) (moved_to (place_at r) p)) (sym here)
+      (subst (λ (m : ℕ). IsPlanAt r m (moved_to (place_at r) plan)) at moved))
+      (cases_lt j before.made);
+}
 
 -- one of the plans gets a place
 ahead_placed : (r : Replica) (n : ℕ) (before after : Ahead) (place : ℕ) → AreAhead r n before →

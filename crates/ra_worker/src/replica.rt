@@ -1,4 +1,5 @@
-ghost use Rattle.std.specs.Prelude.{◌≡◌, ◌+◌, ◌*◌, ◌^◌, ◌<◌, ◌≤◌, ◌-◌, ◌==◌, true, List, length, IfOk};
+ghost use Rattle.std.specs.Prelude.{◌≡◌, ◌+◌, ◌*◌, ◌^◌, ◌<◌, ◌≤◌, ◌-◌, ◌==◌, List, length, IfOk};
+ghost use Rattle.std.specs.Bool.{Decides};
 ghost use Rattle.ra_base.specs.Sums.{one_if};
 ghost use Rattle.ra_base.specs.declared.causes.Drawing.TheVariants.{One, Two};
 ghost use Rattle.ra_draws.specs.Shown.{drawing_in};
@@ -154,8 +155,8 @@ impl<'a> Replica<'a> {
     /// guards are untouched.
     pub fn is_refused(&self, plan: &Plan) -> bool
         requires { plan.now.k < budget_at self.now }
-        ensures { result ≡ true → IsRefused (tables_at self.now)
-            (allowed (lots_at self.now) (worker_at self.now) plan.now.k) plan.now }
+        ensures { Decides result (IsRefused (tables_at self.now)
+            (allowed (lots_at self.now) (worker_at self.now) plan.now.k) plan.now) }
     {
         is_refused(
             self.world.instance(),

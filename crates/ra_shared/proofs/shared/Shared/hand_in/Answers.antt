@@ -35,7 +35,7 @@ commit_once-requires-clause-guards g c =
     s.instance
     (subst (λ (l : Lots). IsRefused s.inst.now.tables (allowed l c.args.pass.now.number plan.k) plan) s.allotted
     (subst (λ (w : ℕ). IsRefused s.inst.now.tables (allowed s.lots.now w plan.k) plan) c.number.ensures
-    (c.is_refused.ensures c.if-is_refused.true))))
+    (c.is_refused.ensures.0 c.if-is_refused.true))))
 
 pub returns-then-is_refused-clause-done : goal.returns-then-is_refused-clause-done
 returns-then-is_refused-clause-done g c =
