@@ -1,11 +1,13 @@
 -- A replica that takes in one entry after another of a journal.
-use Rattle.std.proofs.Common.{◌≡◌, ℕ, zero, suc, ◌+◌, ◌^◌, ◌<◌, ◌≤◌, eqb, List, length, refl, sym, ap, ◌∙◌, subst, add-one, arith}
+use Rattle.std.proofs.Common.{◌≡◌, ℕ, zero, suc, ◌+◌, ◌*◌, ◌^◌, ◌<◌, ◌≤◌, eqb, List, length, refl, sym, ap, ◌∙◌, subst, add-one, arith}
+use Rattle.std.proofs.Math.Nat.{suc-mul}
 use Rattle.ra_base.specs.Sums.{one_if}
 use Rattle.ra_base.specs.declared.ids.Machine.{Machine}
 use Rattle.ra_base.proofs.Counts.{count_none}
 use Rattle.ra_draws.specs.declared.budgets.Lots.{Lots}
 use Rattle.ra_model.specs.declared.raw.Tables.{Tables}
 use Rattle.ra_model.specs.Limits.{WellFormed}
+use Rattle.ra_model.specs.Numbers.{resource_count}
 use Rattle.ra_model.specs.Situations.{Situation}
 use Rattle.ra_model.specs.Assignments.{IsAssignment}
 use Rattle.ra_journal.specs.declared.entries.Entry.{Entry}
@@ -141,3 +143,10 @@ passed_at r s to h world lots worker number place are = record {
       ∙ sym (state_passed r.world.start h r.place to are.from are.refused));
   number = rw (place, worker) (number ∙ sym are.own);
 }
+
+-- the requirements that were read, after one entry more
+pub reads_more : {i k : Tables} → k ≡ i → (j before now then : ℕ) →
+    now ≤ before + j * (3 * resource_count i) → then ≤ now + 3 * resource_count k →
+    then ≤ before + (j + 1) * (3 * resource_count i)
+reads_more {i} same j before now then read more =
+    rw (add-one j, suc-mul j (3 * resource_count i)) (omega (arith, read, rw same at more))

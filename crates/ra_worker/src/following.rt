@@ -1,4 +1,5 @@
-ghost use Rattle.std.specs.Prelude.{◌≡◌};
+ghost use Rattle.std.specs.Prelude.{◌≡◌, ◌+◌, ◌*◌, ◌≤◌};
+ghost use Rattle.ra_model.specs.Numbers.{resource_count};
 ghost use Rattle.ra_journal.specs.Entries.{steps_made};
 ghost use Rattle.ra_journal.specs.States.{after_made};
 ghost use Rattle.ra_worker.specs.Following.{IsJudged};
@@ -8,7 +9,7 @@ use ra_moves::{Move, Verdict};
 use ra_world::World;
 use std::sync::ledger::Ledger;
 
-/// Takes an entry into a world: follows its move if it is done.
+/// Takes an entry into a world: follows its move if it is done. It reads the requirements of the move's processes alone.
 pub(crate) fn follow<L: Ledger>(
     world: &mut World<'_>,
     mv: &Move,
@@ -16,9 +17,10 @@ pub(crate) fn follow<L: Ledger>(
     steps: &mut Steps<L>,
 )
     requires judged { IsJudged world.old mv.now.steps verdict.now }
-    ensures { world.new ≡ record world.old {
+    ensures world { world.new ≡ record world.old {
       here = after_made world.old.here (steps_made verdict.now mv.now.steps);
     } }
+    ensures counted { steps.new ≤ steps.old + 3 * resource_count world.old.tables }
 {
     match verdict {
         Verdict::Done { .. } => world.apply(mv, steps),

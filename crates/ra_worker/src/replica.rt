@@ -166,10 +166,13 @@ impl<'a> Replica<'a> {
         )
     }
 
-    /// Takes in the next entries of the journal. After that it represents the state after them.
+    /// Takes in the next entries of the journal. After that it represents the state after them. For each entry it reads
+    /// the requirements of at most three processes.
     pub fn take_in<L: Ledger>(&mut self, batch: &Batch, steps: &mut Steps<L>)
         requires told { AreNextOfSomeJournal self.old batch.now }
-        ensures { HasTaken self.old self.new batch.now (length batch.now) }
+        ensures taken { HasTaken self.old self.new batch.now (length batch.now) }
+        ensures counted { steps.new ≤
+            steps.old + length batch.now * (3 * resource_count (tables_at self.old)) }
     {
         // What is known of every world.
         let _known = self.world.instance();
@@ -195,7 +198,8 @@ impl<'a> Replica<'a> {
         requires left { entry.now.worker ≡ worker_at self.old →
             next_at self.old < budget_at self.old }
         requires few { place_at self.old < 2 ^ 63 }
-        ensures { HasFollowed self.old self.new entry.now }
+        ensures followed { HasFollowed self.old self.new entry.now }
+        ensures counted { steps.new ≤ steps.old + 3 * resource_count (tables_at self.old) }
     {
         follow(&mut self.world, &entry.mv, &entry.verdict, steps);
         count_own(&mut self.proposals, entry.worker);

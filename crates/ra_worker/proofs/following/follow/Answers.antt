@@ -13,11 +13,12 @@ apply-requires-clause-to g c = (done_moves _ _ c.in-Done.cost _ c.requires.judge
 pub apply-requires-clause-unbroken : goal.apply-requires-clause-unbroken
 apply-requires-clause-unbroken g c = done_unbroken _ _ c.in-Done.cost _ c.requires.judged c.in-Done.is
 
-pub returns-in-Done : goal.returns-in-Done
-returns-in-Done g c = c.apply.ensures.moved
+pub returns-in-Done-clause-world : goal.returns-in-Done-clause-world
+returns-in-Done-clause-world g c = c.apply.ensures.moved
     ∙ ap (λ (b : List Machine). let st : Situation = record c.args.world.now { here = b } in st)
     (after_done c.args.world.now.here c.args.mv.now.steps c.in-Done.cost _ c.in-Done.is)
 
-pub returns-in-Refused : goal.returns-in-Refused
-returns-in-Refused g c = ap (λ (b : List Machine). let st : Situation = record c.args.world.now { here = b } in st)
+pub returns-in-Refused-clause-world : goal.returns-in-Refused-clause-world
+returns-in-Refused-clause-world g c =
+    ap (λ (b : List Machine). let st : Situation = record c.args.world.now { here = b } in st)
     (after_refused c.args.world.now.here c.args.mv.now.steps c.in-Refused.cause _ c.in-Refused.is)

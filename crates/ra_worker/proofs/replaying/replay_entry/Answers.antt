@@ -14,7 +14,7 @@ follow-requires g c =
     }
 
 pub returns : goal.returns
-returns g c = c.follow.ensures
+returns g c = c.follow.ensures.world
     ∙ ap (λ (b : List Machine). let st : Situation = record c.args.world.now { here = b } in st)
     (next_stated _ _ _ _ c.args.at c.entry-entry.result (ap (λ (st : Situation). st.here) c.requires.here)
     c.entry-entry.ensures refl)

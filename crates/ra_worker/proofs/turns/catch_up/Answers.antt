@@ -22,10 +22,11 @@ pub returns-clause-place : goal.returns-clause-place
 returns-clause-place g c = taken_place c.args.journal.now.book.entries.items c.copy_from-count.new.batch
     c.args.replica.now c.take_in.new.self c.copy_from-count.result (c.copy_from-count.ensures.entries
     ∙ ap (batch_from c.args.journal.now.book.entries.items) c.place-place.ensures) (c.copy_from-count.ensures.number
-    ∙ ap (λ p. min 1024 (length c.args.journal.now.book.entries.items - p)) c.place-place.ensures) c.take_in.ensures
+    ∙ ap (λ p. min 1024 (length c.args.journal.now.book.entries.items - p)) c.place-place.ensures)
+    c.take_in.ensures.taken
 
 pub returns-clause-at : goal.returns-clause-at
 returns-clause-at g c = taken_at c.args.journal.now.inst.now.tables c.args.journal.now.a0.now.items
     c.args.journal.now.lots.now c.args.journal.now.book.entries.items c.copy_from-count.new.batch c.args.replica.now
     c.take_in.new.self _ c.requires.at c.args.journal.now.kept.legal (c.copy_from-count.ensures.entries
-    ∙ ap (batch_from c.args.journal.now.book.entries.items) c.place-place.ensures) c.take_in.ensures
+    ∙ ap (batch_from c.args.journal.now.book.entries.items) c.place-place.ensures) c.take_in.ensures.taken

@@ -31,13 +31,14 @@ pub loop-at-preserved : goal.loop-at-preserved
 loop-at-preserved g c =
     let j = c.args.journal.now in
     let r = c.loop-at.replica in
+    let followed = c.take_entry.ensures.followed in
     record {
-      place = c.take_entry.ensures.place ∙ ap (λ (n : ℕ). n + 1) c.loop-at.invariant.place;
-      worker = c.take_entry.ensures.worker ∙ c.loop-at.invariant.worker;
+      place = followed.place ∙ ap (λ (n : ℕ). n + 1) c.loop-at.invariant.place;
+      worker = followed.worker ∙ c.loop-at.invariant.worker;
       here = at_next j.inst.now.tables j.a0.now.items j.lots.now j.book.entries.items r c.take_entry.new.self
           c.entry-entry.result c.loop-at.invariant.here
           (omega (arith, c.loop-at-test.true, c.requires.within, c.loop-at.invariant.place))
           (c.entry-entry.ensures ∙ ap (entry_at j.book.entries.items) (sym c.loop-at.invariant.place))
-          c.take_entry.ensures.assignment c.take_entry.ensures.instance c.take_entry.ensures.initial
-          c.take_entry.ensures.lots c.take_entry.ensures.worker c.take_entry.ensures.number c.take_entry.ensures.place;
+          followed.assignment followed.instance followed.initial followed.lots followed.worker followed.number
+          followed.place;
     }
