@@ -6,7 +6,7 @@ use Rattle.ra_base.specs.declared.causes.Drawing.{Drawing}
 use Rattle.ra_base.proofs.Least.{least_place_more}
 use Rattle.ra_model.specs.declared.raw.Tables.{Tables}
 use Rattle.ra_model.specs.Numbers.{machine_count}
-use Rattle.ra_model.specs.Situations.{situation}
+use Rattle.ra_model.specs.Situations.{situation, Situation}
 use Rattle.ra_moves.specs.Judging.{judge}
 use Rattle.ra_moves.specs.Options.{option_at, option_cost, done_cost}
 use Rattle.plain.specs.declared.planning.Planned.{Planned}
@@ -39,32 +39,32 @@ least_at zero f some = absurd (omega arith)
 least_at (suc n) f some = least_at_place n f
 
 -- option k of assignment a, with the verdict on it
-pub record IsOption (i : Tables) (a0 a : List Machine) (x : List ℕ) (d : Drawing) (allowed k : ℕ) (planned : Planned) :
+pub record IsOption (st : Situation) (x : List ℕ) (d : Drawing) (allowed k : ℕ) (planned : Planned) :
     Type 0 where
-  pub move : planned.mv ≡ option_at a x (machine_count i) d k
-  pub verdict : planned.verdict ≡ judge (situation i a0 a) planned.mv.steps allowed
+  pub move : planned.mv ≡ option_at st.here x (machine_count st.tables) d k
+  pub verdict : planned.verdict ≡ judge st planned.mv.steps allowed
 
 -- its cost
-cost_is : (i : Tables) (a0 a : List Machine) (x : List ℕ) (d : Drawing) (allowed k : ℕ) (planned : Planned) →
-    IsOption i a0 a x d allowed k planned → done_cost planned.verdict ≡ option_cost (situation i a0 a) x d allowed k
+cost_is : (st : Situation) (x : List ℕ) (d : Drawing) (allowed k : ℕ) (planned : Planned) →
+    IsOption st x d allowed k planned → done_cost planned.verdict ≡ option_cost st x d allowed k
 unfolding option_cost
-cost_is i a0 a x d allowed k planned is = rw (is.verdict, is.move) refl
+cost_is st x d allowed k planned is = rw (is.verdict, is.move) refl
 
 -- one option more
-pub cheapest_more : (i : Tables) (a0 a : List Machine) (x : List ℕ) (d : Drawing) (allowed n : ℕ)
-    (best next : Planned) → 0 < n → IsOption i a0 a x d allowed
-    (least_place n (option_cost (situation i a0 a) x d allowed)) best →
-    IsOption i a0 a x d allowed n next →
-    IsOption i a0 a x d allowed (least_place (n + 1) (option_cost (situation i a0 a) x d allowed))
+pub cheapest_more : (st : Situation) (x : List ℕ) (d : Drawing) (allowed n : ℕ)
+    (best next : Planned) → 0 < n → IsOption st x d allowed
+    (least_place n (option_cost st x d allowed)) best →
+    IsOption st x d allowed n next →
+    IsOption st x d allowed (least_place (n + 1) (option_cost st x d allowed))
     (cond (is_better (done_cost next.verdict) (done_cost best.verdict)) next best)
-cheapest_more i a0 a x d allowed n best next some best_is next_is =
-    let f : ℕ → Option ℕ = option_cost (situation i a0 a) x d allowed in
-    let so_far : done_cost best.verdict ≡ least n f = cost_is _ _ _ _ _ _ _ _ best_is ∙ sym (least_at n f some) in
-    let here : done_cost next.verdict ≡ f n = cost_is _ _ _ _ _ _ _ _ next_is in
+cheapest_more st x d allowed n best next some best_is next_is =
+    let f : ℕ → Option ℕ = option_cost st x d allowed in
+    let so_far : done_cost best.verdict ≡ least n f = cost_is _ _ _ _ _ _ best_is ∙ sym (least_at n f some) in
+    let here : done_cost next.verdict ≡ f n = cost_is _ _ _ _ _ _ next_is in
     rw (so_far, here, least_place_more n f) (by_test (is_better (f n) (least n f)))
   where
     by_test : (better : Bool) →
-        IsOption i a0 a x d allowed (cond better n (least_place n (option_cost (situation i a0 a) x d allowed)))
+        IsOption st x d allowed (cond better n (least_place n (option_cost st x d allowed)))
         (cond better next best)
     by_test true = next_is
     by_test false = best_is
@@ -81,7 +81,8 @@ first_place f = one_place (is_better (f 0) (least 0 f)) 0
 -- what is resolved, and judged on an assignment that equals a, over m machines
 pub option_is : (i : Tables) (a0 a b : List Machine) (x : List ℕ) (d : Drawing) (allowed m k : ℕ) (planned : Planned) →
     m ≡ machine_count i → b ≡ a → planned.mv ≡ option_at a x m d k →
-    planned.verdict ≡ judge (situation i a0 b) planned.mv.steps allowed → IsOption i a0 a x d allowed k planned
+    planned.verdict ≡ judge (situation i a0 b) planned.mv.steps allowed →
+    IsOption (situation i a0 a) x d allowed k planned
 option_is i a0 a b x d allowed m k planned machines same move verdict = record {
   move = rw machines at move;
   verdict = rw same at verdict;

@@ -3,7 +3,6 @@ use Rattle.std.proofs.Common.{◌≡◌, ◌↔◌, ℕ, ◌+◌, ◌<◌, ◌�
 use Rattle.std.proofs.lemmas.Bool.{cases_lt}
 use Rattle.ra_base.specs.declared.causes.Cause.{Cause}
 use Rattle.ra_base.specs.declared.ids.Machine.{Machine}
-use Rattle.ra_draws.specs.declared.budgets.Lots.{Lots}
 use Rattle.ra_model.specs.declared.raw.Tables.{Tables}
 use Rattle.ra_moves.specs.declared.steps.Step.{Step}
 use Rattle.ra_moves.specs.declared.verdicts.Verdict.{Verdict}
@@ -16,6 +15,7 @@ use Rattle.ra_guards.specs.Made.{after_made}
 use Rattle.ra_journal.specs.States.{state}
 use Rattle.ra_journal.proofs.Places.{made_place}
 use Rattle.ra_journal.specs.Legal.{IsLegalAt, IsLegal}
+use Rattle.ra_journal.specs.Openings.{Opening}
 use Rattle.plain.specs.Touching.{IsApartFrom}
 
 -- none of the first n entries is of worker w and at place q or after it
@@ -26,15 +26,15 @@ pub seen_none : (h : List Entry) (w q : ℕ) → SeenBelow h w q 0
 seen_none h w q = record { each = λ j before own. absurd (omega arith) }
 
 -- one legal entry more
-pub legal_none : (i : Tables) (a0 : List Machine) (l : Lots) (h : List Entry) → IsLegal i a0 l h 0
-legal_none i a0 l h = record { each = λ j before. absurd (omega arith) }
+pub legal_none : (o : Opening) (h : List Entry) → IsLegal o h 0
+legal_none o h = record { each = λ j before. absurd (omega arith) }
 
-pub legal_more : (i : Tables) (a0 : List Machine) (l : Lots) (h : List Entry) (n : ℕ) →
-    IsLegalAt i a0 l h n (entry_at h n) → IsLegal i a0 l h n → IsLegal i a0 l h (n + 1)
-legal_more i a0 l h n here before = record {
+pub legal_more : (o : Opening) (h : List Entry) (n : ℕ) →
+    IsLegalAt o h n (entry_at h n) → IsLegal o h n → IsLegal o h (n + 1)
+legal_more o h n here before = record {
   each = λ j within. ⊎_elim
       (λ (earlier : j < n). before.each j earlier)
-      (λ (later : n ≤ j). let same : n ≡ j = omega arith in subst (λ k. IsLegalAt i a0 l h k (entry_at h k)) same here)
+      (λ (later : n ≤ j). let same : n ≡ j = omega arith in subst (λ k. IsLegalAt o h k (entry_at h k)) same here)
       (cases_lt j n);
 }
 

@@ -5,7 +5,7 @@ use Rattle.ra_base.specs.Sums.{is_named}
 use Rattle.ra_base.specs.declared.ids.Machine.{Machine}
 use Rattle.ra_base.proofs.Named.{is_named_at, is_named_from}
 use Rattle.ra_model.specs.declared.raw.Tables.{Tables}
-use Rattle.ra_model.specs.Numbers.{machine_count, process_count}
+use Rattle.ra_model.specs.Numbers.{machine_count}
 use Rattle.ra_model.specs.Assignments.{IsAssignment, machine_at}
 use Rattle.ra_moves.specs.declared.steps.Step.{Step}
 use Rattle.ra_moves.specs.Steps.{process_in, to_in}

@@ -7,21 +7,21 @@ use Rattle.ra_base.proofs.Searches.{or_else_some, or_else_assoc, left_none, righ
 use Rattle.ra_model.specs.declared.raw.Tables.{Tables}
 use Rattle.ra_model.specs.Broken.{first_broken}
 use Rattle.ra_model.specs.Costs.{objective}
-use Rattle.ra_model.specs.Situations.{situation}
+use Rattle.ra_model.specs.Situations.{situation, broken_at, Situation}
 use Rattle.ra_moves.specs.declared.steps.Step.{Step}
 use Rattle.ra_moves.specs.declared.verdicts.Verdict.TheVariants.{Refused}
-use Rattle.ra_moves.specs.Replacing.{applied}
+use Rattle.ra_moves.specs.Replacing.{applied, after_move}
 use Rattle.ra_moves.specs.Steps.{Distinct}
 use Rattle.ra_moves.proofs.Repeats.{distinct_from_none}
 use Rattle.ra_moves.specs.Judging.{repeat_of, same_of, broken_by, rise_test, verdict_of, judge}
 
 -- a flaw of the steps
-pub judge_flaw : (i : Tables) (a0 a : List Machine) (steps : List Step) (allowed : ℕ) (cause : Cause) →
-    or_else (repeat_of steps) (same_of steps) ≡ Some cause → Refused cause ≡ judge (situation i a0 a) steps allowed
+pub judge_flaw : (st : Situation) (steps : List Step) (allowed : ℕ) (cause : Cause) →
+    or_else (repeat_of steps) (same_of steps) ≡ Some cause → Refused cause ≡ judge st steps allowed
 unfolding judge broken_by verdict_of
-judge_flaw i a0 a steps allowed cause found =
+judge_flaw st steps allowed cause found =
     rw (
-      ← or_else_assoc (repeat_of steps) (same_of steps) (first_broken i a0 (applied a steps)),
+      ← or_else_assoc (repeat_of steps) (same_of steps) (broken_at (after_move st steps)),
       found,
       or_else_some,
       or_else_some,

@@ -9,12 +9,11 @@ use Rattle.ra_base.specs.declared.ids.Guard.TheVariants as guard
 use Rattle.ra_base.specs.declared.ids.Machine.{Machine}
 use Rattle.ra_base.proofs.Named.{is_named_at}
 use Rattle.ra_base.proofs.Searches.{left_none}
-use Rattle.ra_draws.specs.declared.budgets.Lots.{Lots}
 use Rattle.ra_model.specs.declared.raw.Tables.{Tables}
 use Rattle.ra_model.specs.Numbers.{machine_count, service_of}
 use Rattle.ra_model.specs.Limits.{WellFormed}
 use Rattle.ra_model.specs.Assignments.{IsAssignment, machine_at}
-use Rattle.ra_model.specs.Situations.{situation}
+use Rattle.ra_model.specs.Situations.{Situation}
 use Rattle.ra_moves.specs.declared.steps.Step.{Step}
 use Rattle.ra_moves.specs.declared.verdicts.Verdict.{Verdict}
 use Rattle.ra_moves.specs.declared.verdicts.Verdict.TheVariants.{Done, Refused}
@@ -33,8 +32,9 @@ use Rattle.ra_guards.proofs.TouchLemmas.{apart_from_untouched}
 use Rattle.ra_journal.specs.declared.entries.Entry.{Entry}
 use Rattle.ra_journal.specs.Entries.{entry_at, steps_made, made_by, made_in, words, allowed}
 use Rattle.ra_guards.specs.Made.{after_made}
-use Rattle.ra_journal.specs.States.{state}
+use Rattle.ra_journal.specs.States.{state, state_at}
 use Rattle.ra_journal.specs.Legal.{IsLegal}
+use Rattle.ra_journal.specs.Openings.{Opening}
 use Rattle.ra_journal.proofs.Places.{made_place}
 use Rattle.ra_journal.proofs.SoundLemmas.{Reaches, applied_fits, plan_reaches, plan_known}
 use Rattle.plain.specs.Benches.{CanReplay}
@@ -79,10 +79,10 @@ unmoved_since i a0 h q (suc n) steps j apart since within = ⊎_elim
     (cases_lt n q)
 
 -- a plan's processes are in their places where it was planned
-plan_stands : (i : Tables) (a0 a : List Machine) (x : List ℕ) (d : Drawing) (rise : ℕ) → WellFormed i →
-    IsAssignment i a → StandsAt from_in (plan_of (situation i a0 a) x d rise).steps a
+plan_stands : (st : Situation) (x : List ℕ) (d : Drawing) (rise : ℕ) → WellFormed st.tables →
+    IsAssignment st.tables st.here → StandsAt from_in (plan_of st x d rise).steps st.here
 unfolding plan_of
-plan_stands i a0 a x d rise limits fits = option_stands a x (machine_count i) d (plan_place (situation i a0 a) x d rise)
+plan_stands st x d rise limits fits = option_stands st.here x (machine_count st.tables) d (plan_place st x d rise)
     (omega (arith, fits.one_each, limits.some_process)) (omega (arith, limits.some_machine))
 
 -- what is known of an entry's move: its processes and the machines that it enters exist, and its processes are in their
@@ -92,12 +92,12 @@ pub record IsPlanAt (i : Tables) (a : List Machine) (steps : List Step) : Type 0
   pub reaches : Reaches (machine_count i) steps
   pub stands : StandsAt from_in steps a
 
-pub plan_at : (i : Tables) (a0 a : List Machine) (x : List ℕ) (d : Drawing) (rise : ℕ) (mv : MoveSteps) → WellFormed i →
-    IsAssignment i a → mv ≡ plan_of (situation i a0 a) x d rise → IsPlanAt i a mv.steps
-plan_at i a0 a x d rise mv limits fits is = subst (λ (m : MoveSteps). IsPlanAt i a m.steps) (sym is) (record {
-  known = plan_known i a0 a x d rise limits fits;
-  reaches = plan_reaches i a0 a x d rise limits fits;
-  stands = plan_stands i a0 a x d rise limits fits;
+pub plan_at : (st : Situation) (x : List ℕ) (d : Drawing) (rise : ℕ) (mv : MoveSteps) → WellFormed st.tables →
+    IsAssignment st.tables st.here → mv ≡ plan_of st x d rise → IsPlanAt st.tables st.here mv.steps
+plan_at st x d rise mv limits fits is = subst (λ (m : MoveSteps). IsPlanAt st.tables st.here m.steps) (sym is) (record {
+  known = plan_known st x d rise limits fits;
+  reaches = plan_reaches st x d rise limits fits;
+  stands = plan_stands st x d rise limits fits;
 })
 
 -- they are still in their places at a later place, if no guard was touched since
@@ -117,57 +117,58 @@ unfolding steps_made after_made
 made_fits i a steps (Done cost) fits reaches = applied_fits i a steps reaches fits
 made_fits i a steps (Refused cause) fits reaches = fits
 
-pub legal_fewer : (i : Tables) (a0 : List Machine) (l : Lots) (h : List Entry) (m n : ℕ) → m ≤ n → IsLegal i a0 l h n →
-    IsLegal i a0 l h m
-legal_fewer i a0 l h m n few legal = record { each = λ j before. legal.each j (omega arith) }
+pub legal_fewer : (o : Opening) (h : List Entry) (m n : ℕ) → m ≤ n → IsLegal o h n → IsLegal o h m
+legal_fewer o h m n few legal = record { each = λ j before. legal.each j (omega arith) }
 
-pub states_fit : (i : Tables) (a0 : List Machine) (l : Lots) (h : List Entry) → WellFormed i → IsAssignment i a0 →
-    (n : ℕ) → IsLegal i a0 l h n → (k : ℕ) → k ≤ n → IsAssignment i (state a0 h k)
+pub states_fit : (o : Opening) (h : List Entry) → WellFormed o.tables → IsAssignment o.tables o.start →
+    (n : ℕ) → IsLegal o h n → (k : ℕ) → k ≤ n → IsAssignment o.tables (state o.start h k)
 unfolding state made_by
-states_fit i a0 l h limits fits zero legal k below =
-    let start : 0 ≡ k = omega arith in subst (λ n. IsAssignment i (state a0 h n)) start fits
-states_fit i a0 l h limits fits (suc n) legal k below = ⊎_elim
-    (λ (before : k < suc n). states_fit i a0 l h limits fits n (legal_fewer i a0 l h n (suc n) (omega arith) legal) k
+states_fit o h limits fits zero legal k below =
+    let start : 0 ≡ k = omega arith in subst (λ n. IsAssignment o.tables (state o.start h n)) start fits
+states_fit o h limits fits (suc n) legal k below = ⊎_elim
+    (λ (before : k < suc n). states_fit o h limits fits n (legal_fewer o h n (suc n) (omega arith) legal) k
     (omega arith))
     (λ (after : suc n ≤ k).
     let here : suc n ≡ k = omega arith in
     let e = entry_at h n in
     let next = legal.each n (omega arith) in
-    let earlier = states_fit i a0 l h limits fits n (legal_fewer i a0 l h n (suc n) (omega arith) legal) in
-    let planned = plan_at i a0 (state a0 h e.q) (words l e.worker e.k) l.drawing (allowed l e.worker e.k) e.mv limits
+    let earlier = states_fit o h limits fits n (legal_fewer o h n (suc n) (omega arith) legal) in
+    let planned = plan_at (state_at o h e.q) (words o.lots e.worker e.k) o.lots.drawing
+    (allowed o.lots e.worker e.k) e.mv limits
     (earlier e.q next.placed.place) next.planned in
-    subst (λ m. IsAssignment i (state a0 h m)) here
-    (made_fits i (state a0 h n) e.mv.steps e.verdict (earlier n (omega arith)) planned.reaches))
+    subst (λ m. IsAssignment o.tables (state o.start h m)) here
+    (made_fits o.tables (state o.start h n) e.mv.steps e.verdict (earlier n (omega arith)) planned.reaches))
     (cases_lt k (suc n))
 
 -- so a replayed state is one
-pub replay_fits : (i : Tables) (a0 a : List Machine) (l : Lots) (h : List Entry) (n : ℕ) → WellFormed i →
-    IsAssignment i a0 → IsLegal i a0 l h n → a ≡ state a0 h n → IsAssignment i a
-replay_fits i a0 a l h n limits fits legal is =
-    subst (IsAssignment i) (sym is) (states_fit i a0 l h limits fits n legal n (omega arith))
+pub replay_fits : (o : Opening) (a : List Machine) (h : List Entry) (n : ℕ) → WellFormed o.tables →
+    IsAssignment o.tables o.start → IsLegal o h n → a ≡ state o.start h n → IsAssignment o.tables a
+replay_fits o a h n limits fits legal is =
+    subst (IsAssignment o.tables) (sym is) (states_fit o h limits fits n legal n (omega arith))
 
 -- what is known of an entry's move at its own place j, by the clauses before its verdict
-pub move_at : (i : Tables) (a0 : List Machine) (l : Lots) (h : List Entry) (j : ℕ) (e : Entry) → WellFormed i →
-    IsAssignment i a0 → IsLegal i a0 l h j → e.q ≤ j →
-    e.mv ≡ plan_of (situation i a0 (state a0 h e.q)) (words l e.worker e.k) l.drawing (allowed l e.worker e.k) →
-    IsPlanAt i (state a0 h e.q) e.mv.steps
-move_at i a0 l h j e limits fits legal place planned = plan_at i a0 (state a0 h e.q) (words l e.worker e.k) l.drawing
-    (allowed l e.worker e.k) e.mv limits (states_fit i a0 l h limits fits j legal e.q place) planned
+pub move_at : (o : Opening) (h : List Entry) (j : ℕ) (e : Entry) → WellFormed o.tables →
+    IsAssignment o.tables o.start → IsLegal o h j → e.q ≤ j →
+    e.mv ≡ plan_of (state_at o h e.q) (words o.lots e.worker e.k) o.lots.drawing (allowed o.lots e.worker e.k) →
+    IsPlanAt o.tables (state o.start h e.q) e.mv.steps
+move_at o h j e limits fits legal place planned = plan_at (state_at o h e.q) (words o.lots e.worker e.k) o.lots.drawing
+    (allowed o.lots e.worker e.k) e.mv limits (states_fit o h limits fits j legal e.q place) planned
 
-pub stands_at : (i : Tables) (a0 : List Machine) (l : Lots) (h : List Entry) (j : ℕ) (e : Entry) → WellFormed i →
-    IsAssignment i a0 → IsLegal i a0 l h j → e.q ≤ j → Untouched i (made_in h) e.q j e.mv.steps →
-    StandsAt from_in e.mv.steps (state a0 h e.q) → StandsAt from_in e.mv.steps (state a0 h j)
-stands_at i a0 l h j e limits fits legal place untouched stood =
-    let fit = states_fit i a0 l h limits fits j legal in
-    stands_later i a0 h e.q j e.mv.steps (fit e.q place) (fit j (omega arith))
-    (apart_from_untouched i (made_in h) e.q j e.mv.steps untouched) place stood
+pub stands_at : (o : Opening) (h : List Entry) (j : ℕ) (e : Entry) → WellFormed o.tables →
+    IsAssignment o.tables o.start → IsLegal o h j → e.q ≤ j → Untouched o.tables (made_in h) e.q j e.mv.steps →
+    StandsAt from_in e.mv.steps (state o.start h e.q) → StandsAt from_in e.mv.steps (state o.start h j)
+stands_at o h j e limits fits legal place untouched stood =
+    let fit = states_fit o h limits fits j legal in
+    stands_later o.tables o.start h e.q j e.mv.steps (fit e.q place) (fit j (omega arith))
+    (apart_from_untouched o.tables (made_in h) e.q j e.mv.steps untouched) place stood
 
 -- the move of entry j, at the place where it was planned
-pub entry_planned : (i : Tables) (a0 : List Machine) (l : Lots) (h : List Entry) (n j : ℕ) → WellFormed i →
-    IsAssignment i a0 → IsLegal i a0 l h n → j < n → IsPlanAt i (state a0 h (entry_at h j).q) (entry_at h j).mv.steps
-entry_planned i a0 l h n j limits fits legal before =
+pub entry_planned : (o : Opening) (h : List Entry) (n j : ℕ) → WellFormed o.tables →
+    IsAssignment o.tables o.start → IsLegal o h n → j < n →
+    IsPlanAt o.tables (state o.start h (entry_at h j).q) (entry_at h j).mv.steps
+entry_planned o h n j limits fits legal before =
     let here = legal.each j before in
-    move_at i a0 l h j (entry_at h j) limits fits (legal_fewer i a0 l h j n (omega arith) legal) here.placed.place
+    move_at o h j (entry_at h j) limits fits (legal_fewer o h j n (omega arith) legal) here.placed.place
     here.planned
 
 -- a move that is done isn't refused as Repeat
@@ -176,20 +177,20 @@ unfolding verdict_of
 done_none None x cost is = refl
 done_none (Some cause) x cost is = absurd (cc)
 
-done_distinct : (i : Tables) (a0 a : List Machine) (steps : List Step) (rise cost : ℕ) (verdict : Verdict) →
-    verdict ≡ judge (situation i a0 a) steps rise → verdict ≡ Done cost → Distinct steps
+done_distinct : (st : Situation) (steps : List Step) (rise cost : ℕ) (verdict : Verdict) →
+    verdict ≡ judge st steps rise → verdict ≡ Done cost → Distinct steps
 unfolding judge broken_by
-done_distinct i a0 a steps rise cost verdict is done =
+done_distinct st steps rise cost verdict is done =
     distinct_from_none steps (left_none (repeat_of steps) _ (left_none _ _ (done_none _ _ cost (sym is ∙ done))))
 
 -- so the first n entries can be replayed
-pub can_replay : (i : Tables) (a0 : List Machine) (l : Lots) (h : List Entry) (n : ℕ) → WellFormed i →
-    IsAssignment i a0 → IsLegal i a0 l h n → CanReplay a0 h n
-can_replay i a0 l h n limits fits legal = record {
+pub can_replay : (o : Opening) (h : List Entry) (n : ℕ) → WellFormed o.tables →
+    IsAssignment o.tables o.start → IsLegal o h n → CanReplay o.start h n
+can_replay o h n limits fits legal = record {
   stands = λ j before.
       let here = legal.each j before in
-      stands_at i a0 l h j (entry_at h j) limits fits (legal_fewer i a0 l h j n (omega arith) legal) here.placed.place
-      here.untouched (entry_planned i a0 l h n j limits fits legal before).stands;
-  distinct = λ j before cost done. done_distinct i a0 (state a0 h j) (entry_at h j).mv.steps _ cost
+      stands_at o h j (entry_at h j) limits fits (legal_fewer o h j n (omega arith) legal) here.placed.place
+      here.untouched (entry_planned o h n j limits fits legal before).stands;
+  distinct = λ j before cost done. done_distinct (state_at o h j) (entry_at h j).mv.steps _ cost
       (entry_at h j).verdict (legal.each j before).judged done;
 }

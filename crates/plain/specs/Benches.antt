@@ -2,17 +2,14 @@
 use Rattle.std.specs.Prelude.{◌≡◌, ℕ, ◌<◌, ◌≤◌, List, length}
 use Rattle.ra_base.specs.declared.ids.Machine.{Machine}
 use Rattle.ra_check.specs.Made.{IsMadeFor}
-use Rattle.ra_draws.specs.declared.budgets.Lots.{Lots}
 use Rattle.ra_model.specs.declared.raw.Tables.{Tables}
 use Rattle.ra_model.specs.Numbers.{process_count}
-use Rattle.ra_moves.specs.declared.steps.Step.{Step}
-use Rattle.ra_moves.specs.declared.verdicts.Verdict.{Verdict}
-use Rattle.ra_moves.specs.declared.verdicts.Verdict.TheVariants.{Done}
-use Rattle.ra_moves.specs.Steps.{StandsAt, Distinct, from_in}
+use Rattle.ra_moves.specs.Steps.{StandsAt, from_in}
 use Rattle.ra_journal.specs.declared.entries.Entry.{Entry}
 use Rattle.ra_journal.specs.Entries.{entry_at, worker_count, budget}
 use Rattle.ra_journal.specs.Legal.{IsLegal}
 use Rattle.ra_journal.specs.States.{state, IsDistinctIfDone}
+use Rattle.ra_journal.specs.Openings.{Opening}
 use Rattle.plain.specs.declared.bench.Bench.{Bench}
 
 -- a bench has room for the assignments of an instance, and tables for its checks
@@ -29,9 +26,9 @@ pub record CanReplay (a0 : List Machine) (h : List Entry) (n : ℕ) : Type 0 whe
 
 -- an entry can be tested from place n: all entries before that place are legal, and the entry's proposal is within its
 -- worker's budget
-pub record CanTry (i : Tables) (a0 : List Machine) (l : Lots) (h : List Entry) (n : ℕ) (e : Entry) :
+pub record CanTry (o : Opening) (h : List Entry) (n : ℕ) (e : Entry) :
     Type 0 where
   pub there : n ≤ length h
-  pub before : IsLegal i a0 l h n
-  pub worker : e.worker < worker_count l
-  pub left : e.k < budget l e.worker
+  pub before : IsLegal o h n
+  pub worker : e.worker < worker_count o.lots
+  pub left : e.k < budget o.lots e.worker

@@ -2,12 +2,12 @@ ghost use Rattle.std.specs.Prelude.{◌≡◌, ℕ, ◌<◌, ◌≤◌, length, 
 ghost use Rattle.ra_draws.specs.Shown.{drawing_in};
 ghost use Rattle.ra_model.specs.Numbers.{process_count, machine_count};
 ghost use Rattle.ra_model.specs.Assignments.{IsAssignment};
-ghost use Rattle.ra_model.specs.Situations.{situation};
 ghost use Rattle.ra_moves.specs.Judging.{judge};
 ghost use Rattle.ra_moves.specs.Options.{plan_of};
 ghost use Rattle.ra_moves.specs.Steps.{StandsAt, from_in, to_in};
 ghost use Rattle.ra_journal.specs.Entries.{words, allowed};
-ghost use Rattle.ra_journal.specs.States.{state};
+ghost use Rattle.ra_journal.specs.Openings.{opening};
+ghost use Rattle.ra_journal.specs.States.{state, state_at};
 ghost use Rattle.plain.specs.Benches.{IsBenchFor, CanReplay, CanTry};
 
 use crate::places::entry;
@@ -53,9 +53,10 @@ impl Bench {
     ) -> Move
         requires start { IsAssignment inst.now.tables a0.now.items }
         requires made { IsBenchFor self.old inst.now.tables }
-        requires can { CanTry inst.now.tables a0.now.items lots.now entries.now e.now.q e.now }
-        ensures planned { result ≡ plan_of (situation inst.now.tables a0.now.items
-            (state a0.now.items entries.now e.now.q))
+        requires can { CanTry (opening inst.now.tables a0.now.items lots.now) entries.now e.now.q
+            e.now }
+        ensures planned { result ≡ plan_of
+            (state_at (opening inst.now.tables a0.now.items lots.now) entries.now e.now.q)
             (words lots.now e.now.worker e.now.k) (drawing_in lots.now)
             (allowed lots.now e.now.worker e.now.k) }
         ensures kept { IsBenchFor self.new inst.now.tables }
@@ -91,13 +92,13 @@ impl Bench {
     ) -> Verdict
         requires start { IsAssignment inst.now.tables a0.now.items }
         requires made { IsBenchFor self.old inst.now.tables }
-        requires can { CanTry inst.now.tables a0.now.items lots.now entries.now j e.now }
+        requires can { CanTry (opening inst.now.tables a0.now.items lots.now) entries.now j e.now }
         requires stands { StandsAt from_in e.now.mv.steps (state a0.now.items entries.now j) }
         requires reaches { (n : ℕ) → n < length e.now.mv.steps →
             to_in e.now.mv.steps n < machine_count inst.now.tables }
-        ensures judged { result ≡ judge (situation inst.now.tables a0.now.items
-            (state a0.now.items entries.now j)) e.now.mv.steps
-            (allowed lots.now e.now.worker e.now.k) }
+        ensures judged { result ≡ judge
+            (state_at (opening inst.now.tables a0.now.items lots.now) entries.now j)
+            e.now.mv.steps (allowed lots.now e.now.worker e.now.k) }
         ensures kept { IsBenchFor self.new inst.now.tables }
     {
         replay(&mut self.state, a0, entries, j);

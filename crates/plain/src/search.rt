@@ -2,6 +2,7 @@ ghost use Rattle.std.specs.Prelude.{◌≡◌, ◌<◌, ◌≤◌, true, false, 
 ghost use Rattle.ra_model.specs.Assignments.{IsAssignment};
 ghost use Rattle.ra_journal.specs.Entries.{entry_at};
 ghost use Rattle.ra_journal.specs.Legal.{IsLegalAt, IsLegal, Legal};
+ghost use Rattle.ra_journal.specs.Openings.{opening};
 ghost use Rattle.plain.specs.Illegal.{IsFirstIllegal};
 ghost use Rattle.plain.specs.Benches.{IsBenchFor};
 
@@ -26,9 +27,10 @@ pub fn first_illegal(
 ) -> Result<Option<usize>, NoMemory>
     requires fits { IsAssignment inst.now.tables a0.now.items }
     ensures legal { IfOk result (λ found. found ≡ None →
-        Legal inst.now.tables a0.now.items lots.now entries.now) }
+        Legal (opening inst.now.tables a0.now.items lots.now) entries.now) }
     ensures first { IfOk result (λ found.
-        IfSome found (λ j. IsFirstIllegal inst.now.tables a0.now.items lots.now entries.now j)) }
+        IfSome found
+        (λ j. IsFirstIllegal (opening inst.now.tables a0.now.items lots.now) entries.now j)) }
 {
     let mut bench = Bench::make(alloc, inst)?;
     for j in 0..entries.len() {
@@ -51,11 +53,11 @@ fn is_legal(
     requires fits { IsAssignment inst.now.tables a0.now.items }
     requires made { IsBenchFor bench.old inst.now.tables }
     requires there { j < length entries.now }
-    requires before { IsLegal inst.now.tables a0.now.items lots.now entries.now j }
-    ensures legal { result ≡ true → IsLegalAt inst.now.tables a0.now.items lots.now entries.now j
-        (entry_at entries.now j) }
-    ensures illegal { result ≡ false → IsLegalAt inst.now.tables a0.now.items lots.now entries.now j
-        (entry_at entries.now j) → ⊥ }
+    requires before { IsLegal (opening inst.now.tables a0.now.items lots.now) entries.now j }
+    ensures legal { result ≡ true →
+        IsLegalAt (opening inst.now.tables a0.now.items lots.now) entries.now j (entry_at entries.now j) }
+    ensures illegal { result ≡ false →
+        IsLegalAt (opening inst.now.tables a0.now.items lots.now) entries.now j (entry_at entries.now j) → ⊥ }
     ensures kept { IsBenchFor bench.new inst.now.tables }
 {
     let e = entry(entries, j);

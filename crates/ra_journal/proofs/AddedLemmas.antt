@@ -10,31 +10,26 @@ use Rattle.ra_model.specs.declared.raw.Tables.{Tables}
 use Rattle.ra_moves.specs.declared.steps.Step.{Step}
 use Rattle.ra_guards.specs.Versions.{made_at, touches, stamp, version}
 use Rattle.ra_journal.specs.declared.entries.Entry.{Entry}
-use Rattle.ra_journal.specs.Entries.{entry_at, made_by, made_in, entries_of}
+use Rattle.ra_journal.specs.Entries.{made_by, made_in, entries_of}
 use Rattle.ra_journal.specs.States.{state, after_made, kept_cost, cost_then}
+use Rattle.ra_journal.specs.Openings.{Opening}
 use Rattle.ra_journal.proofs.Places.{SameBelow, same_added, same_state, same_kept, same_entries_of, same_version}
 use Rattle.ra_journal.proofs.Places.{made_place, entry_added}
 
 pub entries_added : (h : List Entry) (e : Entry) (w : ℕ) → entries_of (h ++ e ∷ []) (suc (length h)) w ≡
     entries_of h (length h) w + one_if (eqb e.worker w)
 unfolding entries_of
-entries_added h e w =
-    let g = h ++ e ∷ [] in
-    total_suc (length h) (λ j. one_if (eqb (entry_at g j).worker w))
-    ∙ ap₂ (λ m n. m + n) (sym (same_entries_of (length h) w h g (same_added h e)))
-    (ap (λ (x : Entry). one_if (eqb x.worker w)) (entry_added h e))
+entries_added h e w = grind (arith, total_suc, same_entries_of, same_added, entry_added)
 
 pub state_added : (a0 : List Machine) (h : List Entry) (e : Entry) → state a0 (h ++ e ∷ []) (suc (length h)) ≡
     after_made (state a0 h (length h)) (made_by e)
 unfolding state
-state_added a0 h e =
-    ap₂ after_made (sym (same_state a0 (length h) h (h ++ e ∷ []) (same_added h e))) (ap made_by (entry_added h e))
+state_added a0 h e = grind (arith, same_state, same_added, entry_added)
 
-pub kept_added : (i : Tables) (a0 : List Machine) (h : List Entry) (e : Entry) →
-    kept_cost i a0 (h ++ e ∷ []) (suc (length h)) ≡ cost_then (kept_cost i a0 h (length h)) e.verdict
+pub kept_added : (o : Opening) (h : List Entry) (e : Entry) →
+    kept_cost o (h ++ e ∷ []) (suc (length h)) ≡ cost_then (kept_cost o h (length h)) e.verdict
 unfolding kept_cost
-kept_added i a0 h e = ap₂ cost_then (sym (same_kept i a0 (length h) h (h ++ e ∷ []) (same_added h e)))
-    (ap (λ (x : Entry). x.verdict) (entry_added h e))
+kept_added o h e = grind (arith, same_kept, same_added, entry_added)
 
 -- no version is above the number of entries
 pub version_few : (i : Tables) (made : List (Option (List Step))) (n : ℕ) (g : Guard) → version i made n g ≤ n

@@ -9,6 +9,7 @@ use Rattle.ra_journal.specs.declared.entries.Entry.{Entry}
 use Rattle.ra_journal.specs.Entries.{made_in}
 use Rattle.ra_journal.specs.States.{state}
 use Rattle.ra_journal.specs.Laws.{MakesMoves}
+use Rattle.ra_journal.specs.Openings.{Opening}
 use Rattle.ra_journal.proofs.Places.{made_place}
 
 pub state_is_made : (a0 : List Machine) (h : List Entry) (j : ℕ) → state a0 h j ≡ made_state a0 (made_in h) j
@@ -19,9 +20,8 @@ state_is_made a0 h (suc j) = ap₂ after_made (state_is_made a0 h j) (sym (made_
 stands_here : (i : Tables) (a : List Machine) (steps : List Step) → IsMove i a steps → StandsHere i a steps
 stands_here i a steps is = record { distinct = is.distinct; stands = is.stands; reaches = is.reaches }
 
-pub made_stand : (i : Tables) (a0 : List Machine) (h : List Entry) (n : ℕ) → MakesMoves i a0 h n →
-    MadeStand i a0 (made_in h) n
-made_stand i a0 h n moves = record {
-  each = λ j steps before is. subst (λ a. StandsHere i a steps) (state_is_made a0 h j)
-      (stands_here i (state a0 h j) steps (moves.each j steps before (sym (made_place h j) ∙ is)));
+pub made_stand : (o : Opening) (h : List Entry) (n : ℕ) → MakesMoves o h n → MadeStand o.tables o.start (made_in h) n
+made_stand o h n moves = record {
+  each = λ j steps before is. subst (λ a. StandsHere o.tables a steps) (state_is_made o.start h j)
+      (stands_here o.tables (state o.start h j) steps (moves.each j steps before (sym (made_place h j) ∙ is)));
 }

@@ -1,11 +1,8 @@
 -- The first guard that is newer, by the table of versions, and what a commit answers by it.
-use Rattle.std.proofs.Common.{◌≡◌, ℕ, List, [], ◌∷◌, ◌++◌, length, Option, Some, None, sym, ap, ◌∙◌}
-use Rattle.ra_base.specs.declared.ids.Machine.{Machine}
-use Rattle.ra_draws.specs.declared.budgets.Lots.{Lots}
+use Rattle.std.proofs.Common.{◌≡◌, ℕ, List, [], ◌∷◌, ◌++◌, length, Option, Some, None, sym, ◌∙◌, arith}
 use Rattle.ra_model.specs.declared.raw.Tables.{Tables}
 use Rattle.ra_moves.specs.declared.steps.Step.{Step}
 use Rattle.ra_moves.specs.declared.verdicts.Plan.{Plan}
-use Rattle.ra_moves.specs.MoveSteps.{MoveSteps}
 use Rattle.ra_guards.specs.declared.newest.Newer.{Newer}
 use Rattle.ra_guards.specs.VersionTable.{VersionTable}
 use Rattle.ra_guards.specs.Kept.{version_in, AreVersions}
@@ -16,6 +13,7 @@ use Rattle.ra_journal.specs.declared.entries.Entry.{Entry}
 use Rattle.ra_journal.specs.declared.replies.Reply.TheVariants.{Recorded, Stale}
 use Rattle.ra_journal.specs.Entries.{made_in}
 use Rattle.ra_journal.specs.Committing.{next_entry, newer_since, committed_by, committed, AreHeld, IsCommit}
+use Rattle.ra_journal.specs.Openings.{Opening}
 use Rattle.ra_journal.proofs.EndLemmas.{next_is_planned}
 
 pub newer_same : (i : Tables) (h : List Entry) (q : ℕ) (steps : List Step) (v : VersionTable) →
@@ -31,25 +29,21 @@ unfolding newer_since
 newer_read_same i h q steps v are held = newest_is_right.read_in_table i (made_in h) (length h) steps v q are
     ∙ sym (newest_is_right.held i steps (version i (made_in h) (length h)) q held.each)
 
--- a commit by what is newer
-committed_by_newer : (i : Tables) (a0 : List Machine) (l : Lots) (h : List Entry) (w : ℕ) (plan : Plan)
-    (newer : Option Newer) → IsCommit i a0 l h w plan → newer_since i h plan.q plan.mv.steps ≡ newer →
-    committed i a0 l h w plan.q ≡ committed_by newer h (next_entry i a0 l h w plan.q)
-unfolding committed
-committed_by_newer i a0 l h w plan newer commit is =
-    ap (λ (n : Option Newer). committed_by n h (next_entry i a0 l h w plan.q))
-    (ap (λ (mv : MoveSteps). newer_since i h plan.q mv.steps) (next_is_planned i a0 l h w plan commit) ∙ is)
+module _ (o : Opening) (h : List Entry) (w : ℕ) (plan : Plan) where
+  -- a commit by what is newer
+  committed_by_newer : (newer : Option Newer) → IsCommit o h w plan → newer_since o.tables h plan.q plan.mv.steps ≡ newer →
+      committed o h w plan.q ≡ committed_by newer h (next_entry o h w plan.q)
+  unfolding committed
+  committed_by_newer newer commit is = grind (arith, next_is_planned)
 
-pub committed_stale : (i : Tables) (a0 : List Machine) (l : Lots) (h : List Entry) (w : ℕ) (plan : Plan)
-    (newer : Newer) → IsCommit i a0 l h w plan → newer_since i h plan.q plan.mv.steps ≡ Some newer →
-    committed i a0 l h w plan.q ≡ record { journal = h; reply = Stale newer.guard newer.at }
-unfolding committed_by
-committed_stale i a0 l h w plan newer commit is = committed_by_newer i a0 l h w plan (Some newer) commit is
+  pub committed_stale : (newer : Newer) → IsCommit o h w plan → newer_since o.tables h plan.q plan.mv.steps ≡ Some newer →
+      committed o h w plan.q ≡ record { journal = h; reply = Stale newer.guard newer.at }
+  unfolding committed_by
+  committed_stale newer commit is = committed_by_newer (Some newer) commit is
 
-pub committed_recorded : (i : Tables) (a0 : List Machine) (l : Lots) (h : List Entry) (w : ℕ) (plan : Plan) →
-    IsCommit i a0 l h w plan → newer_since i h plan.q plan.mv.steps ≡ None → committed i a0 l h w plan.q ≡ record {
-      journal = h ++ next_entry i a0 l h w plan.q ∷ [];
-      reply = Recorded (length h) (next_entry i a0 l h w plan.q).verdict;
-    }
-unfolding committed_by
-committed_recorded i a0 l h w plan commit is = committed_by_newer i a0 l h w plan None commit is
+  pub committed_recorded : IsCommit o h w plan → newer_since o.tables h plan.q plan.mv.steps ≡ None → committed o h w plan.q ≡ record {
+    journal = h ++ next_entry o h w plan.q ∷ [];
+    reply = Recorded (length h) (next_entry o h w plan.q).verdict;
+  }
+  unfolding committed_by
+  committed_recorded commit is = committed_by_newer None commit is

@@ -6,14 +6,13 @@ use Rattle.ra_base.specs.declared.ids.Machine.{Machine}
 use Rattle.ra_base.proofs.Named.{is_named_at}
 use Rattle.ra_model.specs.declared.raw.Tables.{Tables}
 use Rattle.ra_model.specs.Limits.{WellFormed}
-use Rattle.ra_model.specs.Numbers.{machine_count}
 use Rattle.ra_model.specs.Assignments.{IsAssignment, machine_at}
-use Rattle.ra_model.specs.Situations.{situation}
+use Rattle.ra_model.specs.Situations.{Situation}
 use Rattle.ra_moves.specs.declared.steps.MoveKind.{MoveKind}
 use Rattle.ra_moves.specs.declared.steps.MoveKind.TheVariants.{Shift, Swap, Chain}
 use Rattle.ra_moves.specs.declared.steps.Step.{Step}
 use Rattle.ra_moves.specs.Steps.{process_in, from_in}
-use Rattle.ra_moves.specs.Options.{kind_of, shift_of, swap_of, chain_of, option_of, option_at, plan_of, plan_place}
+use Rattle.ra_moves.specs.Options.{shift_of, swap_of, chain_of, option_of, option_at, plan_of}
 use Rattle.ra_moves.proofs.OptionLemmas.{option_stands, option_reaches}
 use Rattle.ra_moves.proofs.Repeats.{distinct_from_none}
 use Rattle.ra_moves.specs.Touched.{touches_machine}
@@ -35,26 +34,15 @@ option_some Shift a x m d o = omega arith
 option_some Swap a x m d o = omega arith
 option_some Chain a x m d o = omega arith
 
-pub plan_some : (i : Tables) (a0 a : List Machine) (x : List ℕ) (d : Drawing) (rise : ℕ) →
-    0 < length (plan_of (situation i a0 a) x d rise).steps
+pub plan_some : (st : Situation) (x : List ℕ) (d : Drawing) (rise : ℕ) →
+    0 < length (plan_of st x d rise).steps
 unfolding plan_of option_at
-plan_some i a0 a x d rise = option_some (kind_of x) a x (machine_count i) d (plan_place (situation i a0 a) x d rise)
+plan_some st x d rise = grind (arith, option_some)
 
-pub plan_offered : (i : Tables) (a0 a : List Machine) (x : List ℕ) (d : Drawing) (rise : ℕ) → WellFormed i →
-    IsAssignment i a → IsOffered i a (plan_of (situation i a0 a) x d rise).steps
+pub plan_offered : (st : Situation) (x : List ℕ) (d : Drawing) (rise : ℕ) → WellFormed st.tables →
+    IsAssignment st.tables st.here → IsOffered st.tables st.here (plan_of st x d rise).steps
 unfolding plan_of option_at
-plan_offered i a0 a x d rise limits fits = λ none.
-    let place = plan_place (situation i a0 a) x d rise in
-    let some : 0 < length a = omega (arith, fits.one_each, limits.some_process) in
-    let machines : 0 < machine_count i = omega (arith, limits.some_machine) in
-    record {
-      fits = fits;
-      stands = option_stands a x (machine_count i) d place some machines;
-      distinct = distinct_from_none _ none;
-      few = option_few (kind_of x) a x (machine_count i) d place;
-      reaches = option_reaches a x (machine_count i) d place some machines
-          (λ p there. fits.in_range p (omega (arith, fits.one_each)));
-    }
+plan_offered st x d rise limits fits = grind (arith, option_stands, distinct_from_none, option_few, option_reaches)
 
 -- a machine that a step leaves is an end of the move
 pub left_is_end : (steps : List Step) (j : ℕ) → j < length steps → touches_machine steps (from_in steps j) ≡ true

@@ -47,28 +47,27 @@ packed_back e p last long last_is verdict worker kind k q first second third =
     ∙ steps_back e.mv.kind e.mv.steps long in
     rw (worker, kind, k, q, first, second, third, verdict, steps) refl
 
--- the lists that were packed
+module _ (packed : List Packed) where
+  -- the lists that were packed
+  pub unpacked_length : length (map unpacked packed) ≡ length packed
+  unpacked_length = length-map packed unpacked
 
-pub unpacked_length : (packed : List Packed) → length (map unpacked packed) ≡ length packed
-unpacked_length packed = length-map packed unpacked
+  pub unpacked_push : (after : List Packed) (p : Packed) (e : Entry) → after ≡ packed ++ p ∷ [] → unpacked p ≡ e →
+      map unpacked after ≡ map unpacked packed ++ e ∷ []
+  unpacked_push after p e is back = grind (arith, map-append)
 
-pub unpacked_push : (packed after : List Packed) (p : Packed) (e : Entry) → after ≡ packed ++ p ∷ [] → unpacked p ≡ e →
-    map unpacked after ≡ map unpacked packed ++ e ∷ []
-unpacked_push packed after p e is back = ap (λ (ps : List Packed). map unpacked ps) is
-    ∙ map-append unpacked packed (p ∷ []) ∙ ap (λ (x : Entry). map unpacked packed ++ x ∷ []) back
+  pub unpacked_at : (n : ℕ) (p : Packed) → n < length packed → p ≡ get_or packed n p →
+      unpacked p ≡ entry_at (map unpacked packed) n
+  unfolding entry_at
+  unpacked_at n p within is = grind (arith, get_or-map)
 
-pub unpacked_at : (packed : List Packed) (n : ℕ) (p : Packed) → n < length packed → p ≡ get_or packed n p →
-    unpacked p ≡ entry_at (map unpacked packed) n
-unfolding entry_at
-unpacked_at packed n p within is = ap unpacked is ∙ sym (get_or-map unpacked packed n p _ within)
+  pub unpacked_none : packed ≡ [] → map unpacked packed ≡ []
+  unpacked_none none = ap (λ ps. map unpacked ps) none
 
-pub unpacked_none : (packed : List Packed) → packed ≡ [] → map unpacked packed ≡ []
-unpacked_none packed none = ap (λ (ps : List Packed). map unpacked ps) none
-
-pub unpacked_part : (packed : List Packed) (at number : ℕ) → number ≡ min 1024 (length packed - at) →
-    map unpacked (slice_range packed at (at + number)) ≡ batch_from (map unpacked packed) at
-unpacked_part packed at number is =
-    let long : length packed ≡ length (map unpacked packed) = sym (unpacked_length packed) in
-    let few : number ≡ min 1024 (length (map unpacked packed) - at) = is ∙ ap (λ n. min 1024 (n - at)) long in
-    sym (take-map unpacked (at + number - at) (drop at packed)) ∙ ap (λ (ps : List Entry). take (at + number - at) ps)
-    (sym (drop-map unpacked at packed)) ∙ batch_is (map unpacked packed) at number few
+  pub unpacked_part : (at number : ℕ) → number ≡ min 1024 (length packed - at) →
+      map unpacked (slice_range packed at (at + number)) ≡ batch_from (map unpacked packed) at
+  unpacked_part at number is =
+      let long : length packed ≡ length (map unpacked packed) = sym (unpacked_length) in
+      let few : number ≡ min 1024 (length (map unpacked packed) - at) = is ∙ ap (λ n. min 1024 (n - at)) long in
+      sym (take-map unpacked (at + number - at) (drop at packed)) ∙ ap (λ (ps : List Entry). take (at + number - at) ps)
+      (sym (drop-map unpacked at packed)) ∙ batch_is (map unpacked packed) at number few

@@ -21,10 +21,6 @@ budgets_are [] = refl
 budgets_are (lot ∷ rest) = total_front (length rest) (budget_of (lot ∷ rest))
     ∙ ap (λ n. lot.budget + n) (budgets_are rest) ∙ sym (sum_by-cons (λ (l : Lot). l.budget) lot rest)
 
-pub proposals_are : (l : Lots) → proposal_count l ≡ sum_by (λ (lot : Lot). lot.budget) l.lots.items
-unfolding proposal_count worker_count budget
-proposals_are l = budgets_are l.lots.items
-
 -- the first n entries are numbered
 pub record AreNumbered (l : Lots) (h : List Entry) (n : ℕ) : Type 0 where
   pub each : (j : ℕ) → j < n → IsNumbered l h j (entry_at h j)
@@ -34,51 +30,50 @@ within_more : (own : Bool) (made most : ℕ) → made ≤ most → (own ≡ true
 within_more true made most few below = omega (arith, below refl)
 within_more false made most few below = omega arith
 
-pub entries_within : (l : Lots) (h : List Entry) (n w : ℕ) → AreNumbered l h n → entries_of h n w ≤ budget l w
-unfolding entries_of
-entries_within l h zero w numbered = omega (arith, total_none (λ j. one_if (eqb (entry_at h j).worker w)))
-entries_within l h (suc n) w numbered =
-    let e = entry_at h n in
-    let is = numbered.each n (omega arith) in
-    let own : eqb e.worker w ≡ true → entries_of h n w < budget l w =
-    λ same. let here : e.worker ≡ w = eqb-true e.worker w same in
-    subst (λ v. entries_of h n v < budget l v) here (omega (arith, is.number, is.budget)) in
-    let more = within_more (eqb e.worker w) (entries_of h n w) (budget l w)
-    (entries_within l h n w (record { each = λ j before. numbered.each j (omega arith) })) own in
-    omega (arith, total_suc n (λ j. one_if (eqb (entry_at h j).worker w)), more)
+module _ (l : Lots) where
+  pub proposals_are : proposal_count l ≡ sum_by (λ lot. lot.budget) l.lots.items
+  unfolding proposal_count worker_count budget
+  proposals_are = budgets_are l.lots.items
 
--- all entries are entries of the workers
-pub entries_together : (l : Lots) (h : List Entry) (n : ℕ) → AreNumbered l h n →
-    total (worker_count l) (entries_of h n) ≡ n
-unfolding entries_of
-entries_together l h n numbered = total_grouped (worker_count l) n (λ j. (entry_at h j).worker) (λ j. 1)
-    (λ j before. (numbered.each j before).worker) ∙ omega (arith, total_constant n 1)
+  pub entries_within : (h : List Entry) (n w : ℕ) → AreNumbered l h n → entries_of h n w ≤ budget l w
+  unfolding entries_of
+  entries_within h zero w numbered = omega (arith, total_none (λ j. one_if (eqb (entry_at h j).worker w)))
+  entries_within h (suc n) w numbered =
+      let e = entry_at h n in
+      let is = numbered.each n (omega arith) in
+      let own : eqb e.worker w ≡ true → entries_of h n w < budget l w =
+      λ same. subst (λ v. entries_of h n v < budget l v) (eqb-true e.worker w same) (omega (arith, is.number, is.budget)) in
+      let more = within_more (eqb e.worker w) (entries_of h n w) (budget l w)
+      (entries_within h n w (record { each = λ j before. numbered.each j (omega arith) })) own in
+      omega (arith, total_suc n (λ j. one_if (eqb (entry_at h j).worker w)), more)
 
-pub entries_few : (l : Lots) (h : List Entry) (n : ℕ) → AreNumbered l h n → n ≤ proposal_count l
-unfolding proposal_count
-entries_few l h n numbered =
-    omega (
-      arith,
-      entries_together l h n numbered,
-      total_le (worker_count l) (entries_of h n) (budget l)
-          (λ w exists. entries_within l h n w numbered),
-    )
+  module _ (h : List Entry) (n : ℕ) where
+    -- all entries are entries of the workers
+    pub entries_together : AreNumbered l h n →
+        total (worker_count l) (entries_of h n) ≡ n
+    unfolding entries_of
+    entries_together numbered = total_grouped (worker_count l) n (λ j. (entry_at h j).worker) (λ j. 1)
+        (λ j before. (numbered.each j before).worker) ∙ omega (arith, total_constant n 1)
 
-pub entries_fewer : (l : Lots) (h : List Entry) (n w : ℕ) → AreNumbered l h n → w < worker_count l →
-    entries_of h n w < budget l w → n < proposal_count l
-unfolding proposal_count
-entries_fewer l h n w numbered exists left =
-    omega (
-      arith,
-      entries_together l h n numbered,
-      total_lt (worker_count l) w (entries_of h n) (budget l) exists left
-          (λ v there. entries_within l h n v numbered),
-    )
+    pub entries_few : AreNumbered l h n → n ≤ proposal_count l
+    unfolding proposal_count
+    entries_few numbered = grind (arith, entries_together, total_le, entries_within)
 
--- budgets together are few
-pub proposals_few : (l : Lots) → proposal_count l ≤ 1000000
-proposals_few l = omega (arith, proposals_are l, l.fitting.together)
+    pub entries_fewer : (w : ℕ) → AreNumbered l h n → w < worker_count l →
+        entries_of h n w < budget l w → n < proposal_count l
+    unfolding proposal_count
+    entries_fewer w numbered exists left =
+        omega (
+          arith,
+          entries_together numbered,
+          total_lt (worker_count l) w (entries_of h n) (budget l) exists left
+              (λ v there. entries_within h n v numbered),
+        )
 
-pub budgets_few : (l : Lots) (w : ℕ) → w < worker_count l → total w (budget l) + budget l w ≤ 1000000
-unfolding proposal_count
-budgets_few l w exists = omega (arith, proposals_few l, total_part (worker_count l) w (budget l) exists)
+  -- budgets together are few
+  pub proposals_few : proposal_count l ≤ 1000000
+  proposals_few = omega (arith, proposals_are, l.fitting.together)
+
+  pub budgets_few : (w : ℕ) → w < worker_count l → total w (budget l) + budget l w ≤ 1000000
+  unfolding proposal_count
+  budgets_few w exists = omega (arith, proposals_few, total_part (worker_count l) w (budget l) exists)

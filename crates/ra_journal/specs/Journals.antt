@@ -15,6 +15,7 @@ use Rattle.ra_journal.specs.declared.entries.Entry.{Entry}
 use Rattle.ra_journal.specs.declared.journal.Journal.{Journal}
 use Rattle.ra_journal.specs.declared.replies.Reply.{Reply}
 use Rattle.ra_journal.specs.Committing.{committed, newer_since, AreHeld, Committed, IsCommit}
+use Rattle.ra_journal.specs.Openings.{Opening, opening}
 
 -- its instance, and the tables of it
 abbrev pub instance_in : Journal → Instance
@@ -38,6 +39,10 @@ start_in j = j.a0.now.items
 abbrev pub lots_in : Journal → Lots
 lots_in j = j.lots.now
 
+-- its instance's tables, initial list and lots as one
+abbrev pub opening_in : Journal → Opening
+opening_in j = opening (tables_in j) (start_in j) (lots_in j)
+
 -- its entries, with the room for them, and as a list
 abbrev pub list_in : Journal → Listed Entry
 list_in j = j.book.entries
@@ -47,7 +52,7 @@ entries_in j = j.book.entries.items
 
 -- worker w may hand in this plan
 abbrev pub MayHandIn : Journal → ℕ → Plan → Type 0
-MayHandIn j w plan = IsCommit (tables_in j) (start_in j) (lots_in j) (entries_in j) w plan
+MayHandIn j w plan = IsCommit (opening_in j) (entries_in j) w plan
 
 -- the first guard of a plan's move that an entry has touched since it was planned
 abbrev pub newer_in : Journal → Plan → Option Newer
@@ -60,7 +65,7 @@ pub record HasHeld (j : Journal) (plan : Plan) (guards : List Guard) : Type 0 wh
 
 -- what the journal becomes and what it answers if worker w hands in its plan
 abbrev pub answer_to : Journal → ℕ → Plan → Committed
-answer_to j w plan = committed (tables_in j) (start_in j) (lots_in j) (entries_in j) w plan.q
+answer_to j w plan = committed (opening_in j) (entries_in j) w plan.q
 
 -- a journal without entries, over this instance with its topology, this initial assignment and these lots
 pub record IsOpened (inst : Instance) (topo : TopologyLists) (a0 : Listed Machine) (l : Lots)
@@ -71,13 +76,17 @@ pub record IsOpened (inst : Instance) (topo : TopologyLists) (a0 : Listed Machin
   pub lots : lots_in j ≡ l
   pub entries : entries_in j ≡ []
 
--- the journal has answered worker w, which handed in a plan: the instance, the start and the lots are as before, and if
--- a guard of the plan's move is newer nothing changed
-pub record Answers (old new : Journal) (w : ℕ) (plan : Plan) (said : Reply) : Type 0 where
-  pub journal : entries_in new ≡ (answer_to old w plan).journal
-  pub reply : said ≡ (answer_to old w plan).reply
-  pub stale : (one : Newer) → newer_in old plan ≡ Some one → new ≡ old
+-- a journal has the same instance with its topology, the same initial assignment and the same lots as another
+pub record IsOverSame (old new : Journal) : Type 0 where
   pub instance : instance_in new ≡ instance_in old
   pub topology : topology_in new ≡ topology_in old
   pub initial : initial_in new ≡ initial_in old
   pub lots : lots_in new ≡ lots_in old
+
+-- the journal has answered worker w, which handed in a plan: it is over the same as before, and if a guard of the plan's
+-- move is newer nothing changed
+pub record Answers (old new : Journal) (w : ℕ) (plan : Plan) (said : Reply) : Type 0 where
+  pub journal : entries_in new ≡ (answer_to old w plan).journal
+  pub reply : said ≡ (answer_to old w plan).reply
+  pub stale : (one : Newer) → newer_in old plan ≡ Some one → new ≡ old
+  pub over : IsOverSame old new

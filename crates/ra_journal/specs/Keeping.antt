@@ -1,26 +1,24 @@
 -- What a journal keeps in addition to its entries, and that it is what the definitions give.
 use Rattle.std.specs.Prelude.{◌≡◌, ℕ, ◌<◌, List, length, None, slice_index}
-use Rattle.ra_base.specs.declared.ids.Machine.{Machine}
 use Rattle.ra_draws.specs.declared.budgets.Lots.{Lots}
-use Rattle.ra_model.specs.declared.raw.Tables.{Tables}
 use Rattle.ra_model.specs.Limits.{WellFormed}
 use Rattle.ra_model.specs.Assignments.{IsAssignment}
 use Rattle.ra_model.specs.Broken.{first_broken}
-use Rattle.ra_model.specs.Situations.{situation}
 use Rattle.ra_moves.specs.SettledNow.{AreMovedOf}
 use Rattle.ra_guards.specs.Kept.{AreVersions}
 use Rattle.ra_journal.specs.declared.book.Book.{Book}
 use Rattle.ra_journal.specs.declared.entries.Entry.{Entry}
 use Rattle.ra_journal.specs.Entries.{made_in, entries_of, worker_count, proposal_count}
-use Rattle.ra_journal.specs.States.{state, kept_cost, cost_of_state}
+use Rattle.ra_journal.specs.States.{kept_cost, cost_of_state, state_at}
 use Rattle.ra_journal.specs.Best.{best_of}
 use Rattle.ra_journal.specs.Legal.{Legal}
+use Rattle.ra_journal.specs.Openings.{Opening}
 
--- a0 is an assignment of a well formed instance, and breaks nothing
-pub record IsStart (i : Tables) (a0 : List Machine) : Type 0 where
-  pub limits : WellFormed i
-  pub fits : IsAssignment i a0
-  pub unbroken : first_broken i a0 a0 ≡ None
+-- the initial list is an assignment of a well formed instance, and breaks nothing
+pub record IsStart (o : Opening) : Type 0 where
+  pub limits : WellFormed o.tables
+  pub fits : IsAssignment o.tables o.start
+  pub unbroken : first_broken o.tables o.start o.start ≡ None
 
 -- a list says, in its first places, how many entries each worker has made
 pub record AreMadeBy (l : Lots) (h : List Entry) (made : List ℕ) : Type 0 where
@@ -28,15 +26,15 @@ pub record AreMadeBy (l : Lots) (h : List Entry) (made : List ℕ) : Type 0 wher
   pub each : (w : ℕ) → w < worker_count l → slice_index made w ≡ entries_of h (length h) w
 
 -- a book: its entries are a legal journal with room for all proposals, and all that it keeps is right for that journal
-pub record IsKept (i : Tables) (a0 : List Machine) (l : Lots) (book : Book) : Type 0 where
-  pub legal : Legal i a0 l book.entries.items
-  pub room : book.entries.room ≡ proposal_count l
+pub record IsKept (o : Opening) (book : Book) : Type 0 where
+  pub legal : Legal o book.entries.items
+  pub room : book.entries.room ≡ proposal_count o.lots
   pub versions :
-      AreVersions i (made_in book.entries.items) (length book.entries.items) book.versions
+      AreVersions o.tables (made_in book.entries.items) (length book.entries.items) book.versions
   pub moved :
-      AreMovedOf (situation i a0 (state a0 book.entries.items (length book.entries.items)))
+      AreMovedOf (state_at o book.entries.items (length book.entries.items))
       book.greatest
-  pub made : AreMadeBy l book.entries.items book.made
-  pub cost : book.kept ≡ kept_cost i a0 book.entries.items (length book.entries.items)
-  pub best_at : book.best_at ≡ best_of i a0 book.entries.items
-  pub best_cost : book.best_cost ≡ cost_of_state i a0 book.entries.items book.best_at
+  pub made : AreMadeBy o.lots book.entries.items book.made
+  pub cost : book.kept ≡ kept_cost o book.entries.items (length book.entries.items)
+  pub best_at : book.best_at ≡ best_of o book.entries.items
+  pub best_cost : book.best_cost ≡ cost_of_state o book.entries.items book.best_at

@@ -6,6 +6,7 @@ pub mod Journals
 pub mod Keeping
 pub mod Laws
 pub mod Legal
+pub mod Openings
 pub mod Packing
 pub mod Quiet
 pub mod Recording

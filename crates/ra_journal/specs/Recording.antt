@@ -3,7 +3,6 @@ use Rattle.std.specs.Prelude.{◌≡◌, ℕ, ◌+◌, List, [], ◌∷◌, ◌+
 use Rattle.ra_base.specs.declared.causes.Cause.{Cause}
 use Rattle.ra_base.specs.declared.ids.Guard.{Guard}
 use Rattle.ra_base.specs.declared.ids.Machine.{Machine}
-use Rattle.ra_draws.specs.declared.budgets.Lots.{Lots}
 use Rattle.ra_model.specs.declared.raw.Tables.{Tables}
 use Rattle.ra_model.specs.Situations.{situation}
 use Rattle.ra_moves.specs.declared.steps.Step.{Step}
@@ -29,24 +28,23 @@ use Rattle.ra_journal.specs.Committing.{newer_since, next_entry, IsCommit}
 use Rattle.ra_journal.specs.Entries.{steps_made}
 use Rattle.ra_journal.specs.Keeping.{IsKept}
 use Rattle.ra_journal.specs.States.{cost_then}
+use Rattle.ra_journal.specs.Openings.{Opening}
 
 -- worker w may hand in this plan, and no guard of its move was touched since it was planned
-pub record MayRecord (i : Tables) (a0 : List Machine) (l : Lots) (h : List Entry) (w : ℕ)
-    (plan : Plan) : Type 0 where
-  pub commit : IsCommit i a0 l h w plan
-  pub untouched : newer_since i h plan.q plan.mv.steps ≡ None
+pub record MayRecord (o : Opening) (h : List Entry) (w : ℕ) (plan : Plan) : Type 0 where
+  pub commit : IsCommit o h w plan
+  pub untouched : newer_since o.tables h plan.q plan.mv.steps ≡ None
 
 -- worker w's next proposal, planned at place q, is the last entry of a book that keeps its journal, and the worker is
 -- answered
-pub record HasRecorded (i : Tables) (a0 : List Machine) (l : Lots) (before after : Book) (w q : ℕ)
-    (said : Reply) : Type 0 where
-  pub kept : IsKept i a0 l after
+pub record HasRecorded (o : Opening) (before after : Book) (w q : ℕ) (said : Reply) : Type 0 where
+  pub kept : IsKept o after
   pub journal :
       after.entries.items ≡
-      before.entries.items ++ next_entry i a0 l before.entries.items w q ∷ []
+      before.entries.items ++ next_entry o before.entries.items w q ∷ []
   pub reply :
       said ≡
-      Recorded (length before.entries.items) (next_entry i a0 l before.entries.items w q).verdict
+      Recorded (length before.entries.items) (next_entry o before.entries.items w q).verdict
 
 -- an entry was added at the end, its worker has made one more, and nothing else changed
 pub record IsAdded (before after : Book) (e : Entry) : Type 0 where

@@ -2,6 +2,7 @@ ghost use Rattle.std.specs.Prelude.{◌≡◌, ◌≤◌};
 ghost use Rattle.ra_topology.specs.Fits.{IsTopologyOf};
 ghost use Rattle.ra_journal.specs.Entries.{proposal_count};
 ghost use Rattle.ra_journal.specs.Keeping.{IsStart, IsKept};
+ghost use Rattle.ra_journal.specs.Openings.{opening};
 
 use crate::batch::Batch;
 use crate::book::Book;
@@ -28,8 +29,8 @@ pub struct Journal<'a> {
     lots: &'a Lots,
     book: Book,
     pub ghost topology: { IsTopologyOf topo.now inst.now.tables },
-    pub ghost start: { IsStart inst.now.tables a0.now.items },
-    pub ghost kept: { IsKept inst.now.tables a0.now.items lots.now book },
+    pub ghost start: { IsStart (opening inst.now.tables a0.now.items lots.now) },
+    pub ghost kept: { IsKept (opening inst.now.tables a0.now.items lots.now) book },
 }
 
 impl<'a> Journal<'a> {
@@ -38,7 +39,7 @@ impl<'a> Journal<'a> {
     ghost use Rattle.ra_journal.specs.Best.{best_of};
     ghost use Rattle.ra_journal.specs.Committing.{AreHeld};
     ghost use Rattle.ra_journal.specs.Entries.{entry_at, entries_of, worker_count};
-    ghost use Rattle.ra_journal.specs.Journals.{instance_in, tables_in, topology_in, start_in, lots_in, list_in, entries_in, newer_in, MayHandIn, HasHeld, IsOpened, Answers};
+    ghost use Rattle.ra_journal.specs.Journals.{instance_in, tables_in, topology_in, lots_in, opening_in, list_in, entries_in, newer_in, MayHandIn, HasHeld, IsOpened, Answers};
     ghost use Rattle.ra_journal.specs.Quiet.{AreRefused};
     ghost use Rattle.ra_topology.specs.Starts.{IsFeasibleStart};
     ghost use Rattle.ra_journal.specs.States.{kept_cost, cost_of_state};
@@ -187,7 +188,7 @@ impl<'a> Journal<'a> {
 
     /// The cost of the state after all entries.
     pub fn kept_cost(&self) -> u128
-        ensures { result ≡ kept_cost (tables_in self.now) (start_in self.now) (entries_in self.now)
+        ensures { result ≡ kept_cost (opening_in self.now) (entries_in self.now)
             (length (entries_in self.now)) }
     {
         self.book.kept
@@ -195,15 +196,15 @@ impl<'a> Journal<'a> {
 
     /// How many entries come before the first state of least cost.
     pub fn best_at(&self) -> u64
-        ensures { result ≡ best_of (tables_in self.now) (start_in self.now) (entries_in self.now) }
+        ensures { result ≡ best_of (opening_in self.now) (entries_in self.now) }
     {
         self.book.best_at
     }
 
     /// The cost of that state.
     pub fn best_cost(&self) -> u128
-        ensures { result ≡ cost_of_state (tables_in self.now) (start_in self.now) (entries_in self.now)
-            (best_of (tables_in self.now) (start_in self.now) (entries_in self.now)) }
+        ensures { result ≡ cost_of_state (opening_in self.now) (entries_in self.now)
+            (best_of (opening_in self.now) (entries_in self.now)) }
     {
         self.book.best_cost
     }

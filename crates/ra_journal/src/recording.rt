@@ -6,10 +6,10 @@ ghost use Rattle.ra_guards.specs.Kept.{IsTableOf};
 ghost use Rattle.ra_guards.specs.Order.{AreWrites};
 ghost use Rattle.ra_journal.specs.Entries.{allowed, steps_made};
 ghost use Rattle.ra_journal.specs.Keeping.{IsStart, IsKept};
+ghost use Rattle.ra_journal.specs.Openings.{opening};
 ghost use Rattle.ra_journal.specs.Packing.{IsSmall};
 ghost use Rattle.ra_journal.specs.Recording.{MayRecord, HasRecorded, IsAdded, AreChangesOf, AreTouchedVersions, IsTakenIn, IsBestKept};
-ghost use Rattle.ra_journal.specs.States.{state};
-ghost use Rattle.ra_model.specs.Situations.{situation};
+ghost use Rattle.ra_journal.specs.States.{state_at};
 
 use crate::allowances::allowed;
 use crate::book::Book;
@@ -35,12 +35,12 @@ pub(crate) fn record(
     held: Option<&WriteGuards>,
 ) -> Reply
     requires topology { IsTopologyOf topo.now inst.now.tables }
-    requires start { IsStart inst.now.tables a0.now.items }
-    requires kept { IsKept inst.now.tables a0.now.items lots.now book.old }
-    requires next { MayRecord inst.now.tables a0.now.items lots.now book.old.entries.items worker
+    requires start { IsStart (opening inst.now.tables a0.now.items lots.now) }
+    requires kept { IsKept (opening inst.now.tables a0.now.items lots.now) book.old }
+    requires next { MayRecord (opening inst.now.tables a0.now.items lots.now) book.old.entries.items worker
         plan.now }
     requires held { IfSome (option_copied held) (AreWrites inst.now.tables plan.now.mv.steps) }
-    ensures { HasRecorded inst.now.tables a0.now.items lots.now book.old book.new worker plan.now.q
+    ensures { HasRecorded (opening inst.now.tables a0.now.items lots.now) book.old book.new worker plan.now.q
         result }
 {
     let verdict = judge_now(inst, a0, lots, book, worker, plan);
@@ -67,13 +67,13 @@ fn judge_now(
     worker: u32,
     plan: &Plan,
 ) -> Verdict
-    requires start { IsStart inst.now.tables a0.now.items }
-    requires kept { IsKept inst.now.tables a0.now.items lots.now book.now }
-    requires next { MayRecord inst.now.tables a0.now.items lots.now book.now.entries.items worker
+    requires start { IsStart (opening inst.now.tables a0.now.items lots.now) }
+    requires kept { IsKept (opening inst.now.tables a0.now.items lots.now) book.now }
+    requires next { MayRecord (opening inst.now.tables a0.now.items lots.now) book.now.entries.items worker
         plan.now }
     ensures { result ≡
-        judge (situation inst.now.tables a0.now.items (state a0.now.items book.now.entries.items
-        (length book.now.entries.items)))
+        judge (state_at (opening inst.now.tables a0.now.items lots.now) book.now.entries.items
+        (length book.now.entries.items))
         plan.now.mv.steps (allowed lots.now worker plan.now.k) }
 {
     let rise = allowed(lots, worker, plan.k);

@@ -9,10 +9,11 @@ use Rattle.ra_draws.specs.declared.budgets.Lots.{Lots}
 use Rattle.ra_draws.specs.declared.sources.Lot.{Lot}
 use Rattle.ra_draws.specs.Lots.{budget_of, words_of, allowance_of}
 use Rattle.ra_journal.specs.declared.entries.Entry.{Entry}
-use Rattle.ra_journal.specs.Best.{best_of}
+use Rattle.ra_journal.specs.Best.{best_place, best_of}
 use Rattle.ra_journal.specs.Entries.{budget, words, allowed}
 use Rattle.ra_journal.specs.Solo.{solo_entry, solo_entries, solo}
-use Rattle.ra_journal.specs.States.{state}
+use Rattle.ra_journal.specs.States.{state, cost_of_state}
+use Rattle.ra_journal.specs.Openings.{Opening, opening}
 use Rattle.ra_model.specs.declared.raw.RawInstance.{RawInstance}
 use Rattle.ra_model.specs.declared.raw.Tables.{Tables}
 use Rattle.ra_model.specs.Situations.{situation}
@@ -36,7 +37,7 @@ unfolding opened required safety capacity overload load_bound spare lack balance
 bound_bare raw closed = refl
 
 solo_bare : (raw : RawInstance) (closed : Option (Listed Bool)) (a0 : List Machine) (l : Lots) →
-    solo (bare (whole raw closed)) a0 l ≡ solo (whole raw closed) a0 l
+    solo (opening (bare (whole raw closed)) a0 l) ≡ solo (opening (whole raw closed) a0 l)
 unfolding opened judge broken_by option_cost plan_place plan_of solo_entry solo_entries solo
 solo_bare raw None a0 l = refl
 solo_bare raw (Some flags) a0 l = refl
@@ -64,12 +65,13 @@ entries_from i a0 slack drawing lots (suc n) = entries_from i a0 slack drawing l
 solo_from : Tables → List Machine → ℕ → Drawing → List Lot → List Entry
 solo_from i a0 slack drawing lots = entries_from i a0 slack drawing lots (budget_of lots 0)
 
-solo_is : (i : Tables) (a0 : List Machine) (l : Lots) → solo i a0 l ≡ solo_from i a0 l.slack l.drawing l.lots.items
+solo_is : (o : Opening) → solo o ≡ solo_from o.tables o.start o.lots.slack o.lots.drawing o.lots.lots.items
 unfolding solo solo_entries solo_entry words allowed budget solo_from entries_from entry_from
-solo_is i a0 l = refl
+solo_is o = refl
 
-lots_alike : (i : Tables) (a0 : List Machine) (l k : Lots) → AreAlikeLots l k → solo i a0 l ≡ solo i a0 k
-lots_alike i a0 l k same = solo_is i a0 l ∙ rw (same.slack, same.drawing, same.lots) refl ∙ sym (solo_is i a0 k)
+lots_alike : (o : Opening) (k : Lots) → AreAlikeLots o.lots k → solo o ≡ solo (record o { lots = k })
+lots_alike o k same =
+    solo_is o ∙ rw (same.slack, same.drawing, same.lots) refl ∙ sym (solo_is (record o { lots = k }))
 
 -- instances that are alike are one, but for their rooms
 
@@ -83,11 +85,21 @@ flags_alike (Some f) (Some g) e = let same : f.items ≡ g.items = cc in rw same
 bare_alike : (i j : Tables) → AreAlike i j → bare i ≡ bare j
 bare_alike i j same = rw (raw_same i.raw j.raw same.lists, flags_alike i.closed j.closed same.flags) refl
 
-summary_same : (i j : Tables) → bare i ≡ bare j → (a0 : List Machine) (h : List Entry) →
-    summary_text i a0 h ≡ summary_text j a0 h
+summary_same : (i j : Tables) → bare i ≡ bare j → (a0 : List Machine) (l : Lots) (h : List Entry) →
+    summary_text (opening i a0 l) h ≡ summary_text (opening j a0 l) h
 unfolding summary_text
-summary_same i j same a0 h =
-    rw (best_same i j same a0 h, parts_same i j same a0 (state a0 h (best_of j a0 h)), pinned_same i j same a0) refl
+summary_same i j same a0 l h =
+    rw (
+      best_same i j same a0 l h,
+      parts_same i j same a0 (state a0 h (best_of (opening j a0 l) h)),
+      pinned_same i j same a0,
+    ) refl
+
+-- the summary looks at no lots
+pub summary_lots : (i : Tables) (a0 : List Machine) (l k : Lots) (h : List Entry) →
+    summary_text (opening i a0 l) h ≡ summary_text (opening i a0 k) h
+unfolding summary_text best_of best_place cost_of_state
+summary_lots i a0 l k h = refl
 
 -- instances that are one but for their rooms run alike
 run_same : (i j : Tables) → bare i ≡ bare j → RunAlike i j
@@ -102,8 +114,9 @@ run_same i j same = record {
   report = report_same i j same;
   is_report = is_report_same i j same;
   wrong_line = wrong_line_same i j same;
-  alone = λ a0 l k lots. along (λ (t : Tables). solo t a0 l) (λ raw closed. solo_bare raw closed a0 l) i j same
-      ∙ lots_alike j a0 l k lots;
+  alone = λ a0 l k lots. along (λ (t : Tables). solo (opening t a0 l))
+      (λ raw closed. solo_bare raw closed a0 l) i j same
+      ∙ lots_alike (opening j a0 l) k lots;
   summary = summary_same i j same;
   repaired = repaired_same i j same;
 }

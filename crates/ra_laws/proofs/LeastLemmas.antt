@@ -44,7 +44,7 @@ plan_is_least i a0 a x d allowed = (
 
 pub best_is_least : BestIsLeast
 unfolding best_of best_place
-best_is_least i a0 h = least_of_all (length h) (cost_of_state i a0 h)
+best_is_least o h = least_of_all (length h) (cost_of_state o h)
 
 pub choice_is_least : ChoiceIsLeast
 unfolding chosen

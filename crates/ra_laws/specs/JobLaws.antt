@@ -12,6 +12,7 @@ use Rattle.ra_draws.specs.Shown.{drawing_in, lots_shown, slack_in}
 use Rattle.ra_journal.specs.declared.entries.Entry.{Entry}
 use Rattle.ra_journal.specs.Legal.{Legal}
 use Rattle.ra_journal.specs.Solo.{solo}
+use Rattle.ra_journal.specs.Openings.{opening}
 use Rattle.ra_model.specs.declared.raw.Tables.{Tables}
 use Rattle.ra_model.specs.Broken.{first_broken}
 use Rattle.ra_model.specs.Costs.{parts_of}
@@ -56,15 +57,18 @@ pub record RunAlike (i j : Tables) : Type 0 where
       → plan_of (situation i a0 a) x drawing allowed ≡ plan_of (situation j a0 a) x drawing allowed
   pub judged : (a0 a : List Machine) (steps : List Step) (allowed : ℕ)
       → judge (situation i a0 a) steps allowed ≡ judge (situation j a0 a) steps allowed
-  pub legal : (a0 : List Machine) (l : Lots) (h : List Entry) → Legal i a0 l h → Legal j a0 l h
+  pub legal : (a0 : List Machine) (l : Lots) (h : List Entry) → Legal (opening i a0 l) h
+      → Legal (opening j a0 l) h
   pub report : (a0 : List Machine) (l : Lots) (h : List Entry)
-      → report_text i a0 l h ≡ report_text j a0 l h
-  pub is_report : (a0 : List Machine) (l : Lots) (bytes : List ℕ) (n : ℕ) → IsReport i a0 l bytes n
-      → IsReport j a0 l bytes n
+      → report_text (opening i a0 l) h ≡ report_text (opening j a0 l) h
+  pub is_report : (a0 : List Machine) (l : Lots) (bytes : List ℕ) (n : ℕ)
+      → IsReport (opening i a0 l) bytes n → IsReport (opening j a0 l) bytes n
   pub wrong_line : (a0 : List Machine) (l : Lots) (bytes : List ℕ) (line : Option ℕ)
-      → IsWrongLine i a0 l bytes line → IsWrongLine j a0 l bytes line
-  pub alone : (a0 : List Machine) (l k : Lots) → AreAlikeLots l k → solo i a0 l ≡ solo j a0 k
-  pub summary : (a0 : List Machine) (h : List Entry) → summary_text i a0 h ≡ summary_text j a0 h
+      → IsWrongLine (opening i a0 l) bytes line → IsWrongLine (opening j a0 l) bytes line
+  pub alone : (a0 : List Machine) (l k : Lots) → AreAlikeLots l k
+      → solo (opening i a0 l) ≡ solo (opening j a0 k)
+  pub summary : (a0 : List Machine) (l : Lots) (h : List Entry)
+      → summary_text (opening i a0 l) h ≡ summary_text (opening j a0 l) h
   pub repaired : (a0 : List Machine) (lot : Lot) → repair_run i a0 lot ≡ repair_run j a0 lot
 
 -- instances that are alike run alike
@@ -93,8 +97,8 @@ abbrev pub TrialsHaveOneText : Type 0
 TrialsHaveOneText =
     (number : ℕ) (i j : Tables) (l k : Lots) → IsTrial (trial_word number) i
     → IsTrial (trial_word number) j → IsTrialLots number l → IsTrialLots number k
-    → summary_text i start_list (solo i start_list l)
-    ≡ summary_text j start_list (solo j start_list k)
+    → summary_text (opening i start_list l) (solo (opening i start_list l))
+    ≡ summary_text (opening j start_list k) (solo (opening j start_list k))
 
 -- so two trials of a number print the same
 abbrev pub TrialsPrintOneText : Type 0

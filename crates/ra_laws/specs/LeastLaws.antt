@@ -10,6 +10,7 @@ use Rattle.ra_moves.specs.Options.{option_count, option_at, option_cost, plan_of
 use Rattle.ra_journal.specs.declared.entries.Entry.{Entry}
 use Rattle.ra_journal.specs.States.{cost_of_state}
 use Rattle.ra_journal.specs.Best.{best_of}
+use Rattle.ra_journal.specs.Openings.{Opening}
 use Rattle.ra_repair.specs.Runs.{try_count, try_option, option_penalty, chosen}
 
 -- p is the first place of least value among the places below n that have one, and 0 if none has one
@@ -28,9 +29,9 @@ PlanIsLeast =
 -- the best state of a journal is the first of least cost among all its states, including that of place 0
 abbrev pub BestIsLeast : Type 0
 BestIsLeast =
-    (i : Tables) (a0 : List Machine) (h : List Entry)
-    → IsLeast (suc (length h)) (λ j. Some (cost_of_state i a0 h j)) (best_of i a0 h)
-    (cost_of_state i a0 h (best_of i a0 h))
+    (o : Opening) (h : List Entry)
+    → IsLeast (suc (length h)) (λ j. Some (cost_of_state o h j)) (best_of o h)
+    (cost_of_state o h (best_of o h))
 
 -- the option that a try of a repair chooses is the first with the least penalty after it among those that neither
 -- repeat a process nor stay, and option 0 if all do

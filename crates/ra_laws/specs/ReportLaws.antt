@@ -4,9 +4,8 @@ use Rattle.std.specs.Fmt.{decimal}
 use Rattle.ra_base.specs.declared.causes.Drawing.{Drawing}
 use Rattle.ra_base.specs.declared.costs.Parts.{Parts}
 use Rattle.ra_base.specs.declared.ids.Machine.{Machine}
-use Rattle.ra_draws.specs.declared.budgets.Lots.{Lots}
-use Rattle.ra_model.specs.declared.raw.Tables.{Tables}
 use Rattle.ra_journal.specs.declared.entries.Entry.{Entry}
+use Rattle.ra_journal.specs.Openings.{Opening}
 use Rattle.ra_token.specs.Lines.{lines_of}
 use Rattle.ra_report.specs.Texts.{number_text}
 use Rattle.ra_report.specs.JournalTexts.{entry_line, entries_text, entry_lines, report_lines, report_text, report_head, lines_left, IsJournalOf}
@@ -35,8 +34,8 @@ WrittenTellsItsJournal =
 -- the report of a journal tells that journal
 abbrev pub ReportTellsItsJournal : Type 0
 ReportTellsItsJournal =
-    (i : Tables) (a0 : List Machine) (l : Lots) (h : List Entry)
-    → IsJournalOf (report_text i a0 l h) h
+    (o : Opening) (h : List Entry)
+    → IsJournalOf (report_text o h) h
 
 -- two entries are equal if their lines are at one place at the front of the same bytes, and so is what follows
 abbrev pub SameLineSameEntry : Type 0
@@ -57,9 +56,9 @@ pub record HasTenLines (head : List ℕ) : Type 0 where
 
 abbrev pub ReportIsHeadAndEntries : Type 0
 ReportIsHeadAndEntries =
-    (i : Tables) (a0 : List Machine) (l : Lots) (h : List Entry)
-    → (report_text i a0 l h ≡ report_head i a0 l h ++ entries_text h (length h))
-    × HasTenLines (report_head i a0 l h)
+    (o : Opening) (h : List Entry)
+    → (report_text o h ≡ report_head o h ++ entries_text h (length h))
+    × HasTenLines (report_head o h)
 
 abbrev pub EntriesAreLines : Type 0
 EntriesAreLines =

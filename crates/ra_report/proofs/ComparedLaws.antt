@@ -1,5 +1,5 @@
 -- A text that was written to a sink that compares.
-use Rattle.std.proofs.Common.{◌≡◌, ℕ, ◌<◌, ◌≤◌, List, ◌++◌, length, take, Option, None, Some, IfNone, IfSome, Result, Ok, Err, OnOk, OnErr, inl, inr, arith, sym, ap, ◌∙◌, ⊎_elim}
+use Rattle.std.proofs.Common.{◌≡◌, ℕ, ◌≤◌, List, ◌++◌, length, take, Option, None, Some, IfNone, IfSome, Result, Ok, Err, OnOk, OnErr, inl, inr, arith, sym, ap, ◌∙◌, ⊎_elim}
 use Rattle.std.specs.Io.KnownBytes.{Appends}
 use Rattle.ra_token.specs.Comparing.{opened, WasGiven}
 use Rattle.ra_token.specs.Lines.{lines_of, FirstUnlike}
@@ -16,7 +16,7 @@ was_given (Err e) expected old taken text before after starts none whole part =
     inr (
       part.0.0,
       part.0.2 ∙ ap (λ xs. xs ++ take part.0.0 text) starts,
-      ⊎_elim (λ (more : before < after). omega arith) (λ last. omega (arith, last)) part.1,
+      ⊎_elim (λ more. omega arith) (λ last. omega (arith, last)) part.1,
     )
 
 -- what is told of no number, or of a number

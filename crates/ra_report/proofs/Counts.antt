@@ -1,5 +1,5 @@
 -- Every entry is done or refused.
-use Rattle.std.proofs.Common.{◌≡◌, ℕ, ◌+◌, ◌-◌, ◌<◌, Bool, true, false, not, cond, List, [], ◌∷◌, length, take, get_or, arith, ap, ap₂, ◌∙◌, sym}
+use Rattle.std.proofs.Common.{◌≡◌, ℕ, ◌+◌, ◌-◌, ◌<◌, Bool, true, false, not, cond, List, [], ◌∷◌, length, take, arith}
 use Rattle.std.proofs.lemmas.List.{get_or_default}
 use Rattle.std.proofs.lemmas.List.Sums.{sum_by-cons, sum_by_more}
 use Rattle.ra_journal.specs.declared.entries.Entry.{Entry}
@@ -16,18 +16,15 @@ done_or_refused [] = omega arith
 done_or_refused (e ∷ h) =
     let here = one_of_two (is_done e.verdict) in
     let rest = done_or_refused h in
-    let done = sum_by-cons (λ (x : Entry). cond (is_done x.verdict) 1 0) e h in
-    let refused = sum_by-cons (λ (x : Entry). cond (not (is_done x.verdict)) 1 0) e h in
+    let done = sum_by-cons (λ x. cond (is_done x.verdict) 1 0) e h in
+    let refused = sum_by-cons (λ x. cond (not (is_done x.verdict)) 1 0) e h in
     omega arith
 
 -- one more entry
 pub counted_more : (h : List Entry) (n : ℕ) (e : Entry) (done one : ℕ) → n < length h → e ≡ entry_at h n →
     done ≡ done_count (take n h) → one ≡ cond (is_done e.verdict) 1 0 → done + one ≡ done_count (take (n + 1) h)
 unfolding done_count entry_at
-counted_more h n e done one within read so_far here =
-    let there : one ≡ cond (is_done (get_or h n e).verdict) 1 0 = here
-    ∙ ap (λ (x : Entry). cond (is_done x.verdict) 1 0) (read ∙ get_or_default h n _ e within) in
-    ap₂ (λ (a b : ℕ). a + b) so_far there ∙ sym (sum_by_more (λ (x : Entry). cond (is_done x.verdict) 1 0) h n e within)
+counted_more h n e done one within read so_far here = grind (arith, get_or_default, sum_by_more)
 
 -- those that are not done are refused
 pub others : (h : List Entry) (done : ℕ) → done ≡ done_count h → length h - done ≡ refused_count h

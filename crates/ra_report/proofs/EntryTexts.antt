@@ -21,64 +21,67 @@ behind word x y e = append_cancel_left word x y e
 byte_then : (b : ℕ) (x y : List ℕ) → b ∷ x ≡ b ∷ y → x ≡ y
 byte_then b x y e = ap (drop 1) e
 
--- a letter, a space, the end of a line are no digits
-pub blank : (x : List ℕ) → Ends (32 ∷ x)
-unfolding is_digit
-blank x = record { no_digit = refl }
-
-lf : (x : List ℕ) → Ends (10 ∷ x)
-unfolding is_digit
-lf x = record { no_digit = refl }
-
-colon : (x : List ℕ) → Ends (58 ∷ x)
-unfolding is_digit
-colon x = record { no_digit = refl }
-
-arrow : (x : List ℕ) → Ends (62 ∷ x)
-unfolding is_digit
-arrow x = record { no_digit = refl }
-
 -- a space, a number and what follows
 spaced_then : (a b : ℕ) (x y : List ℕ) → Ends x → Ends y → 32 ∷ (number_text a ++ x) ≡ 32 ∷ (number_text b ++ y) →
     (a ≡ b) × (x ≡ y)
 spaced_then a b x y ends stops e = number_then a b x y ends stops (byte_then 32 _ _ e)
 
+more_parts : (text : List ℕ) (n : ℕ) (x : List ℕ) → (text ++ space ++ number_text n) ++ x ≡
+    text ++ (32 ∷ (number_text n ++ x))
+more_parts text n x = simp append_assoc
+
+module _ (x : List ℕ) where
+  -- a letter, a space, the end of a line are no digits
+  pub blank : Ends (32 ∷ x)
+  unfolding is_digit
+  blank = record { no_digit = refl }
+
+  lf : Ends (10 ∷ x)
+  unfolding is_digit
+  lf = record { no_digit = refl }
+
+  colon : Ends (58 ∷ x)
+  unfolding is_digit
+  colon = record { no_digit = refl }
+
+  arrow : Ends (62 ∷ x)
+  unfolding is_digit
+  arrow = record { no_digit = refl }
+
 -- a number and a space before what follows
 number_spaced : (a b : ℕ) (x y : List ℕ) → number_text a ++ 32 ∷ x ≡ number_text b ++ 32 ∷ y → (a ≡ b) × (x ≡ y)
 number_spaced a b x y e = let p = number_then a b (32 ∷ x) (32 ∷ y) (blank x) (blank y) e in (p.0, byte_then 32 x y p.1)
 
-more_parts : (text : List ℕ) (n : ℕ) (x : List ℕ) → (text ++ space ++ number_text n) ++ x ≡
-    text ++ (32 ∷ (number_text n ++ x))
-more_parts text n x = append_assoc (text ++ space) (number_text n) x ∙ append_assoc text space (number_text n ++ x)
+module _ (word : List ℕ) (a b : ℕ) where
+  one_then : (x y : List ℕ) → Ends x → Ends y → with_one word a ++ x ≡ with_one word b ++ y →
+      (a ≡ b) × (x ≡ y)
+  one_then x y ends stops e =
+      spaced_then a b x y ends stops (behind word _ _ (sym (more_parts word a x) ∙ (e ∙ more_parts word b y)))
 
-one_then : (word : List ℕ) (a b : ℕ) (x y : List ℕ) → Ends x → Ends y → with_one word a ++ x ≡ with_one word b ++ y →
-    (a ≡ b) × (x ≡ y)
-one_then word a b x y ends stops e =
-    spaced_then a b x y ends stops (behind word _ _ (sym (more_parts word a x) ∙ (e ∙ more_parts word b y)))
+  module _ (c d : ℕ) where
+    two_then : (x y : List ℕ) → Ends x → Ends y →
+        with_two word a c ++ x ≡ with_two word b d ++ y → (a ≡ b) × (c ≡ d) × (x ≡ y)
+    two_then x y ends stops e =
+        let p = one_then _ _ (blank _) (blank _)
+        (sym (more_parts (with_one word a) c x) ∙ (e ∙ more_parts (with_one word b) d y)) in
+        let q = spaced_then c d x y ends stops p.1 in
+        (p.0, q.0, q.1)
 
-two_then : (word : List ℕ) (a b c d : ℕ) (x y : List ℕ) → Ends x → Ends y →
-    with_two word a c ++ x ≡ with_two word b d ++ y → (a ≡ b) × (c ≡ d) × (x ≡ y)
-two_then word a b c d x y ends stops e =
-    let p = one_then word a b (32 ∷ (number_text c ++ x)) (32 ∷ (number_text d ++ y)) (blank _) (blank _)
-    (sym (more_parts (with_one word a) c x) ∙ (e ∙ more_parts (with_one word b) d y)) in
-    let q = spaced_then c d x y ends stops p.1 in
-    (p.0, q.0, q.1)
+    three_then : (f g : ℕ) (x y : List ℕ) → Ends x → Ends y →
+        with_three word a c f ++ x ≡ with_three word b d g ++ y → (a ≡ b) × (c ≡ d) × (f ≡ g) × (x ≡ y)
+    three_then f g x y ends stops e =
+        let p = two_then _ _ (blank _) (blank _)
+        (sym (more_parts (with_two word a c) f x) ∙ (e ∙ more_parts (with_two word b d) g y)) in
+        let q = spaced_then f g x y ends stops p.2 in
+        (p.0, p.1, q.0, q.1)
 
-three_then : (word : List ℕ) (a b c d f g : ℕ) (x y : List ℕ) → Ends x → Ends y →
-    with_three word a c f ++ x ≡ with_three word b d g ++ y → (a ≡ b) × (c ≡ d) × (f ≡ g) × (x ≡ y)
-three_then word a b c d f g x y ends stops e =
-    let p = two_then word a b c d (32 ∷ (number_text f ++ x)) (32 ∷ (number_text g ++ y)) (blank _) (blank _)
-    (sym (more_parts (with_two word a c) f x) ∙ (e ∙ more_parts (with_two word b d) g y)) in
-    let q = spaced_then f g x y ends stops p.2 in
-    (p.0, p.1, q.0, q.1)
-
-four_then : (word : List ℕ) (a b c d f g k l : ℕ) (x y : List ℕ) → Ends x → Ends y →
-    with_four word a c f k ++ x ≡ with_four word b d g l ++ y → (a ≡ b) × (c ≡ d) × (f ≡ g) × (k ≡ l) × (x ≡ y)
-four_then word a b c d f g k l x y ends stops e =
-    let p = three_then word a b c d f g (32 ∷ (number_text k ++ x)) (32 ∷ (number_text l ++ y)) (blank _) (blank _)
-    (sym (more_parts (with_three word a c f) k x) ∙ (e ∙ more_parts (with_three word b d g) l y)) in
-    let q = spaced_then k l x y ends stops p.3 in
-    (p.0, p.1, p.2, q.0, q.1)
+    four_then : (f g k l : ℕ) (x y : List ℕ) → Ends x → Ends y →
+        with_four word a c f k ++ x ≡ with_four word b d g l ++ y → (a ≡ b) × (c ≡ d) × (f ≡ g) × (k ≡ l) × (x ≡ y)
+    four_then f g k l x y ends stops e =
+        let p = three_then f g _ _ (blank _) (blank _)
+        (sym (more_parts (with_three word a c f) k x) ∙ (e ∙ more_parts (with_three word b d g) l y)) in
+        let q = spaced_then k l x y ends stops p.3 in
+        (p.0, p.1, p.2, q.0, q.1)
 
 -- two things are equal, and so is what follows them
 pub record Both {X : Type 0} (a b : X) (x y : List ℕ) : Type 0 where
@@ -202,13 +205,13 @@ steps_parts : (s : Step) (ss : List Step) (x : List ℕ) →
     steps_text (s ∷ ss) ++ x ≡ step_text s ++ 32 ∷ (steps_text ss ++ x)
 unfolding steps_text
 steps_parts s ss x =
-    append_assoc (step_text s ++ space) (steps_text ss) x ∙ append_assoc (step_text s) space (steps_text ss ++ x)
+    append_assoc _ _ x ∙ append_assoc _ space _
 
 steps_start : (s : Step) (ss : List Step) (x : List ℕ) → Starts (steps_text (s ∷ ss) ++ x)
-steps_start s ss x = rw (steps_parts s ss x, step_parts s (32 ∷ (steps_text ss ++ x))) (number_starts s.process.0 _)
+steps_start s ss x = grind (arith, steps_parts, step_parts, number_starts)
 
 apart : (x y : List ℕ) → Ends x → Starts y → x ≡ y → ⊥
-apart x y ends starts e = let a = ends.no_digit in let b = starts.digit in (cc)
+apart x y ends starts e = grind arith
 
 steps_then : (s t : List Step) (x y : List ℕ) → Ends x → Ends y → steps_text s ++ x ≡ steps_text t ++ y → Both s t x y
 unfolding steps_text
@@ -216,7 +219,7 @@ steps_then [] [] x y ends stops e = record { same = refl; rest = e }
 steps_then [] (t ∷ ts) x y ends stops e = absurd (apart x _ ends (steps_start t ts y) e)
 steps_then (s ∷ ss) [] x y ends stops e = absurd (apart y _ stops (steps_start s ss x) (sym e))
 steps_then (s ∷ ss) (t ∷ ts) x y ends stops e =
-    let p = step_then s t (32 ∷ (steps_text ss ++ x)) (32 ∷ (steps_text ts ++ y)) (blank _) (blank _)
+    let p = step_then s t _ _ (blank _) (blank _)
     (sym (steps_parts s ss x) ∙ (e ∙ steps_parts t ts y)) in
     let q = steps_then ss ts x y ends stops (byte_then 32 _ _ p.rest) in
     record { same = let a = p.same in let b = q.same in (cc); rest = q.rest }

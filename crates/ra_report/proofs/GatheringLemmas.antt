@@ -1,5 +1,5 @@
 -- One text is added after another.
-use Rattle.std.proofs.Common.{◌≡◌, ℕ, ◌≤◌, Bool, true, false, List, [], ◌++◌, length, take, get_or, Option, refl, sym, subst, ◌∙◌, ap, append_assoc, le_trans, le_refl, ◌+◌, ◌<◌, Result, Ok, Err, OnOk, OnErr}
+use Rattle.std.proofs.Common.{arith, ◌≡◌, ℕ, ◌≤◌, Bool, true, false, List, [], ◌++◌, length, take, get_or, Option, refl, sym, subst, ◌∙◌, ap, append_assoc, le_trans, le_refl, ◌+◌, ◌<◌, Result, Ok, Err, OnOk, OnErr}
 use Rattle.std.proofs.lemmas.List.{append-nil}
 use Rattle.std.proofs.lemmas.Result.{on_err_weaker, on_ok_weaker}
 use Rattle.std.proofs.KnownBytes.{Appends-nil, Appends-trans}
@@ -19,8 +19,8 @@ use Rattle.ra_report.proofs.PieceLemmas.{breaks_after, breaks_before, bytes_take
 pub two_puts : (p q u v w s t : List ℕ) → p ++ v ≡ u ++ s → q ++ w ≡ v ++ t → (p ++ q) ++ w ≡ u ++ (s ++ t)
 two_puts p q u v w s t first next =
     append_assoc p q w
-    ∙ (ap (λ (l : List ℕ). p ++ l) next
-    ∙ (sym (append_assoc p v t) ∙ (ap (λ (l : List ℕ). l ++ t) first ∙ append_assoc u s t)))
+    ∙ (ap (λ l. p ++ l) next
+    ∙ (sym (append_assoc p v t) ∙ (ap (λ l. l ++ t) first ∙ append_assoc u s t)))
 
 pub moves_more : (x y z : Bool) (a b c : Option (List ℕ)) (f g h : ℕ) (u v w s t : List ℕ)
     → f ≤ g → MovesText x y a b f g u v s → MovesText y z b c g h v w t → MovesText x z a c f h u w (s ++ t)
@@ -28,13 +28,13 @@ unfolding MovesText
 moves_more false false false a b c f g h u v w s t up m n =
     (m.0 ++ n.0, Appends-trans a b c m.0 n.0 m.1 n.1, two_puts m.0 n.0 u v w s t m.2 n.2)
 moves_more false false true a b c f g h u v w s t up m n =
-    let same : m.0 ++ (v ++ t) ≡ u ++ (s ++ t) = sym (append_assoc m.0 v t)
-    ∙ (ap (λ (l : List ℕ). l ++ t) m.2 ∙ append_assoc u s t) in
-    subst (BreaksOff a c f h) same (breaks_after a b c m.0 (v ++ t) f g h m.1 up n)
+    let same = sym (append_assoc m.0 v t)
+    ∙ (ap (λ l. l ++ t) m.2 ∙ append_assoc u s t) in
+    subst (BreaksOff a c f h) same (breaks_after a b c m.0 _ f g h m.1 up n)
 moves_more false true false a b c f g h u v w s t up m n = absurd n
 moves_more false true true a b c f g h u v w s t up m n =
     let whole : BreaksOff a b f g (u ++ (s ++ t)) =
-    subst (BreaksOff a b f g) (append_assoc u s t) (breaks_before a b (u ++ s) t f g m) in
+    subst (BreaksOff a b f g) (append_assoc u s t) (breaks_before a b _ t f g m) in
     rw (n.0, n.1) whole
 moves_more true false z a b c f g h u v w s t up m n = absurd m
 moves_more true true false a b c f g h u v w s t up m n = absurd n
@@ -47,7 +47,7 @@ moves_none true a f u = (refl, refl)
 
 module _ {O : Type 0} (taken : O → Option (List ℕ)) (faults : O → ℕ) where
   pub adds_none : (a : Gathered O) → AddsText taken faults a a []
-  adds_none a = (refl, le_refl _, moves_none a.failed (taken a.to.now) (faults a.to.now) a.waiting)
+  adds_none a = grind (arith, moves_none)
 
   -- once a put has failed, any text is added without a put
   pub adds_failed : (a : Gathered O) (text : List ℕ) → a.failed ≡ true → AddsText taken faults a a text
@@ -74,13 +74,13 @@ module _ {O : Type 0} (taken : O → Option (List ℕ)) (faults : O → ℕ) whe
       → AddsText taken faults a b (flat_map word (take i xs)) → AddsText taken faults b c (word (get_or xs i d)) →
       AddsText taken faults a c (flat_map word (take (i + 1) xs))
   adds_word word xs i d a b c within first next =
-      rw (words_take word xs i d within) (adds_more a b c (flat_map word (take i xs)) (word (get_or xs i d)) first next)
+      rw (words_take word xs i d within) (adds_more a b c (flat_map word (take i xs)) _ first next)
 
 -- all that was added is put
 pub ended_whole : (a b : Option (List ℕ)) (f g : ℕ) (text : List ℕ) → MovesText false false a b f g [] [] text →
     Appends a b text
 unfolding MovesText
-ended_whole a b f g text m = subst (Appends a b) (sym (append-nil m.0) ∙ m.2) m.1
+ended_whole a b f g text m = grind (arith, append-nil)
 
 pub ended_part : (a b : Option (List ℕ)) (f g : ℕ) (w text : List ℕ) → MovesText false true a b f g [] w text →
     BreaksOff a b f g text
@@ -94,20 +94,18 @@ module _ {O : Type 0} (taken : O → Option (List ℕ)) (faults : O → ℕ) whe
       → AddsText taken faults a b text → AddsText taken faults b c [] → c.waiting ≡ [] → OnOk r (c.failed ≡ false) →
       OnOk r (Appends (taken old) (taken new) text)
   put_whole old new a b c text r from to sound none first last empty =
-      let all = adds_more taken faults a b c text [] first last in
       on_ok_weaker r
-      (λ (well : c.failed ≡ false).
-      rw to (ended_whole _ _ _ _ text (rw (append-nil, from, sound, none, empty, well) at all.2)))
+      (λ well.
+      rw to (ended_whole _ _ _ _ text (rw (append-nil, from, sound, none, empty, well) at (adds_more taken faults a b c text [] first last).2)))
 
   pub put_part : {T E : Type 0} (old new : O) (a b c : Gathered O) (text : List ℕ) (r : Result T E) → a.to.now ≡ old →
       new ≡ c.to.now → a.failed ≡ false → a.waiting ≡ []
       → AddsText taken faults a b text → AddsText taken faults b c [] → OnErr r (c.failed ≡ true) →
       OnErr r (BreaksOff (taken old) (taken new) (faults old) (faults new) text)
   put_part old new a b c text r from to sound none first last =
-      let all = adds_more taken faults a b c text [] first last in
       on_err_weaker r
-      (λ (ill : c.failed ≡ true).
-      rw to (ended_part _ _ _ _ c.waiting text (rw (append-nil, from, sound, none, ill) at all.2)))
+      (λ ill.
+      rw to (ended_part _ _ _ _ c.waiting text (rw (append-nil, from, sound, none, ill) at (adds_more taken faults a b c text [] first last).2)))
 
   -- from an empty text that is made to one that is finished
   pub writes : {T E : Type 0} {old new : O} (a b c : Gathered O) {text : List ℕ} {r : Result T E} → a.to.now ≡ old →
@@ -115,13 +113,7 @@ module _ {O : Type 0} (taken : O → Option (List ℕ)) (faults : O → ℕ) whe
       → AddsText taken faults a b text → AddsText taken faults b c [] → c.waiting ≡ [] → OnOk r (c.failed ≡ false) →
       OnErr r (c.failed ≡ true)
       → Writes (record { taken = taken old; taken_after = taken new; before = faults old; after = faults new }) text r
-  writes {T} {E} {old} {new} a b c {text} {r} from to sound none first last empty well ill =
-      let all = adds_more taken faults a b c text [] first last in
-      record {
-        whole = put_whole old new a b c text r from to sound none first last empty well;
-        part = put_part old new a b c text r from to sound none first last ill;
-        never_falls = rw (← from, to) all.1;
-      }
+  writes {T} {E} {old} {new} a b c {text} {r} from to sound none first last empty well ill = grind (arith, adds_more, put_whole, put_part)
 
 -- a put of a text, or a failed one
 pub moves_put : {T E : Type 0} (r : Result T E) (a b : Option (List ℕ)) (f g : ℕ) (text : List ℕ)

@@ -1,22 +1,20 @@
 -- The ten lines before the entries of a report.
-use Rattle.std.proofs.Common.{◌≡◌, ℕ, suc, ◌+◌, ◌%◌, Bool, false, cond, eqb, List, [], ◌∷◌, ◌++◌, length, Some, refl, ◌∙◌, ap, arith, append_assoc, codes, ne_eqb}
+use Rattle.std.proofs.Common.{◌≡◌, ℕ, suc, ◌%◌, false, List, [], ◌∷◌, ◌++◌, Some, refl, ◌∙◌, ap, arith, append_assoc, codes}
 use Rattle.std.specs.Fmt.{digit_glyph}
 use Rattle.ra_base.specs.declared.causes.Drawing.{Drawing}
 use Rattle.ra_base.specs.declared.costs.Parts.{Parts}
 use Rattle.ra_base.specs.declared.ids.Machine.{Machine}
-use Rattle.ra_draws.specs.declared.budgets.Lots.{Lots}
 use Rattle.ra_bounds.specs.PinnedBounds.{pinned_bound_of}
-use Rattle.ra_model.specs.declared.raw.Tables.{Tables}
 use Rattle.ra_journal.specs.declared.entries.Entry.{Entry}
+use Rattle.ra_journal.specs.Openings.{Opening}
 use Rattle.ra_report.specs.Texts.{space, number_text, number_line, parts_text}
-use Rattle.ra_report.specs.JournalTexts.{entries_text, machines_text, assignment_line, drawing_number, drawing_line, head_text, report_lines, report_text, after_line, lines_left, IsJournalOf}
+use Rattle.ra_report.specs.JournalTexts.{machines_text, assignment_line, drawing_number, drawing_line, head_text, report_lines, report_text, after_line, lines_left, IsJournalOf}
 use Rattle.ra_report.proofs.NumberTexts.{number_skipped, glyph_of}
 
 -- a digit ends no line
 past_digit : (n : ℕ) (x : List ℕ) → after_line (digit_glyph false (n % 10) ∷ x) ≡ after_line x
 unfolding after_line
-past_digit n x = ap (λ (t : Bool). cond t (Some x) (after_line x)) (ap (λ (b : ℕ). eqb b 10) (glyph_of n)
-    ∙ ne_eqb (48 + n % 10) 10 (omega arith))
+past_digit n x = grind (arith, glyph_of)
 
 number_passed : (n : ℕ) (x : List ℕ) → after_line (number_text n ++ x) ≡ after_line x
 number_passed = number_skipped after_line past_digit
@@ -34,7 +32,7 @@ number_line_left : (word : List ℕ) → NoEnd word → (n a : ℕ) (x : List �
     lines_left (suc n) (Some (number_line word a ++ x)) ≡ lines_left n (Some x)
 unfolding after_line
 number_line_left word no_end n a x =
-    line_left n _ x (ap after_line parts ∙ (no_end.passed _ ∙ number_passed a (10 ∷ x)))
+    line_left n _ x (ap after_line parts ∙ (no_end.passed _ ∙ number_passed a _))
   where
     parts : number_line word a ++ x ≡ word ++ (32 ∷ (number_text a ++ 10 ∷ x))
     parts = simp append_assoc
@@ -68,7 +66,7 @@ six_texts a b c d e f x = simp append_assoc
 parts_left : (parts : Parts) (x : List ℕ) → lines_left 10 (Some (parts_text parts ++ x)) ≡ lines_left 4 (Some x)
 unfolding parts_text after_line
 parts_left parts x =
-    ap (λ (t : List ℕ). lines_left 10 (Some t))
+    ap (λ t. lines_left 10 (Some t))
     (six_texts (number_line (codes "cost") parts.total) (number_line (codes "load") parts.load)
     (number_line (codes "balance") parts.balance) (number_line (codes "process") parts.process)
     (number_line (codes "service") parts.service) (number_line (codes "machine") parts.machine) x)
@@ -94,9 +92,8 @@ head_left parts total best a d x =
 pub written_tells_its_journal : (parts : Parts) (total best : ℕ) (a : List Machine) (d : Drawing) (h : List Entry) →
     IsJournalOf (report_lines parts total best a d h) h
 unfolding report_lines
-written_tells_its_journal parts total best a d h = head_left parts total best a d (entries_text h (length h))
+written_tells_its_journal parts total best a d h = grind (arith, head_left)
 
-pub report_tells_its_journal : (i : Tables) (a0 : List Machine) (l : Lots) (h : List Entry) →
-    IsJournalOf (report_text i a0 l h) h
+pub report_tells_its_journal : (o : Opening) (h : List Entry) → IsJournalOf (report_text o h) h
 unfolding report_text
-report_tells_its_journal i a0 l h = written_tells_its_journal _ (pinned_bound_of i a0).total _ _ _ h
+report_tells_its_journal o h = written_tells_its_journal _ (pinned_bound_of o.tables o.start).total _ _ _ h

@@ -1,5 +1,5 @@
 -- The lines of a report: each has one LF, at its end.
-use Rattle.std.proofs.Common.{◌≡◌, ℕ, zero, suc, ◌+◌, ◌/◌, ◌%◌, ◌^◌, ◌<◌, ◌≤◌, Bool, true, false, cond, eqb, List, [], ◌∷◌, ◌++◌, length, slice_get, Some, None, codes, refl, sym, ◌∙◌, ap, arith, append_assoc, ne_eqb, ⊎_elim}
+use Rattle.std.proofs.Common.{◌≡◌, ℕ, zero, suc, ◌/◌, ◌%◌, ◌<◌, ◌≤◌, Bool, true, false, cond, eqb, List, [], ◌∷◌, ◌++◌, length, slice_get, Some, None, codes, refl, sym, ◌∙◌, ap, arith, append_assoc, ⊎_elim}
 use Rattle.std.proofs.lemmas.Bool.{cases_lt}
 use Rattle.std.proofs.lemmas.List.{append-nil}
 use Rattle.std.proofs.lemmas.Option.{none-some, slice_get-get_or, slice_get_past}
@@ -14,33 +14,27 @@ use Rattle.ra_moves.specs.declared.steps.MoveKind.TheVariants.{Shift, Swap, Chai
 use Rattle.ra_moves.specs.declared.steps.Step.{Step}
 use Rattle.ra_moves.specs.declared.verdicts.Verdict.{Verdict}
 use Rattle.ra_moves.specs.declared.verdicts.Verdict.TheVariants.{Done, Refused}
-use Rattle.ra_bounds.specs.PinnedBounds.{pinned_bound_of}
-use Rattle.ra_draws.specs.declared.budgets.Lots.{Lots}
 use Rattle.ra_journal.specs.declared.entries.Entry.{Entry}
 use Rattle.ra_journal.specs.declared.journal.Journal.{Journal}
-use Rattle.ra_journal.specs.Best.{best_of}
 use Rattle.ra_journal.specs.Entries.{entry_at}
-use Rattle.ra_journal.specs.States.{state}
-use Rattle.ra_model.specs.declared.raw.Tables.{Tables}
-use Rattle.ra_model.specs.Costs.{parts_of}
+use Rattle.ra_journal.specs.Openings.{Opening}
+use Rattle.ra_journal.specs.Journals.{opening_in}
 use Rattle.ra_token.specs.Lines.{lines_of, line_at, ends_line, body_of, HasNoEnd, FirstUnlike}
 use Rattle.ra_token.proofs.BodyLaws.{no_end_none, no_end_first, no_end_cons, no_end_both, ends_behind}
 use Rattle.ra_token.proofs.SplitLaws.{line_first, lines_append}
-use Rattle.ra_report.specs.Texts.{space, number_text, number_line, parts_text, with_one, with_two, with_three, cause_text}
+use Rattle.ra_report.specs.Texts.{space, number_text, number_line, parts_text, with_one, cause_text}
 use Rattle.ra_report.specs.JournalTexts.{verdict_text, kind_text, step_text, steps_text, entry_front, entry_line, machines_text, assignment_line, drawing_number, drawing_line, head_text, report_head, head_of, entries_text, entry_lines, after_line}
 use Rattle.ra_report.proofs.NumberTexts.{glyph_of}
 
 -- a number has no LF
 glyph_no_end : (n : ℕ) (x : List ℕ) → HasNoEnd x → HasNoEnd (digit_glyph false (n % 10) ∷ x)
-glyph_no_end n x none =
-    no_end_cons (digit_glyph false (n % 10)) x (ap (λ (b : ℕ). eqb b 10) (glyph_of n)
-    ∙ ne_eqb (48 + n % 10) 10 (omega arith)) none
+glyph_no_end n x none = grind (arith, no_end_cons, glyph_of)
 
 digits_no_end : (k n : ℕ) (x : List ℕ) → HasNoEnd x → HasNoEnd (digits_onto k 10 false n x)
 digits_no_end zero n x none = none
 digits_no_end (suc k) n x none =
     either (eqb (n / 10) 0) _ _ (glyph_no_end n x none)
-    (digits_no_end k (n / 10) (digit_glyph false (n % 10) ∷ x) (glyph_no_end n x none))
+    (digits_no_end k _ _ (glyph_no_end n x none))
   where
     either : (b : Bool) (xs ys : List ℕ) → HasNoEnd xs → HasNoEnd ys → HasNoEnd (cond b xs ys)
     either true xs ys p q = p
@@ -48,7 +42,7 @@ digits_no_end (suc k) n x none =
 
 pub number_no_end : (n : ℕ) → HasNoEnd (number_text n)
 unfolding number_text
-number_no_end n = digits_no_end (64 + n / 10 ^ 64) n [] no_end_none
+number_no_end n = grind (arith, digits_no_end, no_end_none)
 
 -- nor have words
 space_no_end : HasNoEnd space
@@ -56,30 +50,21 @@ unfolding body_of
 space_no_end = refl
 
 word_no_end : (word : List ℕ) (n : ℕ) → HasNoEnd word → HasNoEnd (with_one word n)
-word_no_end word n none =
-    no_end_both (word ++ space) (number_text n) (no_end_both word space none space_no_end) (number_no_end n)
+word_no_end word n none = grind (arith, no_end_both, space_no_end, number_no_end)
 
 cause_no_end : (c : Cause) → HasNoEnd (cause_text c)
 unfolding cause_text body_of
 cause_no_end (Repeat p) = word_no_end (codes "repeat") p.0 refl
 cause_no_end (Same p) = word_no_end (codes "same") p.0 refl
-cause_no_end (Capacity m r u c) = word_no_end (with_three (codes "capacity") m.0 r.0 u) c
-    (word_no_end (with_two (codes "capacity") m.0 r.0) u
-    (word_no_end (with_one (codes "capacity") m.0) r.0 (word_no_end (codes "capacity") m.0 refl)))
-cause_no_end (Transient m r u c) = word_no_end (with_three (codes "transient") m.0 r.0 u) c
-    (word_no_end (with_two (codes "transient") m.0 r.0) u
-    (word_no_end (with_one (codes "transient") m.0) r.0 (word_no_end (codes "transient") m.0 refl)))
-cause_no_end (Conflict s m) =
-    word_no_end (with_one (codes "conflict") s.0) m.0 (word_no_end (codes "conflict") s.0 refl)
-cause_no_end (Spread s h w) =
-    word_no_end (with_two (codes "spread") s.0 h) w
-    (word_no_end (with_one (codes "spread") s.0) h (word_no_end (codes "spread") s.0 refl))
-cause_no_end (Dependency s n h) = word_no_end (with_two (codes "dependency") s.0 n.0) h
-    (word_no_end (with_one (codes "dependency") s.0) n.0 (word_no_end (codes "dependency") s.0 refl))
-cause_no_end (Rise l b a) =
-    word_no_end (with_two (codes "rise") b a) l
-    (word_no_end (with_one (codes "rise") b) a (word_no_end (codes "rise") b refl))
-cause_no_end (Closed p m) = word_no_end (with_one (codes "closed") p.0) m.0 (word_no_end (codes "closed") p.0 refl)
+cause_no_end (Capacity m r u c) =
+    word_no_end _ c (word_no_end _ u (word_no_end _ r.0 (word_no_end (codes "capacity") m.0 refl)))
+cause_no_end (Transient m r u c) =
+    word_no_end _ c (word_no_end _ u (word_no_end _ r.0 (word_no_end (codes "transient") m.0 refl)))
+cause_no_end (Conflict s m) = word_no_end _ m.0 (word_no_end (codes "conflict") s.0 refl)
+cause_no_end (Spread s h w) = word_no_end _ w (word_no_end _ h (word_no_end (codes "spread") s.0 refl))
+cause_no_end (Dependency s n h) = word_no_end _ h (word_no_end _ n.0 (word_no_end (codes "dependency") s.0 refl))
+cause_no_end (Rise l b a) = word_no_end _ l (word_no_end _ a (word_no_end (codes "rise") b refl))
+cause_no_end (Closed p m) = word_no_end _ m.0 (word_no_end (codes "closed") p.0 refl)
 
 verdict_no_end : (v : Verdict) → HasNoEnd (verdict_text v)
 unfolding verdict_text body_of
@@ -94,24 +79,18 @@ kind_no_end Chain = refl
 
 step_no_end : (s : Step) → HasNoEnd (step_text s ++ space)
 unfolding step_text body_of
-step_no_end s =
-    no_end_both (step_text s) space
-    (no_end_both (number_text s.process.0 ++ codes ":" ++ number_text s.from.0 ++ codes ">") (number_text s.to.0)
-    (no_end_both (number_text s.process.0 ++ codes ":" ++ number_text s.from.0) (codes ">")
-    (no_end_both (number_text s.process.0 ++ codes ":") (number_text s.from.0)
-    (no_end_both (number_text s.process.0) (codes ":") (number_no_end s.process.0) refl)
-    (number_no_end s.from.0)) refl) (number_no_end s.to.0)) space_no_end
+step_no_end s = grind (arith, no_end_both, number_no_end, space_no_end)
 
 steps_no_end : (ss : List Step) → HasNoEnd (steps_text ss)
 unfolding steps_text body_of
 steps_no_end [] = refl
-steps_no_end (s ∷ ss) = no_end_both (step_text s ++ space) (steps_text ss) (step_no_end s) (steps_no_end ss)
+steps_no_end (s ∷ ss) = no_end_both _ _ (step_no_end s) (steps_no_end ss)
 
 machines_no_end : (ms : List Machine) → HasNoEnd (machines_text ms)
 unfolding machines_text body_of
 machines_no_end [] = refl
-machines_no_end (m ∷ ms) = no_end_both (space ++ number_text m.0) (machines_text ms)
-    (no_end_both space (number_text m.0) space_no_end (number_no_end m.0)) (machines_no_end ms)
+machines_no_end (m ∷ ms) = no_end_both _ _
+    (no_end_both space _ space_no_end (number_no_end m.0)) (machines_no_end ms)
 
 -- a line: its words, and one LF
 pub record IsLine (line : List ℕ) : Type 0 where
@@ -121,47 +100,30 @@ pub record IsLine (line : List ℕ) : Type 0 where
 
 pub line_alone : (line : List ℕ) → IsLine line → lines_of line ≡ line ∷ []
 unfolding lines_of
-line_alone line is = ap lines_of is.split ∙ line_first is.body [] is.no_end ∙ ap (λ l. l ∷ []) (sym is.split)
+line_alone line is = grind (arith, line_first)
 
 pub line_ends : (line : List ℕ) → IsLine line → ends_line line ≡ true
 line_ends line is = ap ends_line is.split ∙ ends_behind is.body
 
 -- in front of others it is the first of their lines
 pub line_before : (line rest : List ℕ) → IsLine line → lines_of (line ++ rest) ≡ line ∷ lines_of rest
-line_before line rest is =
-    lines_append line rest (line_ends line is) ∙ ap (λ ls. ls ++ lines_of rest) (line_alone line is)
+line_before line rest is = grind (arith, lines_append, line_ends, line_alone)
 
-front_no_end : (j : ℕ) (e : Entry) →
-    HasNoEnd (number_text j ++ space ++ number_text e.worker ++ space ++ number_text e.k ++ space ++ number_text e.q ++
-    space ++ kind_text e.mv.kind ++ space)
-front_no_end j e =
-    no_end_both _ space
-    (no_end_both _ (kind_text e.mv.kind)
-    (no_end_both _ space
-    (no_end_both _ (number_text e.q)
-    (no_end_both _ space
-    (no_end_both _ (number_text e.k)
-    (no_end_both _ space
-    (no_end_both _ (number_text e.worker) (no_end_both (number_text j) space (number_no_end j) space_no_end)
-    (number_no_end e.worker)) space_no_end) (number_no_end e.k)) space_no_end) (number_no_end e.q))
-    space_no_end) (kind_no_end e.mv.kind)) space_no_end
+module _ (j : ℕ) (e : Entry) where
+  front_no_end : HasNoEnd (number_text j ++ space ++ number_text e.worker ++ space ++ number_text e.k ++ space ++ number_text e.q ++
+      space ++ kind_text e.mv.kind ++ space)
+  front_no_end = grind (arith, no_end_both, number_no_end, space_no_end, kind_no_end)
 
-entry_front_no_end : (j : ℕ) (e : Entry) → HasNoEnd (entry_front j e)
-unfolding entry_front
-entry_front_no_end j e = front_no_end j e
+  entry_front_no_end : HasNoEnd (entry_front j e)
+  unfolding entry_front
+  entry_front_no_end = front_no_end
 
-pub entry_is_line : (j : ℕ) (e : Entry) → IsLine (entry_line j e)
-unfolding entry_line
-entry_is_line j e = record {
-  body = entry_front j e ++ steps_text e.mv.steps ++ verdict_text e.verdict;
-  no_end = no_end_both (entry_front j e ++ steps_text e.mv.steps) (verdict_text e.verdict)
-      (no_end_both (entry_front j e) (steps_text e.mv.steps) (entry_front_no_end j e) (steps_no_end e.mv.steps))
-      (verdict_no_end e.verdict);
-  split = refl;
-}
+  pub entry_is_line : IsLine (entry_line j e)
+  unfolding entry_line
+  entry_is_line = grind (arith, no_end_both, entry_front_no_end, steps_no_end, verdict_no_end)
 
 pub number_line_is_line : (word : List ℕ) (n : ℕ) → HasNoEnd word → IsLine (number_line word n)
-number_line_is_line word n none = record { body = with_one word n; no_end = word_no_end word n none; split = refl }
+number_line_is_line word n none = grind (arith, word_no_end)
 
 pub assignment_is_line : (a : List Machine) → IsLine (assignment_line a)
 unfolding assignment_line body_of
@@ -196,7 +158,7 @@ ten_texts a b c d e f g h i j x = simp append_assoc
 
 next_line : (line rest : List ℕ) (lines : List (List ℕ)) → IsLine line → lines_of rest ≡ lines →
     lines_of (line ++ rest) ≡ line ∷ lines
-next_line line rest lines is e = line_before line rest is ∙ ap (λ ls. line ∷ ls) e
+next_line line rest lines is e = grind (arith, line_before)
 
 pub head_has_lines : (parts : Parts) (total best : ℕ) (a : List Machine) (d : Drawing) (x : List ℕ) →
     lines_of (head_text parts total best a d ++ x) ≡ head_lines parts total best a d ++ lines_of x
@@ -247,26 +209,18 @@ unlike_within a b n u = ⊎_elim
         (cases_lt (length (lines_of b)) (length (lines_of x))))
 
 -- the head of a report has ten lines, and what follows has its own
-pub head_line_count : (i : Tables) (a0 : List Machine) (l : Lots) (h : List Entry) →
-    length (lines_of (report_head i a0 l h)) ≡ 10
+pub head_line_count : (o : Opening) (h : List Entry) → length (lines_of (report_head o h)) ≡ 10
 unfolding report_head head_lines
-head_line_count i a0 l h =
-    let j = best_of i a0 h in
-    let best = state a0 h j in
-    ap length (head_alone (parts_of i a0 best) (pinned_bound_of i a0).total j best l.drawing)
+head_line_count o h = grind (arith, head_alone)
 
 pub head_line_count_of : (j : Journal) → length (lines_of (head_of j)) ≡ 10
 unfolding head_of
-head_line_count_of j = head_line_count j.inst.now.tables j.a0.now.items j.lots.now j.book.entries.items
+head_line_count_of j = head_line_count (opening_in j) j.book.entries.items
 
-pub head_before : (i : Tables) (a0 : List Machine) (l : Lots) (h : List Entry) (x : List ℕ) →
-    lines_of (report_head i a0 l h ++ x) ≡ lines_of (report_head i a0 l h) ++ lines_of x
+pub head_before : (o : Opening) (h : List Entry) (x : List ℕ) →
+    lines_of (report_head o h ++ x) ≡ lines_of (report_head o h) ++ lines_of x
 unfolding report_head
-head_before i a0 l h x =
-    let j = best_of i a0 h in
-    let best = state a0 h j in
-    head_has_lines (parts_of i a0 best) (pinned_bound_of i a0).total j best l.drawing x
-    ∙ ap (λ ls. ls ++ lines_of x) (sym (head_alone (parts_of i a0 best) (pinned_bound_of i a0).total j best l.drawing))
+head_before o h x = grind (arith, head_has_lines, head_alone)
 
 -- the lines of the first n entries
 pub entries_before : (h : List Entry) (n : ℕ) (x : List ℕ) →
@@ -284,5 +238,5 @@ unfolding after_line
 after_one [] rest none = refl
 after_one (b ∷ body) rest none =
     let first = no_end_first b body none in
-    ap (λ (is : Bool). cond is (Some (body ++ 10 ∷ rest)) (after_line (body ++ 10 ∷ rest))) first.first
+    ap (λ is. cond is (Some (body ++ 10 ∷ rest)) (after_line (body ++ 10 ∷ rest))) first.first
     ∙ after_one body rest first.rest

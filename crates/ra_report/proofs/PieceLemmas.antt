@@ -1,5 +1,5 @@
 -- What a sink has taken after one text and then another.
-use Rattle.std.proofs.Common.{◌≡◌, ℕ, ◌+◌, ◌-◌, ◌^◌, ◌<◌, ◌≤◌, List, [], ◌∷◌, ◌++◌, length, take, get_or, Option, refl, sym, ◌∙◌, ap, inl, inr, ⊎_elim, append_assoc, arith, length-append}
+use Rattle.std.proofs.Common.{◌≡◌, ℕ, ◌+◌, ◌<◌, ◌≤◌, List, [], ◌∷◌, ◌++◌, length, take, get_or, Option, refl, sym, ◌∙◌, ap, append_assoc, arith, length-append}
 use Rattle.std.proofs.lemmas.List.{append-nil, take-append-le, take_more}
 use Rattle.std.proofs.Math.Seq.{take-append-add}
 use Rattle.std.proofs.lemmas.Grind.{flat_map-append}
@@ -14,23 +14,18 @@ use Rattle.ra_report.specs.Pieces.{bytes_of, piece_bytes, BreaksOff}
 -- a front of the second text, after the whole first one
 pub part_after : (a b c : Option (List ℕ)) (s t : List ℕ) → Appends a b s → AppendsPart b c t → AppendsPart a c (s ++ t)
 part_after a b c s t first part =
-    let same : take (length s + part.0) (s ++ t) ≡ s ++ take part.0 t = take-append-add s t part.0 in
+    let same = take-append-add s t part.0 in
     let short : length s + part.0 ≤ length (s ++ t) =
-    rw length-append (let h : part.0 ≤ length t = part.1 in omega arith) in
+    rw length-append (let h = part.1 in omega arith) in
     (length s + part.0, short, rw same (Appends-trans a b c s (take part.0 t) first part.2))
 
 -- a front of the first text is a front of both
 pub part_before : (a c : Option (List ℕ)) (s t : List ℕ) → AppendsPart a c s → AppendsPart a c (s ++ t)
-part_before a c s t part =
-    let within : part.0 ≤ length s = part.1 in
-    let same : take part.0 (s ++ t) ≡ take part.0 s = take-append-le part.0 s t within in
-    let short : part.0 ≤ length (s ++ t) = rw length-append (omega arith) in
-    (part.0, short, rw same part.2)
+part_before a c s t part = grind (arith, take-append-le, length-append)
 
 -- a count that rose later rose
 pub rose_later : (a b c : ℕ) → a ≤ b → Rose b c → Rose a c
-rose_later a b c never_fell rose =
-    ⊎_elim (λ (more : b < c). let h : a < c = omega arith in inl h) (λ (last : c ≡ 2 ^ 64 - 1). inr last) rose
+rose_later a b c never_fell rose = grind arith
 
 pub breaks_after : (a b c : Option (List ℕ)) (s t : List ℕ) (f g h : ℕ) → Appends a b s → f ≤ g → BreaksOff b c g h t →
     BreaksOff a c f h (s ++ t)
@@ -58,5 +53,5 @@ pub words_take : {X : Type 0} (word : X → List ℕ) (xs : List X) (i : ℕ) (d
     flat_map word (take (i + 1) xs) ≡ flat_map word (take i xs) ++ word (get_or xs i d)
 words_take word xs i d within =
     ap (flat_map word) (take_more xs i d within)
-    ∙ (flat_map-append word (take i xs) (get_or xs i d ∷ []) ∙ ap (λ (t : List ℕ). flat_map word (take i xs) ++ t)
-    (append-nil (word (get_or xs i d))))
+    ∙ (flat_map-append word (take i xs) (get_or xs i d ∷ []) ∙ ap (λ t. flat_map word (take i xs) ++ t)
+    (append-nil _))

@@ -1,7 +1,6 @@
 -- The words of the last steps of a move.
-use Rattle.std.proofs.Common.{◌≡◌, ℕ, ◌+◌, ◌-◌, ◌*◌, ◌≤◌, ◌<◌, List, ◌∷◌, ◌++◌, length, drop, get_or, ap, arith, add-one}
+use Rattle.std.proofs.Common.{◌≡◌, ℕ, ◌+◌, ◌-◌, ◌*◌, ◌≤◌, ◌<◌, List, ◌++◌, length, drop, get_or, arith, add-one}
 use Rattle.std.proofs.Math.Seq.{drop-cons, drop-length}
-use Rattle.std.specs.List.{flat_map}
 use Rattle.ra_moves.specs.declared.steps.Step.{Step}
 use Rattle.ra_report.specs.Lines.{Prepends}
 use Rattle.ra_report.proofs.LineLemmas.{in_front, at_most, nothing}
@@ -15,9 +14,7 @@ no_steps_left line steps n all = rw (all, drop-length) (at_most _ (omega arith) 
 steps_more : (steps : List Step) (i : ℕ) (d : Step) → i < length steps →
     steps_text (drop i steps) ≡ step_word (get_or steps i d) ++ steps_text (drop (i + 1) steps)
 unfolding steps_text
-steps_more steps i d within =
-    ap (flat_map step_word)
-    (let h : drop i steps ≡ get_or steps i d ∷ drop (i + 1) steps = rw (add-one, drop-cons steps i d) in h)
+steps_more steps i d within = grind (arith, add-one, drop-cons)
 
 -- one step more in front
 pub one_step_more : {a b c : List ℕ} (steps : List Step) (i n : ℕ) (d : Step) → n ≡ i + 1 → n ≤ length steps

@@ -1,5 +1,5 @@
 -- The lines of tries, and the output of a repair.
-use Rattle.std.proofs.Common.{◌≡◌, ℕ, ◌+◌, List, ◌++◌, length, Option, refl, add-one}
+use Rattle.std.proofs.Common.{arith, ◌≡◌, ℕ, ◌+◌, List, ◌++◌, length, Option, refl, add-one}
 use Rattle.ra_base.specs.declared.causes.Cause.{Cause}
 use Rattle.ra_model.specs.Broken.{first_broken}
 use Rattle.ra_repair.specs.declared.repair.Repair.{Repair}
@@ -17,8 +17,7 @@ pub adds_try : {O : Type 0} (taken : O → Option (List ℕ)) (faults : O → �
     → AddsText taken faults a b (tries_text tries n) → AddsText taken faults b c (try_line (try_in tries n)) →
     AddsText taken faults a c (tries_text tries (n + 1))
 unfolding tries_text
-adds_try taken faults tries n a b c first next =
-    rw add-one (adds_more taken faults a b c (tries_text tries n) (try_line (try_in tries n)) first next)
+adds_try taken faults tries n a b c first next = grind (arith, add-one, adds_more)
 
 -- the lines with the first broken constraint are the output
 pub repair_told : (r : Repair) (broken : Option Cause) →
@@ -40,5 +39,5 @@ adds_repair taken faults r broken a b c d is state listed tries =
     let last = assignment_line r.kept.assignment.items in
     let lines = tries_text r.tries.items (length r.tries.items) in
     rw (repair_told r broken is)
-    (adds_more taken faults a b d (state_line broken) (last ++ lines) state
+    (adds_more taken faults a b d _ (last ++ lines) state
     (adds_more taken faults b c d last lines listed tries))

@@ -5,12 +5,11 @@ use Rattle.ra_base.specs.declared.causes.Drawing.{Drawing}
 use Rattle.ra_base.specs.declared.causes.Drawing.TheVariants.{One, Two}
 use Rattle.ra_base.specs.declared.costs.Parts.{Parts}
 use Rattle.ra_base.specs.declared.ids.Machine.{Machine}
-use Rattle.ra_draws.specs.declared.budgets.Lots.{Lots}
 use Rattle.ra_draws.specs.Shown.{drawing_in}
 use Rattle.ra_bounds.specs.declared.costs.Bound.{Bound}
 use Rattle.ra_bounds.specs.PinnedBounds.{pinned_bound_of}
-use Rattle.ra_model.specs.declared.raw.Tables.{Tables}
 use Rattle.ra_model.specs.Costs.{parts_of}
+use Rattle.ra_model.specs.Situations.{parts_at}
 use Rattle.ra_moves.specs.declared.steps.MoveKind.{MoveKind}
 use Rattle.ra_moves.specs.declared.steps.MoveKind.TheVariants.{Shift, Swap, Chain}
 use Rattle.ra_moves.specs.declared.steps.Step.{Step}
@@ -19,9 +18,10 @@ use Rattle.ra_moves.specs.declared.verdicts.Verdict.TheVariants.{Done, Refused}
 use Rattle.ra_journal.specs.declared.entries.Entry.{Entry}
 use Rattle.ra_journal.specs.declared.journal.Journal.{Journal}
 use Rattle.ra_journal.specs.Entries.{entry_at}
-use Rattle.ra_journal.specs.States.{state}
+use Rattle.ra_journal.specs.States.{state, state_at}
 use Rattle.ra_journal.specs.Best.{best_of}
-use Rattle.ra_journal.specs.Journals.{entries_in, lots_in, start_in, tables_in}
+use Rattle.ra_journal.specs.Journals.{entries_in, start_in, tables_in, opening_in}
+use Rattle.ra_journal.specs.Openings.{Opening}
 use Rattle.ra_report.specs.Texts.{space, line_end, number_text, number_line, parts_text, with_one, cause_text}
 pub use Rattle.ra_report.specs.Texts.{machine_word}
 unfoldable pub use Rattle.ra_report.specs.Texts.{machines_text, assignment_line}
@@ -93,26 +93,25 @@ unfoldable pub report_lines : Parts → ℕ → ℕ → List Machine → Drawing
 report_lines parts bound_total best_at a drawing h =
     head_text parts bound_total best_at a drawing ++ entries_text h (length h)
 
--- the report of journal h from start a0: it tells the best state, and the total of the bound of the
--- instance and the start
-unfoldable pub report_text : Tables → List Machine → Lots → List Entry → List ℕ
-report_text i a0 l h =
-    let j = best_of i a0 h in
-    let best = state a0 h j in
-    report_lines (parts_of i a0 best) (pinned_bound_of i a0).total j best (drawing_in l) h
+-- the report of journal h: it tells the best state, and the total of the bound of the instance and the start
+unfoldable pub report_text : Opening → List Entry → List ℕ
+report_text o h =
+    let j = best_of o h in
+    let best = state_at o h j in
+    report_lines (parts_at best) (pinned_bound_of o.tables o.start).total j best.here
+    (drawing_in o.lots) h
 
 -- the ten lines before its entries
-unfoldable pub report_head : Tables → List Machine → Lots → List Entry → List ℕ
-report_head i a0 l h =
-    let j = best_of i a0 h in
-    let best = state a0 h j in
-    head_text (parts_of i a0 best) (pinned_bound_of i a0).total j best (drawing_in l)
+unfoldable pub report_head : Opening → List Entry → List ℕ
+report_head o h =
+    let j = best_of o h in
+    let best = state_at o h j in
+    head_text (parts_at best) (pinned_bound_of o.tables o.start).total j best.here (drawing_in o.lots)
 
 -- the best state of a journal, its report, and the ten lines before the entries
 unfoldable pub best_state : Journal → List Machine
 best_state j =
-    state (start_in j) (entries_in j)
-    (best_of (tables_in j) (start_in j) (entries_in j))
+    state (start_in j) (entries_in j) (best_of (opening_in j) (entries_in j))
 
 -- the parts of an assignment's cost, and the bound of the start with the load of the pinned processes
 abbrev pub parts_in : Journal → List Machine → Parts
@@ -122,10 +121,10 @@ abbrev pub bound_in : Journal → Bound
 bound_in j = pinned_bound_of (tables_in j) (start_in j)
 
 unfoldable pub text_of : Journal → List ℕ
-text_of j = report_text (tables_in j) (start_in j) (lots_in j) (entries_in j)
+text_of j = report_text (opening_in j) (entries_in j)
 
 unfoldable pub head_of : Journal → List ℕ
-head_of j = report_head (tables_in j) (start_in j) (lots_in j) (entries_in j)
+head_of j = report_head (opening_in j) (entries_in j)
 
 -- the line for a report that was found right: the number of its entries
 abbrev pub accepted_line : ℕ → List ℕ

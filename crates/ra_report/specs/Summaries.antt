@@ -1,17 +1,16 @@
 -- The summary of a run: its outcome, and how many of its proposals were done and refused.
 use Rattle.std.specs.Prelude.{ℕ, List, ◌++◌, codes, Bool, true, false, not, count_by}
 use Rattle.ra_base.specs.declared.costs.Parts.{Parts}
-use Rattle.ra_base.specs.declared.ids.Machine.{Machine}
 use Rattle.ra_bounds.specs.PinnedBounds.{pinned_bound_of}
-use Rattle.ra_model.specs.declared.raw.Tables.{Tables}
-use Rattle.ra_model.specs.Costs.{parts_of}
 use Rattle.ra_moves.specs.declared.verdicts.Verdict.{Verdict}
 use Rattle.ra_moves.specs.declared.verdicts.Verdict.TheVariants.{Done, Refused}
 use Rattle.ra_journal.specs.declared.entries.Entry.{Entry}
 use Rattle.ra_journal.specs.declared.journal.Journal.{Journal}
-use Rattle.ra_journal.specs.States.{state}
 use Rattle.ra_journal.specs.Best.{best_of}
-use Rattle.ra_journal.specs.Journals.{entries_in, start_in, tables_in}
+use Rattle.ra_journal.specs.Journals.{entries_in, opening_in}
+use Rattle.ra_journal.specs.Openings.{Opening}
+use Rattle.ra_journal.specs.States.{state_at}
+use Rattle.ra_model.specs.Situations.{parts_at}
 use Rattle.ra_report.specs.JournalTexts.{outcome_text}
 use Rattle.ra_report.specs.Texts.{number_line}
 
@@ -35,10 +34,10 @@ summary_lines parts bound_total best_at h =
 
 -- the summary of journal h from start a0: it tells the parts of the best state and its place, and the total of the
 -- bound of the instance and the start
-unfoldable pub summary_text : Tables → List Machine → List Entry → List ℕ
-summary_text i a0 h =
-    let j = best_of i a0 h in
-    summary_lines (parts_of i a0 (state a0 h j)) (pinned_bound_of i a0).total j h
+unfoldable pub summary_text : Opening → List Entry → List ℕ
+summary_text o h =
+    let j = best_of o h in
+    summary_lines (parts_at (state_at o h j)) (pinned_bound_of o.tables o.start).total j h
 
 unfoldable pub summary_of : Journal → List ℕ
-summary_of j = summary_text (tables_in j) (start_in j) (entries_in j)
+summary_of j = summary_text (opening_in j) (entries_in j)

@@ -15,6 +15,7 @@ use Rattle.ra_journal.specs.Best.{best_place, best_of}
 use Rattle.ra_journal.specs.Entries.{entry_at, words, allowed}
 use Rattle.ra_journal.specs.Legal.{Legal, IsLegalAt}
 use Rattle.ra_journal.specs.States.{state, cost_of_state}
+use Rattle.ra_journal.specs.Openings.{opening}
 use Rattle.ra_moves.specs.Touched.{service_in, moves_service, reads_service}
 use Rattle.ra_model.specs.declared.raw.RawInstance.{RawInstance}
 use Rattle.ra_model.specs.declared.raw.Tables.{Tables}
@@ -76,10 +77,10 @@ unfolding opened service_in moves_service writes touches stamp version
 version_bare raw closed made n (guard.Machine m) = refl
 version_bare raw closed made n (guard.Service s) = refl
 
-best_bare : (raw : RawInstance) (closed : Option (Listed Bool)) (a0 : List Machine) (h : List Entry) →
-    best_of (bare (whole raw closed)) a0 h ≡ best_of (whole raw closed) a0 h
+best_bare : (raw : RawInstance) (closed : Option (Listed Bool)) (a0 : List Machine) (l : Lots) (h : List Entry) →
+    best_of (opening (bare (whole raw closed)) a0 l) h ≡ best_of (opening (whole raw closed) a0 l) h
 unfolding opened cost_of_state best_place best_of
-best_bare raw closed a0 h = refl
+best_bare raw closed a0 l h = refl
 
 module _ (i j : Tables) (same : bare i ≡ bare j) where
   pub parts_same : (a0 a : List Machine) → parts_of i a0 a ≡ parts_of j a0 a
@@ -100,8 +101,10 @@ module _ (i j : Tables) (same : bare i ≡ bare j) where
       (λ raw closed. judge_bare raw closed a0 a steps allowed) i j
       same
 
-  pub best_same : (a0 : List Machine) (h : List Entry) → best_of i a0 h ≡ best_of j a0 h
-  best_same a0 h = along (λ (t : Tables). best_of t a0 h) (λ raw closed. best_bare raw closed a0 h) i j same
+  pub best_same : (a0 : List Machine) (l : Lots) (h : List Entry) →
+      best_of (opening i a0 l) h ≡ best_of (opening j a0 l) h
+  best_same a0 l h = along (λ (t : Tables). best_of (opening t a0 l) h)
+      (λ raw closed. best_bare raw closed a0 l h) i j same
 
   guards_same : (steps : List Step) (g : Guard) → is_guard j steps g ≡ is_guard i steps g
   guards_same steps g =
@@ -117,8 +120,9 @@ module _ (i j : Tables) (same : bare i ≡ bare j) where
     each = λ g is. rw (version_same made n g) at (u.each g (sym (guards_same steps g) ∙ is));
   }
 
-  legal_at_same : (a0 : List Machine) (l : Lots) (h : List Entry) (n : ℕ) (e : Entry) → IsLegalAt i a0 l h n e →
-      IsLegalAt j a0 l h n e
+  legal_at_same : (a0 : List Machine) (l : Lots) (h : List Entry) (n : ℕ) (e : Entry) →
+      IsLegalAt (opening i a0 l) h n e →
+      IsLegalAt (opening j a0 l) h n e
   legal_at_same a0 l h n e is = record {
     numbered = is.numbered;
     placed = is.placed;
@@ -127,26 +131,29 @@ module _ (i j : Tables) (same : bare i ≡ bare j) where
     judged = is.judged ∙ judged_same a0 (state a0 h n) e.mv.steps (allowed l e.worker e.k);
   }
 
-  pub legal_same : (a0 : List Machine) (l : Lots) (h : List Entry) → Legal i a0 l h → Legal j a0 l h
+  pub legal_same : (a0 : List Machine) (l : Lots) (h : List Entry) → Legal (opening i a0 l) h → Legal (opening j a0 l) h
   legal_same a0 l h is = record { each = λ n within. legal_at_same a0 l h n (entry_at h n) (is.each n within) }
 
-  pub report_same : (a0 : List Machine) (l : Lots) (h : List Entry) → report_text i a0 l h ≡ report_text j a0 l h
+  pub report_same : (a0 : List Machine) (l : Lots) (h : List Entry) →
+      report_text (opening i a0 l) h ≡ report_text (opening j a0 l) h
   unfolding report_text
-  report_same a0 l h = rw (best_same a0 h, parts_same a0 (state a0 h (best_of j a0 h)), pinned_same a0) refl
+  report_same a0 l h =
+      rw (best_same a0 l h, parts_same a0 (state a0 h (best_of (opening j a0 l) h)), pinned_same a0) refl
 
 -- a report's lines are judged the same
 
 module _ (i j : Tables) (same : bare i ≡ bare j) where
-  right_same : (a0 : List Machine) (l : Lots) (bytes : List ℕ) (h : List Entry) → AreRight i a0 l bytes h →
-      AreRight j a0 l bytes h
+  right_same : (a0 : List Machine) (l : Lots) (bytes : List ℕ) (h : List Entry) → AreRight (opening i a0 l) bytes h →
+      AreRight (opening j a0 l) bytes h
   right_same a0 l bytes h is = record { legal = legal_same i j same a0 l h is.legal; lines = is.lines }
 
-  all_right_same : (a0 : List Machine) (l : Lots) (bytes : List ℕ) (h : List Entry) → AreAllRight i a0 l bytes h →
-      AreAllRight j a0 l bytes h
+  all_right_same : (a0 : List Machine) (l : Lots) (bytes : List ℕ) (h : List Entry) →
+      AreAllRight (opening i a0 l) bytes h →
+      AreAllRight (opening j a0 l) bytes h
   all_right_same a0 l bytes h is = record { right = right_same a0 l bytes h is.right; all = is.all }
 
-  entry_same : (a0 : List Machine) (l : Lots) (bytes : List ℕ) (n : ℕ) → IsWrongEntry i a0 l bytes n →
-      IsWrongEntry j a0 l bytes n
+  entry_same : (a0 : List Machine) (l : Lots) (bytes : List ℕ) (n : ℕ) → IsWrongEntry (opening i a0 l) bytes n →
+      IsWrongEntry (opening j a0 l) bytes n
   entry_same a0 l bytes n is = record {
     short = is.short;
     journal = is.journal;
@@ -156,8 +163,8 @@ module _ (i j : Tables) (same : bare i ≡ bare j) where
     number = is.number;
   }
 
-  cut_off_same : (a0 : List Machine) (l : Lots) (bytes : List ℕ) (n : ℕ) → IsCutOff i a0 l bytes n →
-      IsCutOff j a0 l bytes n
+  cut_off_same : (a0 : List Machine) (l : Lots) (bytes : List ℕ) (n : ℕ) → IsCutOff (opening i a0 l) bytes n →
+      IsCutOff (opening j a0 l) bytes n
   cut_off_same a0 l bytes n is = record {
     short = is.short;
     journal = is.journal;
@@ -166,8 +173,8 @@ module _ (i j : Tables) (same : bare i ≡ bare j) where
     number = is.number;
   }
 
-  head_same : (a0 : List Machine) (l : Lots) (bytes : List ℕ) (n : ℕ) → IsWrongHead i a0 l bytes n →
-      IsWrongHead j a0 l bytes n
+  head_same : (a0 : List Machine) (l : Lots) (bytes : List ℕ) (n : ℕ) → IsWrongHead (opening i a0 l) bytes n →
+      IsWrongHead (opening j a0 l) bytes n
   head_same a0 l bytes n is = record {
     short = is.short;
     journal = is.journal;
@@ -180,7 +187,7 @@ module _ (i j : Tables) (same : bare i ≡ bare j) where
   }
 
   pub wrong_line_same : (a0 : List Machine) (l : Lots) (bytes : List ℕ) (line : Option ℕ) →
-      IsWrongLine i a0 l bytes line → IsWrongLine j a0 l bytes line
+      IsWrongLine (opening i a0 l) bytes line → IsWrongLine (opening j a0 l) bytes line
   wrong_line_same a0 l bytes None is = record {
     short = is.short;
     journal = is.journal;
@@ -193,8 +200,8 @@ module _ (i j : Tables) (same : bare i ≡ bare j) where
   wrong_line_same a0 l bytes (Some n) (inr (inr (inl cut_off))) = inr (inr (inl (cut_off_same a0 l bytes n cut_off)))
   wrong_line_same a0 l bytes (Some n) (inr (inr (inr head))) = inr (inr (inr (head_same a0 l bytes n head)))
 
-  pub is_report_same : (a0 : List Machine) (l : Lots) (bytes : List ℕ) (n : ℕ) → IsReport i a0 l bytes n →
-      IsReport j a0 l bytes n
+  pub is_report_same : (a0 : List Machine) (l : Lots) (bytes : List ℕ) (n : ℕ) → IsReport (opening i a0 l) bytes n →
+      IsReport (opening j a0 l) bytes n
   is_report_same a0 l bytes n is = record {
     journal = is.journal;
     legal = legal_same i j same a0 l is.journal is.legal;

@@ -9,7 +9,8 @@ use Rattle.ra_bounds.proofs.PinnedLemmas.{none_costs_less_pinned}
 use Rattle.ra_draws.specs.declared.budgets.Lots.{Lots}
 use Rattle.ra_journal.specs.declared.entries.Entry.{Entry}
 use Rattle.ra_journal.specs.Best.{best_place, best_of}
-use Rattle.ra_journal.specs.States.{cost_of_state}
+use Rattle.ra_journal.specs.States.{state, cost_of_state}
+use Rattle.ra_journal.specs.Openings.{Opening}
 use Rattle.ra_journal.proofs.SoloLemmas.{one_lot}
 use Rattle.ra_journal.proofs.SoundLemmas.{sound}
 use Rattle.ra_model.specs.declared.raw.Tables.{Tables}
@@ -20,7 +21,7 @@ use Rattle.ra_report.proofs.HeadLines.{report_tells_its_journal}
 use Rattle.ra_report.proofs.JournalTexts.{one_journal_of_bytes}
 use Rattle.ra_worker.specs.declared.solved.Solved.{Solved as Run}
 use Rattle.ra_worker.specs.Runs.{IsRun}
-use Rattle.ra_io.specs.Outside.{Reading, Took}
+use Rattle.ra_io.specs.Outside.{Reading}
 use Rattle.ra_jobs.specs.declared.refusals.Refusal.{Refusal}
 use Rattle.ra_jobs.specs.declared.refusals.Refusal.TheVariants.{Broken, Write, Memory}
 use Rattle.ra_jobs.specs.declared.refusals.Role.TheVariants as role
@@ -40,74 +41,70 @@ use Rattle.ra_run.specs.Headline.{IsFirstLeast, SolvePrinted, solving}
 use Rattle.ra_run.specs.Solving.{IsReported}
 
 -- the report of a run is that of its journal
-pub run_told : (i : Tables) (a0 : List Machine) (l : Lots) (run : Run) (sent : List ℕ → Type 0) → IsRun i a0 l run →
-    Feasible i a0 a0 → sent (text_of run.journal) → IsReported i a0 l sent
+pub run_told : (o : Opening) (run : Run) (sent : List ℕ → Type 0) → IsRun o run →
+    Feasible o.tables o.start o.start → sent (text_of run.journal) → IsReported o sent
 unfolding text_of
-run_told i a0 l run sent is start text = record {
+run_told o run sent is start text = record {
   start = start;
   journal = run.journal.book.entries.items;
   legal = is.legal;
   whole = is.whole;
   text = subst sent
-      (ap (λ (t : Tables). report_text t run.journal.a0.now.items run.journal.lots.now
-      run.journal.book.entries.items) is.instance
-      ∙ ap (λ (a : List Machine). report_text i a run.journal.lots.now run.journal.book.entries.items) is.initial
-      ∙ ap (λ (x : Lots). report_text i a0 x run.journal.book.entries.items) is.lots)
-      text;
+      (ap (λ (p : Opening). report_text p run.journal.book.entries.items) is.opening) text;
 }
 
 -- what the report asks for is what is known of a run
-pub best_told : (i : Tables) (a0 : List Machine) (l : Lots) (run : Run) → IsRun i a0 l run →
-    run.best.items ≡ best_state run.journal
+pub best_told : (o : Opening) (run : Run) → IsRun o run → run.best.items ≡ best_state run.journal
 unfolding best_state
-best_told i a0 l run is = is.best ∙ rw (sym is.instance, sym is.initial) refl
+best_told o run is = is.best
+    ∙ ap (λ (p : Opening). let h = run.journal.book.entries.items in state p.start h (best_of p h)) (sym is.opening)
 
 -- the bound of the instance and the start is that of the run's journal
-pub bound_told : (i : Tables) (a0 : List Machine) (l : Lots) (run : Run) (bound : Bound) → IsRun i a0 l run →
-    bound ≡ pinned_bound_of i a0 → bound ≡ pinned_bound_of run.journal.inst.now.tables run.journal.a0.now.items
-bound_told i a0 l run bound is told = told ∙ ap₂ pinned_bound_of (sym is.instance) (sym is.initial)
+pub bound_told : (o : Opening) (run : Run) (bound : Bound) → IsRun o run → bound ≡ pinned_bound_of o.tables o.start →
+    bound ≡ pinned_bound_of run.journal.inst.now.tables run.journal.a0.now.items
+bound_told o run bound is told = told ∙ ap (λ (p : Opening). pinned_bound_of p.tables p.start) (sym is.opening)
 
 -- the best place of a journal is the first of least objective
-pub first_least : (i : Tables) (a0 : List Machine) (h : List Entry) → IsFirstLeast i a0 h (best_of i a0 h)
+pub first_least : (o : Opening) (h : List Entry) → IsFirstLeast o h (best_of o h)
 unfolding best_of best_place
-first_least i a0 h =
-    let f : ℕ → Option ℕ = λ j. Some (cost_of_state i a0 h j) in
+first_least o h =
+    let f : ℕ → Option ℕ = λ j. Some (cost_of_state o h j) in
     let n = suc (length h) in
-    let there = least_there n 0 (cost_of_state i a0 h 0) f (omega arith) refl in
+    let there = least_there n 0 (cost_of_state o h 0) f (omega arith) refl in
     let is = least_means n there.0 f there.1 in
-    let cost : cost_of_state i a0 h (least_place n f) ≡ there.0 = (let e = is.answer in cc) in
+    let cost : cost_of_state o h (least_place n f) ≡ there.0 = (let e = is.answer in cc) in
     record {
       within = omega (arith, is.below);
-      least = λ k within. omega (arith, cost, is.smallest k (cost_of_state i a0 h k) (omega arith) refl);
-      first = λ k before. omega (arith, cost, is.earliest k (cost_of_state i a0 h k) before refl);
+      least = λ k within. omega (arith, cost, is.smallest k (cost_of_state o h k) (omega arith) refl);
+      first = λ k before. omega (arith, cost, is.earliest k (cost_of_state o h k) before refl);
     }
 
-unfoldable pub solved : (held : Held) (names : Names) (i : Tables) (a0 : List Machine) (l : Lots)
-    (sent : List ℕ → Type 0) → WellFormed i → IsAcceptedStart held names i a0 → IsReported i a0 l sent →
-    SolvePrinted held names l sent
+unfoldable pub solved : (held : Held) (names : Names) (o : Opening)
+    (sent : List ℕ → Type 0) → WellFormed o.tables → IsAcceptedStart held names o.tables o.start → IsReported o sent →
+    SolvePrinted held names o.lots sent
 unfolding report_text
-solved held names i a0 l sent limits start told =
+solved held names o sent limits start told =
     let h = told.journal in
     record {
-      tables = i;
-      a0 = a0;
+      tables = o.tables;
+      a0 = o.start;
       journal = h;
-      bytes = report_text i a0 l h;
+      bytes = report_text o h;
       accepts = start.accepts;
       start = told.start;
       text = told.text;
       report = refl;
-      told = report_tells_its_journal i a0 l h;
-      only = λ other tells. one_journal_of_bytes (report_text i a0 l h) other h tells
-          (report_tells_its_journal i a0 l h);
+      told = report_tells_its_journal o h;
+      only = λ other tells. one_journal_of_bytes (report_text o h) other h tells
+          (report_tells_its_journal o h);
       legal = told.legal;
       whole = told.whole;
-      alone = λ one. (one_lot i a0 l one).no_other h (record { legal = told.legal; whole = told.whole });
-      sound = λ j within. sound i a0 l h limits start.fits told.start told.legal j within;
-      best_at = best_of i a0 h;
-      best = first_least i a0 h;
+      alone = λ one. (one_lot o one).no_other h (record { legal = told.legal; whole = told.whole });
+      sound = λ j within. sound o h limits start.fits told.start told.legal j within;
+      best_at = best_of o h;
+      best = first_least o h;
       lines = refl;
-      least = λ a fits feasible. (none_costs_less_pinned i a0 a limits fits feasible).total;
+      least = λ a fits feasible. (none_costs_less_pinned o.tables o.start a limits fits feasible).total;
     }
 
 -- the reason of a refusal of the initial list, if more is said of what was written
@@ -119,18 +116,19 @@ start_more i a0 written more step Write reason = step reason
 start_more i a0 written more step refusal reason = reason
 
 -- the reason of a refusal of a run, of the files
-pub reason_run : (held : Held) (names : Names) (i : Tables) (a0 : List Machine) (l : Lots) (first now : Faults)
-    (sent : List ℕ → Type 0) → IsSome names.initial → WellFormed i → IsAcceptedStart held names i a0 →
+pub reason_run : (held : Held) (names : Names) (o : Opening) (first now : Faults)
+    (sent : List ℕ → Type 0) → IsSome names.initial → WellFormed o.tables →
+    IsAcceptedStart held names o.tables o.start →
     (refusal : Refusal) →
-    StartReason i a0 (IsReported i a0 l sent) refusal →
-    Reason held names first now (Judges held names (SolvePrinted held names l sent)) refusal
-reason_run held names i a0 l first now sent initial limits start (Broken role.Initial cause) reason =
-    breaks_start held names i a0 initial start.accepts cause reason
-reason_run held names i a0 l first now sent initial limits start (Broken role.Changed cause) reason = absurd reason
-reason_run held names i a0 l first now sent initial limits start Write reason =
-    solved held names i a0 l sent limits start reason
-reason_run held names i a0 l first now sent initial limits start Memory reason = tt
-reason_run held names i a0 l first now sent initial limits start refusal reason = absurd reason
+    StartReason o.tables o.start (IsReported o sent) refusal →
+    Reason held names first now (Judges held names (SolvePrinted held names o.lots sent)) refusal
+reason_run held names o first now sent initial limits start (Broken role.Initial cause) reason =
+    breaks_start held names o.tables o.start initial start.accepts cause reason
+reason_run held names o first now sent initial limits start (Broken role.Changed cause) reason = absurd reason
+reason_run held names o first now sent initial limits start Write reason =
+    solved held names o sent limits start reason
+reason_run held names o first now sent initial limits start Memory reason = tt
+reason_run held names o first now sent initial limits start refusal reason = absurd reason
 
 -- what was printed of a run, whole or in part, is of files that were accepted, and of a list that is feasible
 pub solved_went : (held : Held) (names : Names) (l : Lots) (sent : List ℕ → Type 0) → SolvePrinted held names l sent →

@@ -10,6 +10,7 @@ use Rattle.ra_draws.specs.Lots.{IsLots, lot_at}
 use Rattle.ra_journal.specs.declared.entries.Entry.{Entry}
 use Rattle.ra_journal.specs.Entries.{worker_count}
 use Rattle.ra_journal.specs.Solo.{solo}
+use Rattle.ra_journal.specs.Openings.{Opening, opening}
 use Rattle.ra_journal.proofs.SoloLemmas.{one_lot}
 use Rattle.ra_model.specs.declared.raw.Tables.{Tables}
 use Rattle.ra_model.specs.Broken.{first_broken}
@@ -149,33 +150,33 @@ unfolding worker_count
 one_worker number l is = ap length is.lots
 
 -- the journal of a run of one lot is that of the worker alone
-pub summarized : (i : Tables) (a0 : List Machine) (l : Lots) (run : Run) (sent : List ℕ → Type 0) → IsRun i a0 l run →
-    worker_count l ≡ 1 → sent (summary_of run.journal) → IsSummarized i a0 l sent
+pub summarized : (o : Opening) (run : Run) (sent : List ℕ → Type 0) → IsRun o run →
+    worker_count o.lots ≡ 1 → sent (summary_of run.journal) → IsSummarized o sent
 unfolding summary_of
-summarized i a0 l run sent is one text =
-    let alone : run.journal.book.entries.items ≡ solo i a0 l =
-    (one_lot i a0 l one).no_other run.journal.book.entries.items (record { legal = is.legal; whole = is.whole }) in
+summarized o run sent is one text =
+    let alone : run.journal.book.entries.items ≡ solo o =
+    (one_lot o one).no_other run.journal.book.entries.items (record { legal = is.legal; whole = is.whole }) in
     subst sent
-    (ap (λ (t : Tables). summary_text t run.journal.a0.now.items run.journal.book.entries.items) is.instance
-    ∙ ap (λ (a : List Machine). summary_text i a run.journal.book.entries.items) is.initial
-    ∙ ap (λ (h : List Entry). summary_text i a0 h) alone)
+    (ap (λ (p : Opening). summary_text p run.journal.book.entries.items) is.opening
+    ∙ ap (λ (h : List Entry). summary_text o h) alone)
     text
 
-pub trial_printed : (number : ℕ) (i : Tables) (a0 : List Machine) (l : Lots) (sent : List ℕ → Type 0) →
-    IsTrialStart number i a0 → IsTrialLots number l → IsSummarized i a0 l sent → TrialPrinted number sent
-trial_printed number i a0 l sent start lots text = record {
-  tables = i;
-  lots = l;
+pub trial_printed : (number : ℕ) (o : Opening) (sent : List ℕ → Type 0) →
+    IsTrialStart number o.tables o.start → IsTrialLots number o.lots → IsSummarized o sent → TrialPrinted number sent
+trial_printed number o sent start lots text = record {
+  tables = o.tables;
+  lots = o.lots;
   trial = start.trial;
   lots_are = lots;
-  text = subst (λ (a : List Machine). IsSummarized i a l sent) start.initial text;
+  text = subst (λ (a : List Machine). IsSummarized (opening o.tables a o.lots) sent) start.initial text;
 }
 
-pub trial_reason : (number : ℕ) (i : Tables) (a0 : List Machine) (l : Lots) (sent : List ℕ → Type 0) →
-    IsTrialStart number i a0 → IsTrialLots number l → (why : TrialFault) → TrialReason (IsSummarized i a0 l sent) why →
+pub trial_reason : (number : ℕ) (o : Opening) (sent : List ℕ → Type 0) →
+    IsTrialStart number o.tables o.start → IsTrialLots number o.lots → (why : TrialFault) →
+    TrialReason (IsSummarized o sent) why →
     TrialReason (TrialPrinted number sent) why
-trial_reason number i a0 l sent start lots fault.Write reason = trial_printed number i a0 l sent start lots reason
-trial_reason number i a0 l sent start lots fault.Memory reason = tt
+trial_reason number o sent start lots fault.Write reason = trial_printed number o sent start lots reason
+trial_reason number o sent start lots fault.Memory reason = tt
 
 pub ok_then : (result : Result (Unit {0}) TrialFault) (known follows : Type 0) → (known → follows) → OnOk result known →
     OnOk result follows

@@ -45,6 +45,7 @@ use Rattle.ra_jobs.proofs.EndLemmas.{Ends, EndsOver, finished, left_so}
 use Rattle.ra_jobs.proofs.RepairLemmas.{of_these}
 use Rattle.ra_jobs.proofs.MeaningLemmas.{told_gives, no_break, instances_same, lists_same}
 use Rattle.ra_jobs.proofs.StageLemmas.{breaks_start, can_tell, rose_later, reason_more}
+use Rattle.ra_journal.specs.Openings.{Opening, opening}
 use Rattle.ra_run.specs.Verifying.{CountReason, IsCounted, IsRead, IsRightAt, IsRightReport, IsSolved, IsWrongAt}
 use Rattle.ra_run.specs.Verifying.{IsWrongReport, ReportWrong, VerdictComes, VerifyPrinted, VerifyOwn, refused_by}
 use Rattle.ra_run.specs.Verifying.{verifying}
@@ -58,12 +59,13 @@ passes_from : (held : Held) (names : Names) (i : Tables) (a0 : List Machine) →
 passes_from held names i a0 start feasible = record { accepts = start.accepts; initial = feasible; changed = feasible }
 
 -- a right report is one of `solve`
-solved_so : (held : Held) (names : Names) (i : Tables) (a0 : List Machine) (l : Lots) (n : ℕ) (bytes : List ℕ) →
-    WellFormed i → IsAcceptedStart held names i a0 → Feasible i a0 a0 → IsRightAt i a0 l n bytes →
-    IsSolved held names l n bytes
+solved_so : (held : Held) (names : Names) (o : Opening) (n : ℕ) (bytes : List ℕ) →
+    WellFormed o.tables → IsAcceptedStart held names o.tables o.start → Feasible o.tables o.start o.start →
+    IsRightAt o n bytes →
+    IsSolved held names o.lots n bytes
 unfolding solved
-solved_so held names i a0 l n bytes limits start feasible right = record {
-  solved = solved held names i a0 l (λ text. text ≡ bytes) limits start (record {
+solved_so held names o n bytes limits start feasible right = record {
+  solved = solved held names o (λ text. text ≡ bytes) limits start (record {
     start = feasible;
     journal = right.report.journal;
     legal = right.report.legal;
@@ -74,76 +76,78 @@ solved_so held names i a0 l n bytes limits start feasible right = record {
   none_wrong = right.none_wrong;
 }
 
-pub read_so : (held later : Held) (names : Names) (i : Tables) (a0 : List Machine) (l : Lots) (n : ℕ) →
-    ((other : List ℕ) → later other ≡ held other) → WellFormed i → IsAcceptedStart held names i a0 →
-    IsCounted later (name_of names file.Report) i a0 l n → IsRead held names l n
-read_so held later names i a0 l n same limits start counted = record {
-  tables = i;
-  a0 = a0;
-  passes = passes_from held names i a0 start counted.start;
-  report = told_then {P = IsRightAt i a0 l n} {Q = IsSolved held names l n} (held (name_of names file.Report))
+pub read_so : (held later : Held) (names : Names) (o : Opening) (n : ℕ) →
+    ((other : List ℕ) → later other ≡ held other) → WellFormed o.tables → IsAcceptedStart held names o.tables o.start →
+    IsCounted later (name_of names file.Report) o n → IsRead held names o.lots n
+read_so held later names o n same limits start counted = record {
+  tables = o.tables;
+  a0 = o.start;
+  passes = passes_from held names o.tables o.start start counted.start;
+  report = told_then {P = IsRightAt o n} {Q = IsSolved held names o.lots n} (held (name_of names file.Report))
       (rw (sym (same (name_of names file.Report))) counted.report)
-      (λ bytes right. solved_so held names i a0 l n bytes limits start counted.start right);
+      (λ bytes right. solved_so held names o n bytes limits start counted.start right);
 }
 
-pub reason_count : (held later : Held) (names : Names) (i : Tables) (a0 : List Machine) (l : Lots)
+pub reason_count : (held later : Held) (names : Names) (o : Opening)
     (first before now : Faults) (written : Type 0) → ((other : List ℕ) → later other ≡ held other) →
     ((other : List ℕ) → first other ≤ before other) → IsNamed names file.Initial → IsNamed names file.Report →
-    IsAcceptedStart held names i a0 → (refusal : Refusal) →
-    CountReason later (name_of names file.Report) i a0 l before now refusal →
-    Reason held names first now (VerifyOwn held names l written) refusal
-reason_count held later names i a0 l first before now written same never_fell initial report start
-    (Broken role.Initial cause) reason = breaks_start held names i a0 initial start.accepts cause reason
-reason_count held later names i a0 l first before now written same never_fell initial report start (Read file.Report)
+    IsAcceptedStart held names o.tables o.start → (refusal : Refusal) →
+    CountReason later (name_of names file.Report) o before now refusal →
+    Reason held names first now (VerifyOwn held names o.lots written) refusal
+reason_count held later names o first before now written same never_fell initial report start
+    (Broken role.Initial cause) reason = breaks_start held names o.tables o.start initial start.accepts cause reason
+reason_count held later names o first before now written same never_fell initial report start (Read file.Report)
     reason = record {
-      earlier = (i, a0, passes_from held names i a0 start reason.0);
+      earlier = (o.tables, o.start, passes_from held names o.tables o.start start reason.0);
       named = report;
       rose = rose_later _ _ _ (never_fell (name_of names file.Report)) reason.1;
     }
-reason_count held later names i a0 l first before now written same never_fell initial report start (WrongLine line)
+reason_count held later names o first before now written same never_fell initial report start (WrongLine line)
     reason = record {
-      tables = i;
-      a0 = a0;
-      passes = passes_from held names i a0 start reason.0;
+      tables = o.tables;
+      a0 = o.start;
+      passes = passes_from held names o.tables o.start start reason.0;
       wrong = rw (sym (same (name_of names file.Report))) reason.1;
     }
-reason_count held later names i a0 l first before now written same never_fell initial report start Memory reason = tt
-reason_count held later names i a0 l first before now written same never_fell initial report start refusal reason =
+reason_count held later names o first before now written same never_fell initial report start Memory reason = tt
+reason_count held later names o first before now written same never_fell initial report start refusal reason =
     absurd reason
 
 -- the initial list is not feasible, or memory was refused
-pub start_count : (held : Held) (name : List ℕ) (i : Tables) (a0 : List Machine) (l : Lots) (before now : Faults)
-    (refusal : Refusal) → StartReason i a0 ⊥ refusal → CountReason held name i a0 l before now refusal
-start_count held name i a0 l before now (Broken role.Initial cause) reason = reason
-start_count held name i a0 l before now (Broken role.Changed cause) reason = absurd reason
-start_count held name i a0 l before now Memory reason = tt
-start_count held name i a0 l before now refusal reason = absurd reason
+pub start_count : (held : Held) (name : List ℕ) (o : Opening) (before now : Faults)
+    (refusal : Refusal) → StartReason o.tables o.start ⊥ refusal → CountReason held name o before now refusal
+start_count held name o before now (Broken role.Initial cause) reason = reason
+start_count held name o before now (Broken role.Changed cause) reason = absurd reason
+start_count held name o before now Memory reason = tt
+start_count held name o before now refusal reason = absurd reason
 
-pub wrong_so : (i : Tables) (a0 : List Machine) (l : Lots) (told : Option (List ℕ)) (line : ℕ) → WellFormed i →
-    Small i → IsAssignment i a0 → Feasible i a0 a0 → IfSome told (λ bytes. IsWrongLine i a0 l bytes (Some line)) →
-    IfSome told (IsWrongAt i a0 l line)
-wrong_so i a0 l None line limits small fits start wrong = tt
-wrong_so i a0 l (Some bytes) line limits small fits start wrong = record {
+pub wrong_so : (o : Opening) (told : Option (List ℕ)) (line : ℕ) → WellFormed o.tables →
+    Small o.tables → IsAssignment o.tables o.start → Feasible o.tables o.start o.start →
+    IfSome told (λ bytes. IsWrongLine o bytes (Some line)) →
+    IfSome told (IsWrongAt o line)
+wrong_so o None line limits small fits start wrong = tt
+wrong_so o (Some bytes) line limits small fits start wrong = record {
   first = wrong;
-  no_report = λ n report. let both : Some line ≡ None = one_wrong_line i a0 l bytes (Some line) None wrong
-      (report_has_none_wrong i a0 l bytes n limits small fits start report) in cc;
+  no_report = λ n report. let both : Some line ≡ None = one_wrong_line o bytes (Some line) None wrong
+      (report_has_none_wrong o bytes n limits small fits start report) in cc;
 }
 
 -- the reason of its fault, as a refusal
-pub fault_so : (held : Held) (name : List ℕ) (i : Tables) (a0 : List Machine) (l : Lots) (before now : Faults)
-    (told : Result ℕ VerifyFault) (why : VerifyFault) → WellFormed i → Small i → IsAssignment i a0 → Feasible i a0 a0 →
+pub fault_so : (held : Held) (name : List ℕ) (o : Opening) (before now : Faults)
+    (told : Result ℕ VerifyFault) (why : VerifyFault) → WellFormed o.tables → Small o.tables →
+    IsAssignment o.tables o.start → Feasible o.tables o.start o.start →
     told ≡ Err why →
-    IfSome (held name) (λ bytes. (n : ℕ) → told ≡ Err (fault.Wrong n) → IsWrongLine i a0 l bytes (Some n)) →
+    IfSome (held name) (λ bytes. (n : ℕ) → told ≡ Err (fault.Wrong n) → IsWrongLine o bytes (Some n)) →
     (told ≡ Err fault.ReadFault → Rose (before name) (now name)) →
-    CountReason held name i a0 l before now (refused_by why)
-fault_so held name i a0 l before now told fault.ReadFault limits small fits start is wrong rose = (start, rose is)
-fault_so held name i a0 l before now told (fault.Wrong line) limits small fits start is wrong rose = (
+    CountReason held name o before now (refused_by why)
+fault_so held name o before now told fault.ReadFault limits small fits start is wrong rose = (start, rose is)
+fault_so held name o before now told (fault.Wrong line) limits small fits start is wrong rose = (
   start,
-  wrong_so i a0 l (held name) line limits small fits start
-      (told_then {P = λ bytes. (n : ℕ) → told ≡ Err (fault.Wrong n) → IsWrongLine i a0 l bytes (Some n)}
-      {Q = λ bytes. IsWrongLine i a0 l bytes (Some line)} (held name) wrong (λ bytes each. each line is)),
+  wrong_so o (held name) line limits small fits start
+      (told_then {P = λ bytes. (n : ℕ) → told ≡ Err (fault.Wrong n) → IsWrongLine o bytes (Some n)}
+      {Q = λ bytes. IsWrongLine o bytes (Some line)} (held name) wrong (λ bytes each. each line is)),
 )
-fault_so held name i a0 l before now told fault.NoMemory limits small fits start is wrong rose = tt
+fault_so held name o before now told fault.NoMemory limits small fits start is wrong rose = tt
 
 -- ---- its own refusals
 
@@ -228,10 +232,11 @@ solved_passes held names l n bytes s = record {
 
 abbrev AllWrong : Held → Names → Lots → ℕ → Type 0
 AllWrong held names l line =
-    (i : Tables) (a0 : List Machine) → Passes held names i a0 a0 → IsWrongReport held names i a0 l line
+    (i : Tables) (a0 : List Machine) → Passes held names i a0 a0 → IsWrongReport held names (opening i a0 l) line
 
 abbrev AllRight : Held → Names → Lots → Type 0
-AllRight held names l = (i : Tables) (a0 : List Machine) → Passes held names i a0 a0 → IsRightReport held names i a0 l
+AllRight held names l = (i : Tables) (a0 : List Machine) → Passes held names i a0 a0 →
+    IsRightReport held names (opening i a0 l)
 
 module _ (held : Held) (names : Names) (before now : Faults) (initial : IsSome names.initial)
     (known : KnownTo held names before now file.Report) (i : Tables) (a0 : List Machine)
@@ -246,20 +251,22 @@ module _ (held : Held) (names : Names) (before now : Faults) (initial : IsSome n
       (told_role held names before now role.Initial file.Report refl known) initial i j a0 b0 passes.accepts.initial
       other.accepts.initial
 
-  all_wrong : (l : Lots) (line : ℕ) → IsWrongReport held names i a0 l line → AllWrong held names l line
+  all_wrong : (l : Lots) (line : ℕ) → IsWrongReport held names (opening i a0 l) line → AllWrong held names l line
   all_wrong l line wrong j b0 other =
-      told_then {P = λ bytes. IsWrongLine i a0 l bytes (Some line)} {Q = λ bytes. IsWrongLine j b0 l bytes (Some line)}
+      told_then {P = λ bytes. IsWrongLine (opening i a0 l) bytes (Some line)}
+      {Q = λ bytes. IsWrongLine (opening j b0 l) bytes (Some line)}
       (held (name_of names file.Report)) wrong
-      (λ bytes is. subst (λ (a : List Machine). IsWrongLine j a l bytes (Some line)) (start_same j b0 other)
+      (λ bytes is. subst (λ (a : List Machine). IsWrongLine (opening j a l) bytes (Some line)) (start_same j b0 other)
       (wrong_line_same i j (instance_same j b0 other) a0 l bytes (Some line) is))
 
-  all_right : (l : Lots) → IsRightReport held names i a0 l → AllRight held names l
+  all_right : (l : Lots) → IsRightReport held names (opening i a0 l) → AllRight held names l
   all_right l right j b0 other =
-      told_then {P = λ bytes. (n : ℕ) × IsReport i a0 l bytes n} {Q = λ bytes. (n : ℕ) × IsReport j b0 l bytes n}
+      told_then {P = λ bytes. (n : ℕ) × IsReport (opening i a0 l) bytes n}
+      {Q = λ bytes. (n : ℕ) × IsReport (opening j b0 l) bytes n}
       (held (name_of names file.Report)) right
       (λ bytes is. (
         is.0,
-        subst (λ (a : List Machine). IsReport j a l bytes is.0) (start_same j b0 other)
+        subst (λ (a : List Machine). IsReport (opening j a l) bytes is.0) (start_same j b0 other)
             (is_report_same i j (instance_same j b0 other) a0 l bytes is.0 is.1),
       ))
 
@@ -278,10 +285,10 @@ read_not held names l line n told wrong read = go (held (name_of names file.Repo
   where
     go : (o : Option (List ℕ)) → IsSome o → IfSome o (IsSolved held names l n) →
         ((i : Tables) (a0 : List Machine) → Passes held names i a0 a0 →
-        IfSome o (λ bytes. IsWrongLine i a0 l bytes (Some line))) → ⊥
+        IfSome o (λ bytes. IsWrongLine (opening i a0 l) bytes (Some line))) → ⊥
     go None some is first = absurd (cc)
     go (Some bytes) some is first =
-        let both : None ≡ Some line = one_wrong_line is.solved.tables is.solved.a0 l bytes None (Some line)
+        let both : None ≡ Some line = one_wrong_line (opening is.solved.tables is.solved.a0 l) bytes None (Some line)
         is.none_wrong (first is.solved.tables is.solved.a0 (solved_passes held names l n bytes is)) in
         cc
 
@@ -289,8 +296,8 @@ read_not held names l line n told wrong read = go (held (name_of names file.Repo
 wrong_not : (held : Held) (names : Names) (l : Lots) (line : ℕ) → IsSome (held (name_of names file.Report)) →
     AllRight held names l → ReportWrong held names l line → ⊥
 wrong_not held names l line told right wrong =
-    told_gives ⊥ (IsWrongAt wrong.tables wrong.a0 l line)
-    (λ bytes. (n : ℕ) × IsReport wrong.tables wrong.a0 l bytes n) (held (name_of names file.Report)) told
+    told_gives ⊥ (IsWrongAt (opening wrong.tables wrong.a0 l) line)
+    (λ bytes. (n : ℕ) × IsReport (opening wrong.tables wrong.a0 l) bytes n) (held (name_of names file.Report)) told
     (λ bytes is report. is.no_report report.0 report.1) wrong.wrong (right wrong.tables wrong.a0 wrong.passes)
 
 wrong_own : (held : Held) (names : Names) (before now : Faults) (l : Lots) (sent : List ℕ → Type 0) →

@@ -15,16 +15,17 @@ use Rattle.ra_journal.specs.Laws.{IsSoundAt}
 use Rattle.ra_journal.specs.Legal.{Legal, Whole}
 use Rattle.ra_journal.specs.Solo.{solo}
 use Rattle.ra_journal.specs.States.{state, cost_of_state}
+use Rattle.ra_journal.specs.Openings.{Opening, opening}
 use Rattle.ra_report.specs.JournalTexts.{report_lines, report_text, IsJournalOf}
 use Rattle.ra_jobs.specs.Commands.{Command, OverFiles, over, judged}
 use Rattle.ra_jobs.specs.Files.{Held, Names, Accepts, solve_names}
 
 -- the state at place j of a journal is the first of least objective: no state costs less, and each earlier one costs
 -- more
-pub record IsFirstLeast (i : Tables) (a0 : List Machine) (h : List Entry) (j : ℕ) : Type 0 where
+pub record IsFirstLeast (o : Opening) (h : List Entry) (j : ℕ) : Type 0 where
   pub within : j ≤ length h
-  pub least : (n : ℕ) → n ≤ length h → cost_of_state i a0 h j ≤ cost_of_state i a0 h n
-  pub first : (n : ℕ) → n < j → cost_of_state i a0 h j < cost_of_state i a0 h n
+  pub least : (n : ℕ) → n ≤ length h → cost_of_state o h j ≤ cost_of_state o h n
+  pub first : (n : ℕ) → n < j → cost_of_state o h j < cost_of_state o h n
 
 -- `solve`, the headline: the printed journal is one legal history in which every proposal of every worker occurs
 -- exactly once; every state in it meets all constraints, and its kept cost is the challenge's objective computed from
@@ -41,19 +42,19 @@ pub record SolvePrinted (held : Held) (names : Names) (l : Lots) (sent : List �
   -- these bytes were sent: they are the report of the journal, which is the only one that they tell, and the journal is
   -- legal and whole
   pub text : sent bytes
-  pub report : bytes ≡ report_text tables a0 l journal
+  pub report : bytes ≡ report_text (opening tables a0 l) journal
   pub told : IsJournalOf bytes journal
   pub only : (other : List Entry) → IsJournalOf bytes other → other ≡ journal
-  pub legal : Legal tables a0 l journal
+  pub legal : Legal (opening tables a0 l) journal
   pub whole : Whole l journal
   -- with one lot it is the run of one worker alone
-  pub alone : worker_count l ≡ 1 → journal ≡ solo tables a0 l
+  pub alone : worker_count l ≡ 1 → journal ≡ solo (opening tables a0 l)
   -- every state is a feasible assignment, and the kept cost there is its objective
-  pub sound : (j : ℕ) → j ≤ length journal → IsSoundAt tables a0 journal j
+  pub sound : (j : ℕ) → j ≤ length journal → IsSoundAt (opening tables a0 l) journal j
   -- the first of least cost among these states is at this place; the lines tell its parts, the bound's total, the
   -- place, the state and the drawing, and then the journal
   pub best_at : ℕ
-  pub best : IsFirstLeast tables a0 journal best_at
+  pub best : IsFirstLeast (opening tables a0 l) journal best_at
   pub lines :
       bytes ≡ report_lines (parts_of tables a0 (state a0 journal best_at))
       (pinned_bound_of tables a0).total best_at (state a0 journal best_at) (drawing_in l) journal

@@ -6,6 +6,7 @@ use Rattle.ra_draws.specs.declared.budgets.Lots.{Lots}
 use Rattle.ra_draws.specs.declared.sources.Source.TheVariants.{Seed}
 use Rattle.ra_draws.specs.Shown.{drawing_in, lots_shown, slack_in}
 use Rattle.ra_journal.specs.Solo.{solo}
+use Rattle.ra_journal.specs.Openings.{Opening, opening}
 use Rattle.ra_model.specs.declared.raw.Tables.{Tables}
 use Rattle.ra_report.specs.Summaries.{summary_text}
 use Rattle.ra_trial.specs.Instances.{IsTrial, start_list}
@@ -41,8 +42,8 @@ pub record IsTrialLots (number : ℕ) (l : Lots) : Type 0 where
   pub lots : lots_shown l ≡ record { source = Seed number; budget = 2000 } ∷ []
 
 -- the summary of the run of one worker alone was sent
-abbrev pub IsSummarized : Tables → List Machine → Lots → (List ℕ → Type 0) → Type 0
-IsSummarized i a0 l sent = sent (summary_text i a0 (solo i a0 l))
+abbrev pub IsSummarized : Opening → (List ℕ → Type 0) → Type 0
+IsSummarized o sent = sent (summary_text o (solo o))
 
 -- `trial`: the summary of the run of one worker was sent, for the instance, the start and the lot of a number. It
 -- doesn't matter which instance and which lots of the number these are: they differ only in the rooms of their lists,
@@ -52,7 +53,7 @@ pub record TrialPrinted (number : ℕ) (sent : List ℕ → Type 0) : Type 0 whe
   pub lots : Lots
   pub trial : IsTrial (trial_word number) tables
   pub lots_are : IsTrialLots number lots
-  pub text : IsSummarized tables start_list lots sent
+  pub text : IsSummarized (opening tables start_list lots) sent
 
 -- why a trial is refused; `written` holds if writing its summary failed
 abbrev pub TrialReason : Type 0 → TrialFault → Type 0

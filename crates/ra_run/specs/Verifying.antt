@@ -21,6 +21,7 @@ use Rattle.ra_jobs.specs.Complete.{AreValid}
 use Rattle.ra_jobs.specs.Files.{Held, Faults, Names, name_of, Passes, verify_names}
 use Rattle.ra_jobs.specs.Refusals.{RoleBreaks}
 use Rattle.ra_jobs.specs.Stages.{StartReason}
+use Rattle.ra_journal.specs.Openings.{Opening, opening}
 use Rattle.ra_run.specs.Headline.{SolvePrinted}
 
 -- the bytes are a report of `solve`, the headline, whose journal has this number of entries; none of its lines is wrong
@@ -28,7 +29,7 @@ pub record IsSolved (held : Held) (names : Names) (l : Lots) (entries : ℕ) (by
   where
     pub solved : SolvePrinted held names l (λ text. text ≡ bytes)
     pub number : length solved.journal ≡ entries
-    pub none_wrong : IsWrongLine solved.tables solved.a0 l bytes None
+    pub none_wrong : IsWrongLine (opening solved.tables solved.a0 l) bytes None
 
 -- the other files pass, and the told bytes of the report are a report of `solve`
 pub record IsRead (held : Held) (names : Names) (l : Lots) (entries : ℕ) : Type 0 where
@@ -44,17 +45,16 @@ pub record VerifyPrinted (held : Held) (names : Names) (l : Lots) (sent : List �
   pub text : sent (accepted_line entries)
 
 -- this is the wrong line of these bytes, so that they are not the report of a legal whole journal
-pub record IsWrongAt (i : Tables) (a0 : List Machine) (l : Lots) (line : ℕ) (bytes : List ℕ) : Type
-    0 where
-  pub first : IsWrongLine i a0 l bytes (Some line)
-  pub no_report : (n : ℕ) → IsReport i a0 l bytes n → ⊥
+pub record IsWrongAt (o : Opening) (line : ℕ) (bytes : List ℕ) : Type 0 where
+  pub first : IsWrongLine o bytes (Some line)
+  pub no_report : (n : ℕ) → IsReport o bytes n → ⊥
 
 -- the other files pass, and this is the wrong line of the told report
 pub record ReportWrong (held : Held) (names : Names) (l : Lots) (line : ℕ) : Type 0 where
   pub tables : Tables
   pub a0 : List Machine
   pub passes : Passes held names tables a0 a0
-  pub wrong : IfSome (held (name_of names file.Report)) (IsWrongAt tables a0 l line)
+  pub wrong : IfSome (held (name_of names file.Report)) (IsWrongAt (opening tables a0 l) line)
 
 -- its own refusals
 abbrev pub VerifyOwn : Held → Names → Lots → Type 0 → Refusal → Type 0
@@ -64,14 +64,14 @@ VerifyOwn held names l written Write = written
 VerifyOwn held names l written refusal = ⊥
 
 -- this is the wrong line of the told report
-abbrev pub IsWrongReport : Held → Names → Tables → List Machine → Lots → ℕ → Type 0
-IsWrongReport held names i a0 l line =
-    IfSome (held (name_of names file.Report)) (λ bytes. IsWrongLine i a0 l bytes (Some line))
+abbrev pub IsWrongReport : Held → Names → Opening → ℕ → Type 0
+IsWrongReport held names o line =
+    IfSome (held (name_of names file.Report)) (λ bytes. IsWrongLine o bytes (Some line))
 
 -- the told report is that of a legal whole journal
-abbrev pub IsRightReport : Held → Names → Tables → List Machine → Lots → Type 0
-IsRightReport held names i a0 l =
-    IfSome (held (name_of names file.Report)) (λ bytes. (n : ℕ) × IsReport i a0 l bytes n)
+abbrev pub IsRightReport : Held → Names → Opening → Type 0
+IsRightReport held names o =
+    IfSome (held (name_of names file.Report)) (λ bytes. (n : ℕ) × IsReport o bytes n)
 
 -- for the lots that were asked for: the status of a wrong report comes only for one. If the files are known and the
 -- others pass, every wrong report gets this status and every right report is accepted, unless writing fails or memory
@@ -82,11 +82,11 @@ pub record VerdictComes (held : Held) (names : Names) (asked : Lots → Type 0) 
   pub wrong : status ≡ Wrong → (l : Lots) × asked l × ((line : ℕ) × ReportWrong held names l line)
   pub is_wrong : (i : Tables) (a0 : List Machine) → Passes held names i a0 a0
       → KnownTo held names before now file.Report → (line : ℕ)
-      → ((l : Lots) → asked l → IsWrongReport held names i a0 l line)
+      → ((l : Lots) → asked l → IsWrongReport held names (opening i a0 l) line)
       → (status ≡ Wrong) ⊎ (status ≡ NoMemory)
   pub is_right : (i : Tables) (a0 : List Machine) → Passes held names i a0 a0
       → KnownTo held names before now file.Report
-      → ((l : Lots) → asked l → IsRightReport held names i a0 l)
+      → ((l : Lots) → asked l → IsRightReport held names (opening i a0 l))
       → (status ≡ Done) ⊎ ((status ≡ WriteFault) ⊎ (status ≡ NoMemory))
 
 -- the own part of `verify`, for the lots that were asked for: over valid files the report is accepted, or its wrong
@@ -111,26 +111,24 @@ verify_command model initial report closed asked =
 -- ---- the stages
 
 -- these bytes are the report of a legal whole journal with this number of entries, and none of their lines is wrong
-pub record IsRightAt (i : Tables) (a0 : List Machine) (l : Lots) (entries : ℕ) (bytes : List ℕ) :
+pub record IsRightAt (o : Opening) (entries : ℕ) (bytes : List ℕ) :
     Type 0 where
-  pub report : IsReport i a0 l bytes entries
-  pub none_wrong : IsWrongLine i a0 l bytes None
+  pub report : IsReport o bytes entries
+  pub none_wrong : IsWrongLine o bytes None
 
 -- the initial list is feasible, and the told report is that of a legal whole journal with this number of entries
-pub record IsCounted (held : Held) (name : List ℕ) (i : Tables) (a0 : List Machine) (l : Lots)
-    (entries : ℕ) : Type 0 where
-  pub start : Feasible i a0 a0
-  pub report : IfSome (held name) (IsRightAt i a0 l entries)
+pub record IsCounted (held : Held) (name : List ℕ) (o : Opening) (entries : ℕ) : Type 0 where
+  pub start : Feasible o.tables o.start o.start
+  pub report : IfSome (held name) (IsRightAt o entries)
 
 -- why the report is refused: the initial list is not feasible; or it is, and reading the report failed or one of its
 -- lines is wrong; or memory was refused
-abbrev pub CountReason : Held → List ℕ → Tables → List Machine → Lots → Faults → Faults → Refusal
-    → Type 0
-CountReason held name i a0 l before now (Read file.Report) =
-    Feasible i a0 a0 × Rose (before name) (now name)
-CountReason held name i a0 l before now (WrongLine line) =
-    Feasible i a0 a0 × IfSome (held name) (IsWrongAt i a0 l line)
-CountReason held name i a0 l before now refusal = StartReason i a0 ⊥ refusal
+abbrev pub CountReason : Held → List ℕ → Opening → Faults → Faults → Refusal → Type 0
+CountReason held name o before now (Read file.Report) =
+    Feasible o.tables o.start o.start × Rose (before name) (now name)
+CountReason held name o before now (WrongLine line) =
+    Feasible o.tables o.start o.start × IfSome (held name) (IsWrongAt o line)
+CountReason held name o before now refusal = StartReason o.tables o.start ⊥ refusal
 
 -- the refusal of a job whose report was not accepted
 abbrev pub refused_by : VerifyFault → Refusal

@@ -3,8 +3,8 @@
 //! workers or judge their reports are here, `edit` is in `ra_edit_job`, and the others are in `ra_jobs`.
 #![tactic(auto)]
 
+mod beginning;
 mod job;
-mod opening;
 mod solve;
 mod trial;
 mod verify;

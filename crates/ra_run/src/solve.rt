@@ -4,6 +4,7 @@ ghost use Rattle.ra_io.specs.Outside.{reading, writing, Took};
 ghost use Rattle.ra_bounds.specs.PinnedBounds.{pinned_bound_of};
 ghost use Rattle.ra_model.specs.Assignments.{IsAssignment};
 ghost use Rattle.ra_journal.specs.Journals.{start_in, tables_in};
+ghost use Rattle.ra_journal.specs.Openings.{opening};
 ghost use Rattle.ra_report.specs.JournalTexts.{best_state, text_of};
 ghost use Rattle.ra_jobs.specs.Commands.{These, over};
 ghost use Rattle.ra_jobs.specs.Ends.{Does, DoesOutside, Tries};
@@ -13,7 +14,7 @@ ghost use Rattle.ra_jobs.specs.Stages.{StartReason};
 ghost use Rattle.ra_run.specs.Headline.{solve_command, solving};
 ghost use Rattle.ra_run.specs.Solving.{IsReported};
 
-use crate::opening::Opening;
+use crate::beginning::Beginning;
 use ra_base::Name;
 use ra_bounds::Bound;
 use ra_check::parts;
@@ -103,10 +104,11 @@ fn run_from<R: Threads + Wait + Sync, O: Sink, G: Gate>(
     gate: &G,
 ) -> Result<(), Refusal>
     requires fits { IsAssignment start.now.inst.tables start.now.initial.items }
-    ensures printed { OnOk result (IsReported start.now.inst.tables start.now.initial.items lots.now
+    ensures printed { OnOk result (IsReported
+        (opening start.now.inst.tables start.now.initial.items lots.now)
         (Took (writing O.Sink out.old out.new))) }
     ensures refused { IfErr result (StartReason start.now.inst.tables start.now.initial.items
-        (IsReported start.now.inst.tables start.now.initial.items lots.now
+        (IsReported (opening start.now.inst.tables start.now.initial.items lots.now)
         (BrokeOff (writing O.Sink out.old out.new)))) }
     ensures no_output { IfErr result (λ refusal. refusal ≢ Refusal.Write → out.new ≡ out.old) }
     ensures out_never_falls { O.faults out.old ≤ O.faults out.new }
@@ -116,13 +118,13 @@ fn run_from<R: Threads + Wait + Sync, O: Sink, G: Gate>(
     let parts = parts(inst, initial, initial, &mut scratch);
     drop(scratch);
     let topo = Topology::make(alloc, inst)?;
-    let opening = Opening {
+    let beginning = Beginning {
         inst,
         topo: &topo,
         initial,
         parts,
     };
-    let ended = run_over(rt, alloc, &opening, lots, out, gate);
+    let ended = run_over(rt, alloc, &beginning, lots, out, gate);
     drop(topo);
     ended
 }
@@ -132,23 +134,25 @@ fn run_from<R: Threads + Wait + Sync, O: Sink, G: Gate>(
 fn run_over<R: Threads + Wait + Sync, O: Sink, G: Gate>(
     rt: &R,
     alloc: Global,
-    opening: &Opening<'_>,
+    beginning: &Beginning<'_>,
     lots: &Lots,
     out: &mut O,
     gate: &G,
 ) -> Result<(), Refusal>
-    ensures printed { OnOk result (IsReported opening.now.inst.now.tables
-        opening.now.initial.now.items lots.now (Took (writing O.Sink out.old out.new))) }
-    ensures refused { IfErr result (StartReason opening.now.inst.now.tables
-        opening.now.initial.now.items (IsReported opening.now.inst.now.tables
-        opening.now.initial.now.items lots.now (BrokeOff (writing O.Sink out.old out.new)))) }
+    ensures printed { OnOk result (IsReported
+        (opening beginning.now.inst.now.tables beginning.now.initial.now.items lots.now)
+        (Took (writing O.Sink out.old out.new))) }
+    ensures refused { IfErr result (StartReason beginning.now.inst.now.tables
+        beginning.now.initial.now.items (IsReported
+        (opening beginning.now.inst.now.tables beginning.now.initial.now.items lots.now)
+        (BrokeOff (writing O.Sink out.old out.new)))) }
     ensures no_output { IfErr result (λ refusal. refusal ≢ Refusal.Write → out.new ≡ out.old) }
     ensures out_never_falls { O.faults out.old ≤ O.faults out.new }
 {
-    let (inst, initial) = (opening.inst, opening.initial);
+    let (inst, initial) = (beginning.inst, beginning.initial);
     let mut desks = Desks::make(alloc, lots.len())?;
     let bound = bound_from(alloc, inst, initial)?;
-    let prepared = Prepared::make(alloc, inst, opening.topo, initial, opening.parts, lots)?;
+    let prepared = Prepared::make(alloc, inst, beginning.topo, initial, beginning.parts, lots)?;
     let run = prepared.solve(rt, gate);
     let ended = report(rt, &mut desks, out, &bound, &run);
     drop(run);

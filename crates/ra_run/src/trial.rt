@@ -3,6 +3,7 @@ ghost use Rattle.ra_bounds.specs.PinnedBounds.{pinned_bound_of};
 ghost use Rattle.ra_io.specs.Outside.{LeavesFiles, Reading, writing, Took};
 ghost use Rattle.ra_journal.specs.Entries.{worker_count};
 ghost use Rattle.ra_journal.specs.Journals.{start_in, tables_in};
+ghost use Rattle.ra_journal.specs.Openings.{opening};
 ghost use Rattle.ra_model.specs.Assignments.{IsAssignment};
 ghost use Rattle.ra_model.specs.Broken.{first_broken};
 ghost use Rattle.ra_model.specs.Costs.{parts_of};
@@ -14,7 +15,7 @@ ghost use Rattle.ra_jobs.specs.Lines.{refusal_line};
 ghost use Rattle.ra_jobs.specs.Output.{output, BrokeOff, Put};
 ghost use Rattle.ra_run.specs.Trials.{HoldsTexts, HoldsTrial, IsTrialStart, IsTrialLots, IsSummarized, TrialPrinted, TrialReason, trial_command};
 
-use crate::opening::Opening;
+use crate::beginning::Beginning;
 use ra_base::{Drawing, Name, NoMemory, Parts};
 use ra_bounds::Bound;
 use ra_check::{Scratch, parts};
@@ -178,10 +179,12 @@ fn trial_from<R: Threads + Wait + Sync, O: Sink, G: Gate>(
     requires unbroken { first_broken start.now.inst.tables start.now.initial.items
         start.now.initial.items ≡ None }
     requires one { worker_count lots.now ≡ 1 }
-    ensures printed { OnOk result (IsSummarized start.now.inst.tables start.now.initial.items lots.now
+    ensures printed { OnOk result (IsSummarized
+        (opening start.now.inst.tables start.now.initial.items lots.now)
         (Took (writing O.Sink out.old out.new))) }
-    ensures refused { IfErr result (TrialReason (IsSummarized start.now.inst.tables
-        start.now.initial.items lots.now (BrokeOff (writing O.Sink out.old out.new)))) }
+    ensures refused { IfErr result (TrialReason (IsSummarized
+        (opening start.now.inst.tables start.now.initial.items lots.now)
+        (BrokeOff (writing O.Sink out.old out.new)))) }
     ensures no_output { IfErr result (λ fault. fault ≢ TrialFault.Write → out.new ≡ out.old) }
     ensures never_falls { O.faults out.old ≤ O.faults out.new }
 {
@@ -189,13 +192,13 @@ fn trial_from<R: Threads + Wait + Sync, O: Sink, G: Gate>(
     let mut scratch = Scratch::make(alloc, inst)?;
     let topo = Topology::make(alloc, inst)?;
     let parts = parts(inst, initial, initial, &mut scratch);
-    let opening = Opening {
+    let beginning = Beginning {
         inst,
         topo: &topo,
         initial,
         parts,
     };
-    let ended = trial_over(rt, alloc, &opening, lots, out, gate);
+    let ended = trial_over(rt, alloc, &beginning, lots, out, gate);
     drop(topo);
     ended
 }
@@ -204,22 +207,24 @@ fn trial_from<R: Threads + Wait + Sync, O: Sink, G: Gate>(
 fn trial_over<R: Threads + Wait + Sync, O: Sink, G: Gate>(
     rt: &R,
     alloc: Global,
-    opening: &Opening<'_>,
+    beginning: &Beginning<'_>,
     lots: &Lots,
     out: &mut O,
     gate: &G,
 ) -> Result<(), TrialFault>
     requires one { worker_count lots.now ≡ 1 }
-    ensures printed { OnOk result (IsSummarized opening.now.inst.now.tables
-        opening.now.initial.now.items lots.now (Took (writing O.Sink out.old out.new))) }
-    ensures refused { IfErr result (TrialReason (IsSummarized opening.now.inst.now.tables
-        opening.now.initial.now.items lots.now (BrokeOff (writing O.Sink out.old out.new)))) }
+    ensures printed { OnOk result (IsSummarized
+        (opening beginning.now.inst.now.tables beginning.now.initial.now.items lots.now)
+        (Took (writing O.Sink out.old out.new))) }
+    ensures refused { IfErr result (TrialReason (IsSummarized
+        (opening beginning.now.inst.now.tables beginning.now.initial.now.items lots.now)
+        (BrokeOff (writing O.Sink out.old out.new)))) }
     ensures no_output { IfErr result (λ fault. fault ≢ TrialFault.Write → out.new ≡ out.old) }
     ensures never_falls { O.faults out.old ≤ O.faults out.new }
 {
-    let (inst, initial) = (opening.inst, opening.initial);
+    let (inst, initial) = (beginning.inst, beginning.initial);
     let bound = bound_from(alloc, inst, initial)?;
-    let prepared = Prepared::make(alloc, inst, opening.topo, initial, opening.parts, lots)?;
+    let prepared = Prepared::make(alloc, inst, beginning.topo, initial, beginning.parts, lots)?;
     let run = prepared.solve(rt, gate);
     let ended = summarize(out, &bound, &run.parts(), &run);
     drop(run);

@@ -1,6 +1,7 @@
 ghost use Rattle.std.specs.Prelude.{◌≡◌, IfOk, IfErr};
 ghost use Rattle.std.specs.Option.{option_copied};
 ghost use Rattle.ra_io.specs.Outside.{LeavesFiles, reading};
+ghost use Rattle.ra_journal.specs.Openings.{opening};
 ghost use Rattle.ra_model.specs.Assignments.{IsAssignment};
 ghost use Rattle.ra_jobs.specs.Commands.{These, over};
 ghost use Rattle.ra_jobs.specs.Ends.{Does, DoesOutside, Tries};
@@ -110,10 +111,10 @@ fn count_entries<F: Files>(
     files: &mut F,
 ) -> Result<u64, Refusal>
     requires fits { IsAssignment start.now.inst.tables start.now.initial.items }
-    ensures counted { IfOk result (IsCounted (F.held files.old)
-        report.now start.now.inst.tables start.now.initial.items lots.now) }
-    ensures refused { IfErr result (CountReason (F.held files.old)
-        report.now start.now.inst.tables start.now.initial.items lots.now (F.faults files.old)
+    ensures counted { IfOk result (IsCounted (F.held files.old) report.now
+        (opening start.now.inst.tables start.now.initial.items lots.now)) }
+    ensures refused { IfErr result (CountReason (F.held files.old) report.now
+        (opening start.now.inst.tables start.now.initial.items lots.now) (F.faults files.old)
         (F.faults files.new)) }
     ensures leaves { LeavesFiles (reading F.Files files.old files.new) }
 {

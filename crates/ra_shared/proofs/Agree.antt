@@ -1,6 +1,5 @@
 -- Guards and their numbers.
-use Rattle.std.proofs.Common.{◌≡◌, ℕ, ◌+◌, ◌-◌, ◌<◌, ◌≤◌, nat_lt, List, Option, lt-ltb, le-ltb, ap, ◌∙◌, arith}
-use Rattle.std.proofs.lemmas.Bool.{cond-true, cond-false}
+use Rattle.std.proofs.Common.{◌≡◌, ℕ, ◌+◌, ◌-◌, ◌<◌, ◌≤◌, List, Option, lt-ltb, le-ltb, ap, ◌∙◌, arith}
 use Rattle.ra_base.specs.declared.ids.Guard.TheVariants as guard
 use Rattle.ra_model.specs.declared.raw.Tables.{Tables}
 use Rattle.ra_model.specs.Numbers.{machine_count}
@@ -14,19 +13,17 @@ use Rattle.ra_shared.specs.Laws.{TouchesAgree, NoneAbove}
 of_machine : (i : Tables) (made : Option (List Step)) (n : ℕ) → n < machine_count i →
     touches_number i made n ≡ touches i made (guard.Machine (record { 0 = n }))
 unfolding touches_number
-of_machine i made n lt = cond-true (nat_lt n (machine_count i)) _ _ (lt-ltb n (machine_count i) lt)
+of_machine i made n lt = grind (arith, lt-ltb)
 
 -- a number from there on and below the guard count is a service's
 of_service : (i : Tables) (made : Option (List Step)) (n : ℕ) → machine_count i ≤ n → n < guard_count i →
     touches_number i made n ≡ touches i made (guard.Service (record { 0 = n - machine_count i }))
 unfolding touches_number
-of_service i made n le lt = cond-false (nat_lt n (machine_count i)) _ _ (le-ltb n (machine_count i) le)
-    ∙ cond-true (nat_lt n (guard_count i)) _ _ (lt-ltb n (guard_count i) lt)
+of_service i made n le lt = grind (arith, le-ltb, lt-ltb)
 
 pub none_above : NoneAbove
 unfolding touches_number guard_count
-none_above i made n le = cond-false (nat_lt n (machine_count i)) _ _ (le-ltb n (machine_count i) (omega arith))
-    ∙ cond-false (nat_lt n (guard_count i)) _ _ (le-ltb n (guard_count i) le)
+none_above i made n le = grind (arith, le-ltb)
 
 pub touches_agree : TouchesAgree
 unfolding number_of_guard IsKnown guard_count
@@ -34,4 +31,4 @@ touches_agree i made (guard.Machine m) known = of_machine i made m.0 known
 touches_agree i made (guard.Service s) known =
     let back : (machine_count i + s.0) - machine_count i ≡ s.0 = omega arith in
     of_service i made (machine_count i + s.0) (omega arith) (omega (arith, known))
-    ∙ ap (λ (n : ℕ). touches i made (guard.Service (record { 0 = n }))) back
+    ∙ ap (λ n. touches i made (guard.Service (record { 0 = n }))) back

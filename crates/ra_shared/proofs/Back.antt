@@ -1,6 +1,6 @@
 -- A guard that was locked around a turn is unlocked.
-use Rattle.std.proofs.Common.{◌≡◌, ℕ, ◌<◌, ◌≤◌, true, List, [], ◌∷◌, ◌++◌, length, drop, All, Contains, Option}
-use Rattle.std.proofs.Common.{Some, None, IfSome, IfNone, refl, ap, ap₂, sym, subst, ◌∙◌, ⊎_elim, arith}
+use Rattle.std.proofs.Common.{◌≡◌, ℕ, ◌<◌, ◌≤◌, true, List, [], ◌∷◌, ◌++◌, length, All, Contains, Option}
+use Rattle.std.proofs.Common.{Some, None, IfSome, IfNone, refl, ap, sym, subst, ◌∙◌, ⊎_elim, arith}
 use mathlib.Core.List.{IsPrefix}
 use Rattle.ra_base.specs.declared.ids.Guard.{Guard}
 use Rattle.ra_moves.specs.declared.verdicts.Plan.{Plan}
@@ -15,9 +15,9 @@ use Rattle.ra_turn.specs.Notes.{grip, without, touching, OnlyBy, IsVersion}
 use Rattle.ra_turn.specs.Passes.{seen_by, notes_made_by, grips_of, news_of, IsPassOf, IsIdle, IsSamePass, KnowsSame}
 use Rattle.ra_turn.proofs.Lists.{prefix_longer}
 use Rattle.ra_shared.specs.declared.books.Book.{Book}
-use Rattle.ra_shared.specs.declared.books.Opening.{Opening}
+use Rattle.ra_shared.specs.declared.books.Opened.{Opened}
 use Rattle.ra_shared.specs.declared.shared.Shared.{Shared}
-use Rattle.ra_shared.specs.Books.{entry_touches, committed_in, KnowsOwn, IsCommitOf, IsLegalSeen}
+use Rattle.ra_shared.specs.Books.{entry_touches, KnowsOwn, IsCommitOf, IsLegalSeen, opening_by}
 use Rattle.ra_shared.specs.Holding.{then_version, PassMayHandIn, IsHandedIn, IsHeldUp}
 use Rattle.ra_shared.specs.Numbers.{number_of_guard}
 use Rattle.ra_shared.specs.Shares.{start_of, IsCommitted, PassMayCommit, HasCommitted}
@@ -26,7 +26,7 @@ use Rattle.ra_shared.proofs.Handing.{answered, version_then}
 use Rattle.ra_shared.proofs.Own.{later_commit, prefix_length}
 
 -- what was seen begins what is then seen
-pub prefix_then : (o : Opening) (w : ℕ) (plan : Plan) (seen mine seen' mine' : List Entry) (reply : Reply) →
+pub prefix_then : (o : Opened) (w : ℕ) (plan : Plan) (seen mine seen' mine' : List Entry) (reply : Reply) →
     KnowsOwn w seen mine → IsCommitOf o seen w plan → IsCommitted o w plan.q seen mine seen' mine' reply →
     IsPrefix seen seen'
 prefix_then o w plan seen mine seen' mine' reply own commit done =
@@ -36,13 +36,13 @@ prefix_then o w plan seen mine seen' mine' reply own commit done =
     (λ more. subst (IsPrefix seen) (sym (done.journal ∙ more.1.journal))
     (prefix_longer seen h (more.0 ∷ []) done.later))
     (answered o h w plan
-    (later_commit w seen h mine done.later own done.own o.inst.tables o.a0.items o.lots plan commit))
+    (later_commit w seen h mine done.later own done.own (opening_by o) plan commit))
 
 none_version : (v n : ℕ) → then_version None v n ≡ v
 unfolding then_version
 none_version v n = refl
 
-module _ {g : Ghosts Book Entry Opening} (s : Shared) (plan : Plan) (p q r n : Pass Book Entry Opening g) where
+module _ {g : Ghosts Book Entry Opened} (s : Shared) (plan : Plan) (p q r n : Pass Book Entry Opened g) where
   -- after the turn the guards are those before it
   pub grips_back : (reply : Option Reply) → IfSome reply (IsHandedIn s plan q r) →
       IfNone reply (IsHeldUp s plan q r) → grips_of r ≡ grips_of q
@@ -94,7 +94,7 @@ module _ {g : Ghosts Book Entry Opening} (s : Shared) (plan : Plan) (p q r n : P
       (idle : IsIdle n) (back : IsSamePass r n) (still : KnowsSame r n) (news : news_of n ≡ news_of r)
       (given : grips_of n ≡ without guard (grips_of r)) where
     regained : grips_of r ≡ grips_of q → grips_of n ≡ grips_of p
-    regained e = given ∙ (ap (without guard) (e ∙ held) ∙ without_last guard v (grips_of p) below)
+    regained e = grind (arith, without_last)
 
     still_of : IsPassOf s.turn r → IsPassOf s.turn n
     still_of of = (back.0 ∙ of.0, back.3 ∙ of.1)
@@ -103,16 +103,7 @@ module _ {g : Ghosts Book Entry Opening} (s : Shared) (plan : Plan) (p q r n : P
         IsCommitted (start_of s) q.number plan.q (seen_by q) (notes_made_by q) (seen_by r) (notes_made_by r)
         reply → IsCommitted (start_of s) p.number plan.q (seen_by p) (notes_made_by p) (seen_by n) (notes_made_by n)
         reply
-    moved reply d = record {
-      history = d.history;
-      later = subst (λ (xs : List Entry). IsPrefix xs d.history) knows.0 d.later;
-      own = subst (λ (ms : List Entry). KnowsOwn p.number d.history ms) knows.1
-          (subst (λ (w : ℕ). KnowsOwn w d.history (notes_made_by q)) same.2 d.own);
-      legal = d.legal;
-      journal = still.0 ∙ (d.journal ∙ ap (λ (w : ℕ). (committed_in (start_of s) d.history w plan.q).journal) same.2);
-      answer = d.answer ∙ ap (λ (w : ℕ). (committed_in (start_of s) d.history w plan.q).reply) same.2;
-      made = still.1 ∙ (d.made ∙ ap₂ (λ (ms xs : List Entry). ms ++ drop (length d.history) xs) knows.1 (sym still.0));
-    }
+    moved reply d = grind arith
 
     pub handed_back : (reply : Option Reply) → IfSome reply (IsHandedIn s plan q r) →
         IfSome reply (IsHandedIn s plan p n)
@@ -147,7 +138,7 @@ module _ {g : Ghosts Book Entry Opening} (s : Shared) (plan : Plan) (p q r n : P
 
 -- a plan that is handed in by a pass at rest
 
-module _ {g : Ghosts Book Entry Opening} (s : Shared) (plan : Plan) (p q : Pass Book Entry Opening g) where
+module _ {g : Ghosts Book Entry Opened} (s : Shared) (plan : Plan) (p q : Pass Book Entry Opened g) where
   pub may_hand_in : PassMayCommit s plan p → PassMayHandIn s plan p
   may_hand_in may = record {
     ready = may.rest.ready;
@@ -157,13 +148,7 @@ module _ {g : Ghosts Book Entry Opening} (s : Shared) (plan : Plan) (p q : Pass 
   }
 
   pub may_still : PassMayCommit s plan p → IsHeldUp s plan p q → PassMayHandIn s plan q
-  may_still may up = record {
-    ready = up.ready;
-    left = omega (arith, may.left, up.same.2);
-    legal = subst (IsLegalSeen (start_of s)) (sym up.same.0) may.rest.legal;
-    commit = subst (λ (w : ℕ). IsCommitOf (start_of s) (seen_by q) w plan) (sym up.number)
-        (subst (λ (xs : List Entry). IsCommitOf (start_of s) xs p.number plan) (sym up.same.0) may.commit);
-  }
+  may_still may up = grind arith
 
   pub has_committed : (reply : Reply) → PassMayCommit s plan p → KnowsOwn q.number (seen_by q) (notes_made_by q) →
       IsHandedIn s plan p q reply → HasCommitted s plan p q reply
@@ -182,21 +167,6 @@ module _ {g : Ghosts Book Entry Opening} (s : Shared) (plan : Plan) (p q : Pass 
   }
 
   -- first it was told that a guard is newer
-  pub handed_later : (r : Pass Book Entry Opening g) (reply : Reply) → IsHeldUp s plan p q →
+  pub handed_later : (r : Pass Book Entry Opened g) (reply : Reply) → IsHeldUp s plan p q →
       IsHandedIn s plan q r reply → IsHandedIn s plan p r reply
-  handed_later r reply up done = record {
-    ready = done.ready;
-    number = done.number ∙ up.number;
-    left = omega (arith, done.left, up.same.2);
-    grips = done.grips ∙ up.grips;
-    legal = done.legal;
-    committed = subst (λ (w : ℕ). IsCommitted (start_of s) w plan.q (seen_by p) (notes_made_by p) (seen_by r)
-        (notes_made_by r)
-        reply) up.number
-        (subst (λ (ms : List Entry). IsCommitted (start_of s) q.number plan.q (seen_by p) ms (seen_by r)
-        (notes_made_by r)
-        reply) up.same.1
-        (subst (λ (xs : List Entry). IsCommitted (start_of s) q.number plan.q xs (notes_made_by q) (seen_by r)
-        (notes_made_by r)
-        reply) up.same.0 done.committed));
-  }
+  handed_later r reply up done = grind arith

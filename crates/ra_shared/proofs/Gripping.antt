@@ -1,6 +1,6 @@
 -- The guards that a pass has locked for a move, and what they say of the history.
 use Rattle.std.proofs.Common.{◌≡◌, ℕ, suc, ◌+◌, ◌-◌, ◌<◌, ◌≤◌, not, eqb, Bool, true, false, cond, List, []}
-use Rattle.std.proofs.Common.{◌∷◌, ◌++◌, length, filter, All, Contains, get_or, Option, None, refl, ap}
+use Rattle.std.proofs.Common.{◌∷◌, ◌++◌, length, All, Contains, get_or, Option, None, refl, ap}
 use Rattle.std.proofs.Common.{sym, subst, ◌∙◌, ⊎_elim, arith}
 use Rattle.std.proofs.lemmas.Bool.{cases_lt, cases_Bool, or_left, both_ways, ltb-true, eq-eqb, ne_eqb}
 use Rattle.std.proofs.lemmas.List.{append-nil, length_push, get_or_default}
@@ -28,34 +28,43 @@ use Rattle.ra_journal.proofs.EndLemmas.{untouched_since}
 use Rattle.ra_journal.proofs.Places.{made_place}
 use Rattle.ra_turn.specs.declared.sight.Grip.{Grip}
 use Rattle.ra_turn.specs.Notes.{grip, without, touching, TouchedAt, OnlyBy, ShutBy, HoldsAll}
-use Rattle.ra_shared.specs.declared.books.Opening.{Opening}
+use Rattle.ra_shared.specs.declared.books.Opened.{Opened}
 use Rattle.ra_shared.specs.Books.{entry_touches}
 use Rattle.ra_shared.specs.Holding.{number_at, HoldsFirst, HoldsWrites}
 use Rattle.ra_shared.specs.Numbers.{guard_count, number_of_guard, touches_number}
 use Rattle.ra_shared.proofs.Agree.{none_above, touches_agree}
 use Rattle.ra_shared.proofs.Own.{entry_get, get_entry}
 
--- a write guard is one of the instance
-pub written_known : (i : Tables) (steps : List Step) (g : Guard) → WellFormed i → AreWithin i steps →
-    writes i steps g ≡ true → IsKnown i g
-unfolding is_guard
-written_known i steps g limits within written =
-    guard_known i steps g limits within (or_left (writes i steps g) (reads i steps g) written)
+module _ (i : Tables) where
+  -- a write guard is one of the instance
+  pub written_known : (steps : List Step) (g : Guard) → WellFormed i → AreWithin i steps →
+      writes i steps g ≡ true → IsKnown i g
+  unfolding is_guard
+  written_known steps g limits within written =
+      guard_known i steps g limits within (or_left (writes i steps g) (reads i steps g) written)
 
--- its number is below the guard count
-pub number_below : (i : Tables) (g : Guard) → IsKnown i g → number_of_guard i g < guard_count i
-unfolding IsKnown number_of_guard guard_count
-number_below i (guard.Machine m) known = omega (arith, known)
-number_below i (guard.Service s) known = omega (arith, known)
+  -- its number is below the guard count
+  pub number_below : (g : Guard) → IsKnown i g → number_of_guard i g < guard_count i
+  unfolding IsKnown number_of_guard guard_count
+  number_below (guard.Machine m) known = omega (arith, known)
+  number_below (guard.Service s) known = omega (arith, known)
 
--- an earlier guard has a smaller number
-before_less : (i : Tables) (g h : Guard) → IsKnown i g → is_before g h ≡ true →
-    number_of_guard i g < number_of_guard i h
-unfolding IsKnown number_of_guard is_before
-before_less i (guard.Machine m) (guard.Machine n) known before = ltb-true m.0 n.0 before
-before_less i (guard.Machine m) (guard.Service s) known before = omega (arith, known)
-before_less i (guard.Service s) (guard.Machine m) known before = absurd (cc before)
-before_less i (guard.Service s) (guard.Service t) known before = omega (arith, ltb-true s.0 t.0 before)
+  -- an earlier guard has a smaller number
+  before_less : (g h : Guard) → IsKnown i g → is_before g h ≡ true →
+      number_of_guard i g < number_of_guard i h
+  unfolding IsKnown number_of_guard is_before
+  before_less (guard.Machine m) (guard.Machine n) known before = ltb-true m.0 n.0 before
+  before_less (guard.Machine m) (guard.Service s) known before = omega (arith, known)
+  before_less (guard.Service s) (guard.Machine m) known before = absurd (cc before)
+  before_less (guard.Service s) (guard.Service t) known before = omega (arith, ltb-true s.0 t.0 before)
+
+  number_back : (n : ℕ) → number_of_guard i (guard_of (machine_count i) n) ≡ n
+  unfolding number_of_guard
+  number_back n = grind (arith, guard_below, guard_above)
+
+  number_known : (n : ℕ) → n < guard_count i → IsKnown i (guard_of (machine_count i) n)
+  unfolding guard_count
+  number_known n below = known_number i n below
 
 -- the guard whose number is touched
 pub record IsTouchedGuard (i : Tables) (made : Option (List Step)) (n : ℕ) : Type 0 where
@@ -63,45 +72,35 @@ pub record IsTouchedGuard (i : Tables) (made : Option (List Step)) (n : ℕ) : T
   pub number : number_of_guard i guard ≡ n
   pub touched : touches i made guard ≡ true
 
-number_back : (i : Tables) (n : ℕ) → number_of_guard i (guard_of (machine_count i) n) ≡ n
-unfolding number_of_guard
-number_back i n = ⊎_elim
-    (λ (below : n < machine_count i). rw (guard_below (machine_count i) n below) refl)
-    (λ (above : machine_count i ≤ n). rw (guard_above (machine_count i) n above) (omega arith))
-    (cases_lt n (machine_count i))
+module _ (i : Tables) where
+  -- a number that is touched is one of a guard
+  touched_guard : (made : Option (List Step)) (n : ℕ) → touches_number i made n ≡ true →
+      IsTouchedGuard i made n
+  touched_guard made n is = ⊎_elim
+      (λ (below : n < guard_count i).
+      let g = guard_of (machine_count i) n in
+      let number = number_back i n in
+      record {
+        guard = g;
+        number = number;
+        touched = sym (touches_agree i made g (number_known i n below)) ∙ (ap (touches_number i made) number ∙ is);
+      })
+      (λ (above : guard_count i ≤ n). absurd (both_ways (touches_number i made n) (none_above i made n above) is))
+      (cases_lt n (guard_count i))
 
-number_known : (i : Tables) (n : ℕ) → n < guard_count i → IsKnown i (guard_of (machine_count i) n)
-unfolding guard_count
-number_known i n below = known_number i n below
+  -- what an entry touches its move writes
+  verdict_writes : (verdict : Verdict) (steps : List Step) (g : Guard) →
+      touches i (steps_made verdict steps) g ≡ true → writes i steps g ≡ true
+  unfolding touches steps_made
+  verdict_writes (Done cost) steps g is = is
+  verdict_writes (Refused cause) steps g is = absurd (cc is)
 
--- a number that is touched is one of a guard
-touched_guard : (i : Tables) (made : Option (List Step)) (n : ℕ) → touches_number i made n ≡ true →
-    IsTouchedGuard i made n
-touched_guard i made n is = ⊎_elim
-    (λ (below : n < guard_count i).
-    let g = guard_of (machine_count i) n in
-    let number = number_back i n in
-    record {
-      guard = g;
-      number = number;
-      touched = sym (touches_agree i made g (number_known i n below)) ∙ (ap (touches_number i made) number ∙ is);
-    })
-    (λ (above : guard_count i ≤ n). absurd (both_ways (touches_number i made n) (none_above i made n above) is))
-    (cases_lt n (guard_count i))
-
--- what an entry touches its move writes
-verdict_writes : (i : Tables) (verdict : Verdict) (steps : List Step) (g : Guard) →
-    touches i (steps_made verdict steps) g ≡ true → writes i steps g ≡ true
-unfolding touches steps_made
-verdict_writes i (Done cost) steps g is = is
-verdict_writes i (Refused cause) steps g is = absurd (cc is)
-
-entry_writes : (i : Tables) (e : Entry) (g : Guard) → touches i (made_by e) g ≡ true → writes i e.mv.steps g ≡ true
-unfolding made_by
-entry_writes i e g is = verdict_writes i e.verdict e.mv.steps g is
+  entry_writes : (e : Entry) (g : Guard) → touches i (made_by e) g ≡ true → writes i e.mv.steps g ≡ true
+  unfolding made_by
+  entry_writes e g is = verdict_writes e.verdict e.mv.steps g is
 
 -- the entry of a move whose write guards are locked touches none but these
-pub holds_touched : (o : Opening) (e : Entry) (q : ℕ) (grips : List Grip) →
+pub holds_touched : (o : Opened) (e : Entry) (q : ℕ) (grips : List Grip) →
     HoldsWrites o.inst.tables e.mv.steps q grips → HoldsAll entry_touches o grips e
 holds_touched o e q grips holds n is =
     let t = touched_guard o.inst.tables (made_by e) n is in
@@ -109,7 +108,6 @@ holds_touched o e q grips holds n is =
     (held.0, subst (λ (m : ℕ). Contains grips (grip m held.0)) t.number held.2)
 
 -- holding guard after guard
-
 module _ (i : Tables) (steps : List Step) (guards : List Guard) (q : ℕ) (limits : WellFormed i)
     (within : AreWithin i steps) (are : AreWrites i steps guards) where
   pub listed_known : (k : ℕ) → k < length guards → IsKnown i (guard_at guards k)
@@ -122,11 +120,7 @@ module _ (i : Tables) (steps : List Step) (guards : List Guard) (q : ℕ) (limit
   listed_written k lt = (are.exactly (guard_at guards k)).0 (Contains-get_or guards k _ lt)
 
   pub holds_none : HoldsFirst i guards q 0 []
-  holds_none = record {
-    count = refl;
-    held = λ j lt. absurd (omega arith);
-    below = λ j ge lt k d inside. absurd (omega arith);
-  }
+  holds_none = grind arith
 
   pub holds_more : (k : ℕ) (grips : List Grip) (v : ℕ) → HoldsFirst i guards q k grips → k < length guards → v ≤ q →
       HoldsFirst i guards q (k + 1) (grips ++ grip (number_at i guards k) v ∷ [])
@@ -158,7 +152,7 @@ module _ (i : Tables) (steps : List Step) (guards : List Guard) (q : ℕ) (limit
         let h = holds.held has.0 (let b = has.1 in omega arith) in (
           h.0,
           h.1,
-          subst (λ (x : Guard). Contains grips (grip (number_of_guard i x) h.0)) (listed has.0 g has.1 has.2)
+          subst (λ x. Contains grips (grip (number_of_guard i x) h.0)) (listed has.0 g has.1 has.2)
               h.2,
         ));
   }
@@ -169,7 +163,7 @@ module _ (i : Tables) (steps : List Step) (guards : List Guard) (q : ℕ) (limit
 -- a guard that comes after all others is unlocked, and the others stay locked
 kept_grip : (b : Bool) (k : Grip) (ks ls : List Grip) → b ≡ false → ls ≡ ks → cond (not b) (k ∷ ls) ls ≡ k ∷ ks
 kept_grip true k ks ls e same = absurd (cc e)
-kept_grip false k ks ls e same = ap (λ (xs : List Grip). k ∷ xs) same
+kept_grip false k ks ls e same = ap (λ xs. k ∷ xs) same
 
 without_other : (n : ℕ) (ks : List Grip) → All (λ k. k.guard < n) ks → without n ks ≡ ks
 without_other n [] all = refl
@@ -179,16 +173,10 @@ without_other n (k ∷ ks) all =
     (without_other n ks (All-tail (λ (g : Grip). g.guard < n) k ks all))
 
 pub without_last : (n v : ℕ) (ks : List Grip) → All (λ k. k.guard < n) ks → without n (ks ++ grip n v ∷ []) ≡ ks
-without_last n v ks all =
-    let test : Grip → Bool = λ k. not (eqb k.guard n) in
-    let gone : eqb n n ≡ true = eq-eqb n n refl in
-    filter-append test ks (grip n v ∷ [])
-    ∙ (ap (λ (b : Bool). filter test ks ++ cond (not b) (grip n v ∷ []) []) gone
-    ∙ (append-nil (filter test ks) ∙ without_other n ks all))
+without_last n v ks all = grind (arith, filter-append, eq-eqb, append-nil, without_other)
 
 -- what the entries of a history do to a guard, by its number
-
-module _ (o : Opening) (h : List Entry) (g : Guard) (known : IsKnown o.inst.tables g) where
+module _ (o : Opened) (h : List Entry) (g : Guard) (known : IsKnown o.inst.tables g) where
   abbrev i : Tables
   i = o.inst.tables
 
@@ -196,11 +184,10 @@ module _ (o : Opening) (h : List Entry) (g : Guard) (known : IsKnown o.inst.tabl
   touched_by = touching entry_touches o (number_of_guard o.inst.tables g)
 
   same_touch : (j : ℕ) → touches i (made_at (made_in h) j) g ≡ touched_by (entry_at h j)
-  same_touch j = ap (λ (m : Option (List Step)). touches i m g) (made_place h j)
-      ∙ sym (touches_agree i (made_by (entry_at h j)) g known)
+  same_touch j = grind (arith, i, made_place, touches_agree)
 
   pub touched_stamp : (j : ℕ) → TouchedAt touched_by h j → stamp i (made_in h) g j ≡ suc j
-  touched_stamp j t = stamp_touched i (made_in h) g j (same_touch j ∙ (ap touched_by (get_entry h j t.0 t.1) ∙ t.2))
+  touched_stamp j t = grind (arith, stamp_touched, i, same_touch, touched_by, get_entry)
 
   -- if only worker w's entries touch it from a place on that isn't after q, and all of these are before q, its version
   -- is at most q
@@ -230,7 +217,7 @@ module _ (o : Opening) (h : List Entry) (g : Guard) (known : IsKnown o.inst.tabl
       omega (arith, touched_stamp (v - 1) t)
 
 -- no write guard of a move was touched since place q, if all are locked and the worker's own entries are before q
-pub are_held : (o : Opening) (h : List Entry) (w q : ℕ) (steps : List Step) (grips : List Grip) →
+pub are_held : (o : Opened) (h : List Entry) (w q : ℕ) (steps : List Step) (grips : List Grip) →
     WellFormed o.inst.tables → AreWithin o.inst.tables steps → HoldsWrites o.inst.tables steps q grips
     → ShutBy entry_touches o (λ (e : Entry). e.worker) w h grips →
     ((j : ℕ) → j < length h → (entry_at h j).worker ≡ w → j < q) → AreHeld o.inst.tables h q steps

@@ -3,21 +3,17 @@ use Rattle.std.proofs.Common.{◌≡◌, ◌⊎◌, ℕ, ◌-◌, ◌<◌, ◌�
 use Rattle.std.proofs.Common.{length, drop, slice_get, Option, Some, None, refl, ap, sym, subst, ◌∙◌, ⊎_elim, inl, inr}
 use Rattle.std.proofs.Common.{lt-ltb, le-ltb, arith}
 use Rattle.std.proofs.Math.Seq.{drop-append_seam, drop-length}
-use Rattle.std.proofs.lemmas.Bool.{cases_lt, cases_Bool, cond-true, cond-false, and_parts, ltb-true}
+use Rattle.std.proofs.lemmas.Bool.{cases_lt, cases_Bool, and_parts, ltb-true}
 use Rattle.std.proofs.lemmas.List.{append-nil, length_push}
 use Rattle.std.proofs.lemmas.Option.{slice_get_within}
 use mathlib.Core.List.{IsPrefix}
-use Rattle.ra_base.specs.Searches.{first}
 use Rattle.ra_base.specs.declared.causes.Cause.{Cause}
 use Rattle.ra_base.specs.declared.ids.Guard.{Guard}
 use Rattle.ra_base.specs.declared.ids.Guard.TheVariants as guard
-use Rattle.ra_base.specs.declared.ids.Machine.{Machine}
 use Rattle.ra_base.proofs.Searches.{or_else_cases, first_some_at}
 use Rattle.ra_base.specs.Sums.{greatest}
 use Rattle.ra_base.proofs.Greatest.{greatest_none, greatest_reached}
-use Rattle.ra_draws.specs.declared.budgets.Lots.{Lots}
 use Rattle.ra_model.specs.declared.raw.Tables.{Tables}
-use Rattle.ra_model.specs.Numbers.{machine_count, service_count}
 use Rattle.ra_moves.specs.declared.steps.Step.{Step}
 use Rattle.ra_moves.specs.declared.verdicts.Plan.{Plan}
 use Rattle.ra_moves.specs.declared.verdicts.Verdict.{Verdict}
@@ -32,9 +28,10 @@ use Rattle.ra_guards.proofs.TouchLemmas.{stamp_touched, stamp_untouched}
 use Rattle.ra_journal.specs.declared.entries.Entry.{Entry}
 use Rattle.ra_journal.specs.declared.replies.Reply.{Reply}
 use Rattle.ra_journal.specs.declared.replies.Reply.TheVariants.{Recorded, Stale}
-use Rattle.ra_journal.specs.Committing.{next_entry, newer_since, Committed, IsCommit}
+use Rattle.ra_journal.specs.Committing.{next_entry, newer_since, IsCommit}
 use Rattle.ra_journal.specs.Entries.{entry_at, made_in, made_by, steps_made, allowed}
 use Rattle.ra_journal.specs.Refusing.{IsRefused}
+use Rattle.ra_journal.specs.Openings.{Opening}
 use Rattle.ra_journal.proofs.EndLemmas.{next_is_planned}
 use Rattle.ra_journal.proofs.NewerLemmas.{committed_stale, committed_recorded}
 use Rattle.ra_journal.proofs.Places.{made_place, entry_added}
@@ -43,22 +40,21 @@ use Rattle.ra_turn.specs.Notes.{touching, IsVersion, OnlyBy, HoldsAll}
 use Rattle.ra_turn.specs.declared.sight.Grip.{Grip}
 use Rattle.ra_turn.proofs.Lists.{prefix_self}
 use Rattle.ra_turn.proofs.Versions.{version_whole, version_kept, only_shorter}
-use Rattle.ra_shared.specs.declared.books.Opening.{Opening}
-use Rattle.ra_shared.specs.Books.{entry_touches, committed_in, KnowsOwn, IsCommitOf, IsStartOf, IsLegalSeen}
+use Rattle.ra_shared.specs.declared.books.Opened.{Opened}
+use Rattle.ra_shared.specs.Books.{entry_touches, committed_in, KnowsOwn, IsCommitOf, IsStartOf, IsLegalSeen, opening_by}
 use Rattle.ra_shared.specs.Holding.{HoldsWrites, then_version}
 use Rattle.ra_shared.specs.Laws.{RecordedStands, StaleStands}
-use Rattle.ra_shared.specs.Numbers.{guard_count, number_of_guard, touches_number}
+use Rattle.ra_shared.specs.Numbers.{number_of_guard, touches_number}
 use Rattle.ra_shared.specs.Shares.{IsCommitted}
 use Rattle.ra_shared.proofs.Agree.{touches_agree}
 use Rattle.ra_shared.proofs.Gripping.{holds_touched}
 use Rattle.ra_shared.proofs.Own.{later_commit}
 
 -- the entry that is added if no guard is newer
-
-module _ (i : Tables) (a0 : List Machine) (l : Lots) (h : List Entry) (w : ℕ) (plan : Plan)
-    (commit : IsCommit i a0 l h w plan) where
+module _ (o : Opening) (h : List Entry) (w : ℕ) (plan : Plan)
+    (commit : IsCommit o h w plan) where
   abbrev pub added : Entry
-  added = next_entry i a0 l h w plan.q
+  added = next_entry o h w plan.q
 
   pub added_worker : added.worker ≡ w
   unfolding next_entry
@@ -74,15 +70,15 @@ module _ (i : Tables) (a0 : List Machine) (l : Lots) (h : List Entry) (w : ℕ) 
 
   pub added_move : added.mv ≡ plan.mv
   unfolding next_entry
-  added_move = next_is_planned i a0 l h w plan commit
+  added_move = next_is_planned o h w plan commit
 
 -- an answer is one of two
-pub record IsStaleAt (o : Opening) (h : List Entry) (w : ℕ) (plan : Plan) (newer : Newer) : Type 0 where
+pub record IsStaleAt (o : Opened) (h : List Entry) (w : ℕ) (plan : Plan) (newer : Newer) : Type 0 where
   pub newer_is : newer_since o.inst.tables h plan.q plan.mv.steps ≡ Some newer
   pub journal : (committed_in o h w plan.q).journal ≡ h
   pub reply : (committed_in o h w plan.q).reply ≡ Stale newer.guard newer.at
 
-pub record IsRecordedAt (o : Opening) (h : List Entry) (w : ℕ) (plan : Plan) (e : Entry) : Type 0 where
+pub record IsRecordedAt (o : Opened) (h : List Entry) (w : ℕ) (plan : Plan) (e : Entry) : Type 0 where
   pub none : newer_since o.inst.tables h plan.q plan.mv.steps ≡ None
   pub journal : (committed_in o h w plan.q).journal ≡ h ++ e ∷ []
   pub reply : (committed_in o h w plan.q).reply ≡ Recorded (length h) e.verdict
@@ -90,110 +86,98 @@ pub record IsRecordedAt (o : Opening) (h : List Entry) (w : ℕ) (plan : Plan) (
   pub q : e.q ≡ plan.q
   pub k : e.k ≡ plan.k
   pub mv : e.mv ≡ plan.mv
-  pub judged : e.verdict ≡ (next_entry o.inst.tables o.a0.items o.lots h w plan.q).verdict
+  pub judged : e.verdict ≡ (next_entry (opening_by o) h w plan.q).verdict
 
-abbrev pub Answered : Opening → List Entry → ℕ → Plan → Type 0
+abbrev pub Answered : Opened → List Entry → ℕ → Plan → Type 0
 Answered o h w plan = ((newer : Newer) × IsStaleAt o h w plan newer) ⊎ ((e : Entry) × IsRecordedAt o h w plan e)
 
-answered_by : (o : Opening) (h : List Entry) (w : ℕ) (plan : Plan) (found : Option Newer) → IsCommitOf o h w plan →
+answered_by : (o : Opened) (h : List Entry) (w : ℕ) (plan : Plan) (found : Option Newer) → IsCommitOf o h w plan →
     newer_since o.inst.tables h plan.q plan.mv.steps ≡ found → Answered o h w plan
 answered_by o h w plan (Some newer) commit is =
-    let all = committed_stale o.inst.tables o.a0.items o.lots h w plan newer commit is in
+    let all = committed_stale (opening_by o) h w plan newer commit is in
     inl (
       newer,
       record {
         newer_is = is;
-        journal = ap (λ (x : Committed). x.journal) all;
-        reply = ap (λ (x : Committed). x.reply) all;
+        journal = ap (λ x. x.journal) all;
+        reply = ap (λ x. x.reply) all;
       },
     )
 answered_by o h w plan None commit is =
-    let i = o.inst.tables in let a0 = o.a0.items in let l = o.lots in
-    let all = committed_recorded i a0 l h w plan commit is in
+    let all = committed_recorded (opening_by o) h w plan commit is in
     inr (
-      added i a0 l h w plan commit,
+      added (opening_by o) h w plan commit,
       record {
         none = is;
-        journal = ap (λ (x : Committed). x.journal) all;
-        reply = ap (λ (x : Committed). x.reply) all;
-        worker = added_worker i a0 l h w plan commit;
-        q = added_q i a0 l h w plan commit;
-        k = added_k i a0 l h w plan commit;
-        mv = added_move i a0 l h w plan commit;
+        journal = ap (λ x. x.journal) all;
+        reply = ap (λ x. x.reply) all;
+        worker = added_worker (opening_by o) h w plan commit;
+        q = added_q (opening_by o) h w plan commit;
+        k = added_k (opening_by o) h w plan commit;
+        mv = added_move (opening_by o) h w plan commit;
         judged = refl;
       },
     )
 
-pub answered : (o : Opening) (h : List Entry) (w : ℕ) (plan : Plan) → IsCommitOf o h w plan → Answered o h w plan
-answered o h w plan commit = answered_by o h w plan (newer_since o.inst.tables h plan.q plan.mv.steps) commit refl
+pub answered : (o : Opened) (h : List Entry) (w : ℕ) (plan : Plan) → IsCommitOf o h w plan → Answered o h w plan
+answered o h w plan commit = grind (arith, answered_by)
 
 -- the entries that may be put back: those that were seen, or these and one more, whose guards are locked
-abbrev pub MayGive : Opening → List Grip → ℕ → List Entry → List Entry → Type 0
+abbrev pub MayGive : Opened → List Grip → ℕ → List Entry → List Entry → Type 0
 MayGive o grips w h xs =
     (xs ≡ h) ⊎ ((n : Entry) × (xs ≡ h ++ n ∷ []) × (n.worker ≡ w) × HoldsAll entry_touches o grips n)
-
-pub may_give : (o : Opening) (h xs : List Entry) (w : ℕ) (plan : Plan) (grips : List Grip) → IsCommitOf o h w plan →
-    HoldsWrites o.inst.tables plan.mv.steps plan.q grips
-    → xs ≡ (committed_in o h w plan.q).journal → MayGive o grips w h xs
-may_give o h xs w plan grips commit holds is = ⊎_elim
-    (λ stale. inl (is ∙ stale.1.journal))
-    (λ done. inr (
-      done.0,
-      is ∙ done.1.journal,
-      done.1.worker,
-      holds_touched o done.0 plan.q grips
-          (subst (λ (mv : MoveSteps). HoldsWrites o.inst.tables mv.steps plan.q grips) (sym done.1.mv) holds),
-    ))
-    (answered o h w plan commit)
 
 -- a refused entry touches nothing
 none_touched : (i : Tables) (n : ℕ) → touches_number i None n ≡ false
 unfolding touches_number touches
-none_touched i n = ⊎_elim
-    (λ (machine : n < machine_count i). cond-true _ _ _ (lt-ltb n (machine_count i) machine))
-    (λ (other : machine_count i ≤ n). cond-false _ _ _ (le-ltb n (machine_count i) other) ∙ ⊎_elim
-    (λ (service : n < guard_count i). cond-true _ _ _ (lt-ltb n (guard_count i) service))
-    (λ (past : guard_count i ≤ n). cond-false _ _ _ (le-ltb n (guard_count i) past))
-    (cases_lt n (guard_count i)))
-    (cases_lt n (machine_count i))
+none_touched i n = grind (arith, lt-ltb, le-ltb)
 
 refused_makes_none : (e : Entry) (cause : Cause) → e.verdict ≡ Refused cause → made_by e ≡ None
 unfolding made_by steps_made
-refused_makes_none e cause is = ap (λ (v : Verdict). steps_made v e.mv.steps) is
+refused_makes_none e cause is = ap (λ v. steps_made v e.mv.steps) is
 
-refused_holds : (o : Opening) (e : Entry) (cause : Cause) (grips : List Grip) → e.verdict ≡ Refused cause →
+refused_holds : (o : Opened) (e : Entry) (cause : Cause) (grips : List Grip) → e.verdict ≡ Refused cause →
     HoldsAll entry_touches o grips e
-refused_holds o e cause grips is guard touched =
-    let none : entry_touches o e guard ≡ false =
-    ap (λ (made : Option (List Step)). touches_number o.inst.tables made guard) (refused_makes_none e cause is)
-    ∙ none_touched o.inst.tables guard in
-    absurd (let clash : true ≡ false = sym touched ∙ none in cc clash)
+refused_holds o e cause grips is guard touched = grind (arith, refused_makes_none, none_touched)
 
--- the entries that may be put back for a plan that is known to be refused: its entry touches nothing, so no guard is
--- locked for it
-pub may_give_refused : (o : Opening) (h xs : List Entry) (w : ℕ) (plan : Plan) (grips : List Grip) → IsStartOf o →
-    IsLegalSeen o h → IsCommitOf o h w plan → IsRefused o.inst.tables (allowed o.lots w plan.k) plan
-    → xs ≡ (committed_in o h w plan.q).journal → MayGive o grips w h xs
-may_give_refused o h xs w plan grips start legal commit refused is = ⊎_elim
-    (λ stale. inl (is ∙ stale.1.journal))
-    (λ done.
-    let told = refused_at_end o.inst.tables o.a0.items o.lots h w plan start legal commit done.1.none refused in
-    inr (
-      done.0,
-      is ∙ done.1.journal,
-      done.1.worker,
-      refused_holds o done.0 told.0 grips (done.1.judged ∙ told.1),
-    ))
-    (answered o h w plan commit)
+module _ (o : Opened) (h xs : List Entry) (w : ℕ) (plan : Plan) where
+  pub may_give : (grips : List Grip) → IsCommitOf o h w plan →
+      HoldsWrites o.inst.tables plan.mv.steps plan.q grips
+      → xs ≡ (committed_in o h w plan.q).journal → MayGive o grips w h xs
+  may_give grips commit holds is = ⊎_elim
+      (λ stale. inl (is ∙ stale.1.journal))
+      (λ done. inr (
+        done.0,
+        is ∙ done.1.journal,
+        done.1.worker,
+        holds_touched o done.0 plan.q grips
+            (subst (λ (mv : MoveSteps). HoldsWrites o.inst.tables mv.steps plan.q grips) (sym done.1.mv) holds),
+      ))
+      (answered o h w plan commit)
 
-pub only_stale : (o : Opening) (h xs : List Entry) (w : ℕ) (plan : Plan) → IsCommitOf o h w plan →
-    (newer_since o.inst.tables h plan.q plan.mv.steps ≡ None → ⊥)
-    → xs ≡ (committed_in o h w plan.q).journal → xs ≡ h
-only_stale o h xs w plan commit some is =
-    ⊎_elim (λ stale. is ∙ stale.1.journal) (λ done. absurd (some done.1.none)) (answered o h w plan commit)
+  -- the entries that may be put back for a plan that is known to be refused: its entry touches nothing, so no guard is
+  -- locked for it
+  pub may_give_refused : (grips : List Grip) → IsStartOf o →
+      IsLegalSeen o h → IsCommitOf o h w plan → IsRefused o.inst.tables (allowed o.lots w plan.k) plan
+      → xs ≡ (committed_in o h w plan.q).journal → MayGive o grips w h xs
+  may_give_refused grips start legal commit refused is = ⊎_elim
+      (λ stale. inl (is ∙ stale.1.journal))
+      (λ done.
+      let told = refused_at_end (opening_by o) h w plan start legal commit done.1.none refused in
+      inr (
+        done.0,
+        is ∙ done.1.journal,
+        done.1.worker,
+        refused_holds o done.0 told.0 grips (done.1.judged ∙ told.1),
+      ))
+      (answered o h w plan commit)
+
+  pub only_stale : IsCommitOf o h w plan →
+      (newer_since o.inst.tables h plan.q plan.mv.steps ≡ None → ⊥)
+      → xs ≡ (committed_in o h w plan.q).journal → xs ≡ h
+  only_stale commit some is = grind (arith, answered)
 
 -- the version of a write guard of the move after the answer
-
 pub touched_version : (touched : Entry → Bool) (h : List Entry) (e : Entry) → touched e ≡ true →
     IsVersion touched (h ++ e ∷ []) (length (h ++ e ∷ []))
 touched_version touched h e is =
@@ -226,7 +210,7 @@ stale_version : (guard : Guard) (at v seen : ℕ) → then_version (Some (Stale 
 unfolding then_version
 stale_version guard at v seen = refl
 
-module _ (o : Opening) (w : ℕ) (plan : Plan) (g : Guard) (known : IsKnown o.inst.tables g)
+module _ (o : Opened) (w : ℕ) (plan : Plan) (g : Guard) (known : IsKnown o.inst.tables g)
     (written : writes o.inst.tables plan.mv.steps g ≡ true) where
   pub version_then : (seen mine seen' mine' : List Entry) (reply : Reply) (v : ℕ) → KnowsOwn w seen mine →
       IsCommitOf o seen w plan → IsCommitted o w plan.q seen mine seen' mine' reply
@@ -238,7 +222,7 @@ module _ (o : Opening) (w : ℕ) (plan : Plan) (g : Guard) (known : IsKnown o.in
   version_then seen mine seen' mine' reply v own commit done le before only =
       let touched : Entry → Bool = touching entry_touches o (number_of_guard o.inst.tables g) in
       let h = done.history in
-      let later = later_commit w seen h mine done.later own done.own o.inst.tables o.a0.items o.lots plan commit in
+      let later = later_commit w seen h mine done.later own done.own (opening_by o) plan commit in
       let whole = λ (p : IsPrefix h seen'). version_whole touched (λ (e : Entry). e.worker) w seen h mine v v done.later
       own done.own le (only_shorter touched (λ (e : Entry). e.worker) w h seen' v p only) before in
       ⊎_elim
@@ -265,9 +249,7 @@ module _ (o : Opening) (w : ℕ) (plan : Plan) (g : Guard) (known : IsKnown o.in
       (answered o h w plan later)
 
 -- what the worker has made is then what is there of its own
-
 -- the laws for a worker that is answered
-
 pub recorded_stands : RecordedStands
 recorded_stands o w plan seen mine seen' mine' j verdict own commit done =
     let h = done.history in
@@ -292,7 +274,7 @@ recorded_stands o w plan seen mine seen' mine' j verdict own commit done =
       made = done.made ∙ (ap (λ (ys : List Entry). mine ++ ys) tail ∙ ap (λ (x : Entry). mine ++ x ∷ []) (sym last));
     }))
     (answered o h w plan
-    (later_commit w seen h mine done.later own done.own o.inst.tables o.a0.items o.lots plan commit))
+    (later_commit w seen h mine done.later own done.own (opening_by o) plan commit))
 
 -- the first newer guard is a guard of the move whose version is above q, and its place is the one before that version
 pub record IsFound (test : Guard → Bool) (v : Guard → ℕ) (q : ℕ) (newer : Newer) : Type 0 where
@@ -310,24 +292,14 @@ found_at test v q g newer true is some =
     record {
       passes = ap test guard ∙ parts.0;
       above = (let more = ltb-true q (v g) parts.1 in let same : v newer.guard ≡ v g = ap v guard in omega arith);
-      place = at ∙ ap (λ (x : Guard). v x - 1) (sym guard);
+      place = at ∙ ap (λ x. v x - 1) (sym guard);
     }
 found_at test v q g newer false is some = absurd (cc some)
 
 newer_found : (i : Tables) (test : Guard → Bool) (v : Guard → ℕ) (q : ℕ) (newer : Newer) →
     first_that i test v q ≡ Some newer → IsFound test v q newer
 unfolding first_that newer_at
-newer_found i test v q newer is = ⊎_elim
-    (λ machines.
-    (let at = first_some_at (machine_count i) (λ m. newer_at test v q (guard.Machine (record { 0 = m }))) newer
-    machines in
-    found_at test v q (guard.Machine (record { 0 = at.0 })) newer _ refl at.2))
-    (λ services.
-    (let at = first_some_at (service_count i) (λ s. newer_at test v q (guard.Service (record { 0 = s }))) newer
-    services.1 in
-    found_at test v q (guard.Service (record { 0 = at.0 })) newer _ refl at.2))
-    (or_else_cases (first (machine_count i) (λ m. newer_at test v q (guard.Machine (record { 0 = m }))))
-    (first (service_count i) (λ s. newer_at test v q (guard.Service (record { 0 = s })))) newer is)
+newer_found i test v q newer is = grind (arith, first_some_at, found_at, or_else_cases)
 
 -- the entry before a version touches the guard
 stamped : (i : Tables) (h : List Entry) (g : Guard) → 0 < version i (made_in h) (length h) g
@@ -357,7 +329,7 @@ unfolding newer_since first_newer
 stale_stands o w plan seen mine seen' mine' guard at own commit done =
     let h = done.history in
     let i = o.inst.tables in
-    let later = later_commit w seen h mine done.later own done.own i o.a0.items o.lots plan commit in
+    let later = later_commit w seen h mine done.later own done.own (opening_by o) plan commit in
     ⊎_elim
     (λ stale. (let same : seen' ≡ h = done.journal ∙ stale.1.journal in
     let answer : Stale guard at ≡ Stale stale.0.guard stale.0.at = done.answer ∙ stale.1.reply in

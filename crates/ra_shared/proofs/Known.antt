@@ -8,19 +8,19 @@ use Rattle.ra_turn.specs.declared.pass.Pass.{Pass}
 use Rattle.ra_turn.specs.declared.story.Story.{Ghosts}
 use Rattle.ra_turn.specs.Passes.{grips_of}
 use Rattle.ra_shared.specs.declared.books.Book.{Book}
-use Rattle.ra_shared.specs.declared.books.Opening.{Opening}
+use Rattle.ra_shared.specs.declared.books.Opened.{Opened}
 use Rattle.ra_shared.specs.Holding.{HoldsWrites, KnowsGuards, NeedsNoGuard}
 
-module _ {g : Ghosts Book Entry Opening} where
+module _ {g : Ghosts Book Entry Opened} where
   -- all write guards are locked, or none has to be
-  pub by_guards : {R : Type 0} (o : Opening) (plan : Plan) (p : Pass Book Entry Opening g)
+  pub by_guards : {R : Type 0} (o : Opened) (plan : Plan) (p : Pass Book Entry Opened g)
       (guards : Option (List Guard)) → KnowsGuards o plan p guards →
       (HoldsWrites o.inst.tables plan.mv.steps plan.q (grips_of p) → R) → (NeedsNoGuard o plan p → R) → R
   by_guards o plan p (Some guards) knows held free = held knows.1
   by_guards o plan p None knows held free = free knows
 
   -- what follows for the guards that are given
-  pub of_given : {P : List Guard → Type 0} (o : Opening) (plan : Plan) (p : Pass Book Entry Opening g)
+  pub of_given : {P : List Guard → Type 0} (o : Opened) (plan : Plan) (p : Pass Book Entry Opened g)
       (guards : Option (List Guard)) → KnowsGuards o plan p guards →
       ((given : List Guard) → AreWrites o.inst.tables plan.mv.steps given →
       HoldsWrites o.inst.tables plan.mv.steps plan.q (grips_of p) → P given) → IfSome guards P

@@ -17,9 +17,9 @@ use Rattle.ra_turn.specs.declared.story.Story.{Ghosts}
 use Rattle.ra_turn.specs.Notes.{grip}
 use Rattle.ra_turn.specs.Passes.{seen_by, grips_of, IsIdle, IsSamePass, KnowsSame, IsGripped}
 use Rattle.ra_shared.specs.declared.books.Book.{Book}
-use Rattle.ra_shared.specs.declared.books.Opening.{Opening}
+use Rattle.ra_shared.specs.declared.books.Opened.{Opened}
 use Rattle.ra_shared.specs.declared.shared.Shared.{Shared}
-use Rattle.ra_shared.specs.Books.{IsCommitOf, IsLegalSeen}
+use Rattle.ra_shared.specs.Books.{IsCommitOf, IsLegalSeen, opening_by}
 use Rattle.ra_shared.specs.Holding.{number_at, HoldsFirst, HoldsWrites, PassMayHandIn, IsHandedIn, IsHeldUp}
 use Rattle.ra_shared.specs.Numbers.{guard_count, number_of_guard}
 use Rattle.ra_shared.specs.Shares.{start_of}
@@ -29,22 +29,20 @@ use Rattle.ra_shared.proofs.Gripping.{number_below, listed_known, listed_written
 -- the number of guard k, as it is found
 pub number_found : (s : Shared) (guards : List Guard) (k n : ℕ) (guard : Guard) → guard ≡ guard_at guards k →
     n ≡ number_of_guard s.inst.now.tables guard → n ≡ number_at (start_of s).inst.tables guards k
-number_found s guards k n guard is found =
-    found ∙ (ap (λ (x : Instance). number_of_guard x.tables guard) s.instance
-    ∙ ap (number_of_guard (start_of s).inst.tables) is)
+number_found s guards k n guard is found = grind arith
 
-module _ {g : Ghosts Book Entry Opening} (s : Shared) (plan : Plan) (guards : List Guard) (k : ℕ)
-    (p : Pass Book Entry Opening g) where
+module _ {g : Ghosts Book Entry Opened} (s : Shared) (plan : Plan) (guards : List Guard) (k : ℕ)
+    (p : Pass Book Entry Opened g) where
   -- guard k has number n and is written by the plan's move, and comes after all guards that the pass has locked
   pub record IsNext (n : ℕ) : Type 0 where
     pub number : n ≡ number_at (start_of s).inst.tables guards k
     pub known : IsKnown (start_of s).inst.tables (guard_at guards k)
     pub written : writes (start_of s).inst.tables plan.mv.steps (guard_at guards k) ≡ true
-    pub below : All (λ (h : Grip). h.guard < n) (grips_of p)
+    pub below : All (λ h. h.guard < n) (grips_of p)
     pub few : n < guard_count s.inst.now.tables
 
   -- the pass p, now q, has locked it too, at version v
-  pub record HoldsNext (v : ℕ) (q : Pass Book Entry Opening g) : Type 0 where
+  pub record HoldsNext (v : ℕ) (q : Pass Book Entry Opened g) : Type 0 where
     pub may : PassMayHandIn s plan q
     pub held : HoldsFirst (start_of s).inst.tables guards plan.q (k + 1) (grips_of q)
     pub reached : v ≤ length (seen_by q)
@@ -52,7 +50,7 @@ module _ {g : Ghosts Book Entry Opening} (s : Shared) (plan : Plan) (guards : Li
   module _ (may : PassMayHandIn s plan p) (are : AreWrites (start_of s).inst.tables plan.mv.steps guards)
       (held : HoldsFirst (start_of s).inst.tables guards plan.q k (grips_of p)) where
     within : AreWithin (start_of s).inst.tables plan.mv.steps
-    within = planned_within (start_of s).inst.tables (start_of s).a0.items (start_of s).lots (seen_by p) p.number plan
+    within = planned_within (opening_by (start_of s)) (seen_by p) p.number plan
         s.started may.legal may.commit
 
     pub all_held : k ≡ length guards → HoldsWrites (start_of s).inst.tables plan.mv.steps plan.q (grips_of p)
@@ -79,7 +77,7 @@ module _ {g : Ghosts Book Entry Opening} (s : Shared) (plan : Plan) (guards : Li
               );
         }
 
-    pub holds_next : (n v : ℕ) (q : Pass Book Entry Opening g) → n ≡ number_at (start_of s).inst.tables guards k →
+    pub holds_next : (n v : ℕ) (q : Pass Book Entry Opened g) → n ≡ number_at (start_of s).inst.tables guards k →
         k < length guards → IsIdle q → IsSamePass p q → KnowsSame p q → IsGripped s.turn p q n plan.q v → HoldsNext v q
     holds_next n v q is inside idle same knows gripped =
         let o = start_of s in
@@ -102,7 +100,7 @@ module _ {g : Ghosts Book Entry Opening} (s : Shared) (plan : Plan) (guards : Li
         }
 
   -- after the turn it is still locked
-  pub still_held : (n v : ℕ) (q r : Pass Book Entry Opening g) (reply : Option Reply) →
+  pub still_held : (n v : ℕ) (q r : Pass Book Entry Opened g) (reply : Option Reply) →
       grips_of q ≡ grips_of p ++ grip n v ∷ [] → IfSome reply (IsHandedIn s plan q r) →
       IfNone reply (IsHeldUp s plan q r) → Contains (grips_of r) (grip n v)
   still_held n v q r reply is done none =

@@ -6,10 +6,7 @@ use Rattle.std.proofs.lemmas.List.{get_or_append_left}
 use Rattle.std.proofs.lemmas.Option.{slice_get-get_or, slice_get_within, get_or_from_slice_get}
 use mathlib.Core.List.{IsPrefix}
 use Rattle.ra_base.specs.Sums.{count}
-use Rattle.ra_base.specs.declared.ids.Machine.{Machine}
 use Rattle.ra_base.proofs.Counts.{count_no}
-use Rattle.ra_draws.specs.declared.budgets.Lots.{Lots}
-use Rattle.ra_model.specs.declared.raw.Tables.{Tables}
 use Rattle.ra_model.specs.Situations.{situation}
 use Rattle.ra_moves.specs.declared.verdicts.Plan.{Plan}
 use Rattle.ra_moves.specs.Options.{plan_of}
@@ -18,6 +15,7 @@ use Rattle.ra_journal.specs.declared.entries.Entry.{Entry}
 use Rattle.ra_journal.specs.Committing.{next_number, IsCommit}
 use Rattle.ra_journal.specs.Entries.{entry_at, entries_of, words, allowed}
 use Rattle.ra_journal.specs.States.{state}
+use Rattle.ra_journal.specs.Openings.{Opening}
 use Rattle.ra_journal.proofs.Places.{SameBelow, same_fewer, same_state, same_entries_of}
 use Rattle.ra_turn.specs.Notes.{by}
 use Rattle.ra_turn.proofs.Versions.{get_cases, filter_none, none_later}
@@ -38,9 +36,7 @@ prefix_length h g p = omega (arith, ap length p.1, length-append h p.0)
 -- a list and a longer one agree on the first
 pub same_front : (h g : List Entry) → IsPrefix h g → SameBelow (length h) h g
 unfolding entry_at
-same_front h g p = record {
-  each = λ j before. sym (ap (λ (xs : List Entry). entry_at xs j) (sym p.1) ∙ get_or_append_left h p.0 _ j before);
-}
+same_front h g p = grind (arith, get_or_append_left)
 
 module _ (w : ℕ) (seen h mine : List Entry) (p : IsPrefix seen h) (told : KnowsOwn w seen mine)
     (all : KnowsOwn w h mine) where
@@ -70,22 +66,15 @@ module _ (w : ℕ) (seen h mine : List Entry) (p : IsPrefix seen h) (told : Know
 
   pub next_same : next_number h w ≡ next_number seen w
   unfolding next_number entries_of
-  next_same =
-      let long : length h ≡ length seen + length p.0 = ap length (sym p.1) ∙ length-append seen p.0 in
-      ap (λ n. entries_of h n w) long
-      ∙ (counted (length seen) (length p.0) (λ j. eqb (entry_at h j).worker w)
-      (λ j ge lt. false_from_ne_true (eqb (entry_at h j).worker w) (λ own.
-      let before = own_seen j (omega arith) (eqb-true (entry_at h j).worker w own) in absurd (omega arith)))
-      ∙ sym (same_entries_of (length seen) w seen h (same_front seen h p)))
+  next_same = grind (arith, length-append, counted, false_from_ne_true, own_seen, eqb-true, same_entries_of, same_front)
 
   -- and the worker may still hand in its plan
-  pub later_commit : (i : Tables) (a0 : List Machine) (l : Lots) (plan : Plan) → IsCommit i a0 l seen w plan →
-      IsCommit i a0 l h w plan
-  later_commit i a0 l plan commit =
+  pub later_commit : (o : Opening) (plan : Plan) → IsCommit o seen w plan → IsCommit o h w plan
+  later_commit o plan commit =
       let same = same_front seen h p in
       let place = commit.place in
-      let st : state a0 seen plan.q ≡ state a0 h plan.q =
-      same_state a0 plan.q seen h (same_fewer plan.q (length seen) seen h place same) in
+      let st : state o.start seen plan.q ≡ state o.start h plan.q =
+      same_state o.start plan.q seen h (same_fewer plan.q (length seen) seen h place same) in
       record {
         worker = commit.worker;
         number = commit.number ∙ sym next_same;
@@ -94,7 +83,7 @@ module _ (w : ℕ) (seen h mine : List Entry) (p : IsPrefix seen h) (told : Know
         seen = λ j lt own.
             (let before = own_seen j lt own in
             commit.seen j before (ap (λ (e : Entry). e.worker) (same.each j before) ∙ own));
-        planned = commit.planned ∙ ap (λ a. plan_of (situation i a0 a) (words l w plan.k) l.drawing
-            (allowed l w plan.k)) st;
-        weighed = commit.weighed ∙ ap (λ a. weighed_of (situation i a0 a) plan.mv.steps) st;
+        planned = commit.planned ∙ ap (λ a. plan_of (situation o.tables o.start a) (words o.lots w plan.k) o.lots.drawing
+            (allowed o.lots w plan.k)) st;
+        weighed = commit.weighed ∙ ap (λ a. weighed_of (situation o.tables o.start a) plan.mv.steps) st;
       }

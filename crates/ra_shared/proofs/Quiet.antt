@@ -1,5 +1,5 @@
 -- A turn that shows refused entries alone wasn't that of a stale plan.
-use Rattle.std.proofs.Common.{◌≡◌, ℕ, ◌+◌, true, List, length, Option, None, ap, subst, arith}
+use Rattle.std.proofs.Common.{◌≡◌, ℕ, ◌+◌, true, List, length, Option, None, ap, arith}
 use Rattle.std.proofs.lemmas.List.{length_push}
 use Rattle.ra_base.specs.declared.ids.Guard.{Guard}
 use Rattle.ra_model.specs.declared.raw.Tables.{Tables}
@@ -11,7 +11,7 @@ use Rattle.ra_journal.specs.declared.replies.Reply.{Reply}
 use Rattle.ra_journal.specs.declared.replies.Reply.TheVariants.{Recorded, Stale}
 use Rattle.ra_journal.specs.Entries.{entry_at}
 use Rattle.ra_journal.specs.Quiet.{AreRefused}
-use Rattle.ra_shared.specs.declared.books.Opening.{Opening}
+use Rattle.ra_shared.specs.declared.books.Opened.{Opened}
 use Rattle.ra_shared.specs.Books.{KnowsOwn, IsCommitOf}
 use Rattle.ra_shared.specs.Shares.{IsCommitted}
 use Rattle.ra_shared.proofs.Handing.{recorded_stands, stale_stands}
@@ -20,12 +20,10 @@ use Rattle.ra_shared.proofs.Handing.{recorded_stands, stale_stands}
 none_touched : (i : Tables) (made : Option (List Step)) (guard : Guard) → made ≡ None →
     touches i made guard ≡ true → ⊥
 unfolding touches
-none_touched i made guard is touched =
-    let t : touches i None guard ≡ true = subst (λ (m : Option (List Step)). touches i m guard ≡ true) is touched in
-    cc t
+none_touched i made guard is touched = grind arith
 
 -- so the plan was recorded, and its worker has made one entry more
-pub made_more : (o : Opening) (w : ℕ) (plan : Plan) (seen mine seen' mine' : List Entry) (reply : Reply) →
+pub made_more : (o : Opened) (w : ℕ) (plan : Plan) (seen mine seen' mine' : List Entry) (reply : Reply) →
     KnowsOwn w seen mine → IsCommitOf o seen w plan → IsCommitted o w plan.q seen mine seen' mine' reply →
     AreRefused seen' plan.q (length seen') → length mine' ≡ length mine + 1
 made_more o w plan seen mine seen' mine' (Recorded j verdict) own commit done refused =

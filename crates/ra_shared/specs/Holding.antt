@@ -18,7 +18,7 @@ use Rattle.ra_turn.specs.declared.story.Story.{Ghosts}
 use Rattle.ra_turn.specs.Notes.{grip}
 use Rattle.ra_turn.specs.Passes.{seen_by, notes_made_by, grips_of, IsReady, KnowsSame, WillSee}
 use Rattle.ra_shared.specs.declared.books.Book.{Book}
-use Rattle.ra_shared.specs.declared.books.Opening.{Opening}
+use Rattle.ra_shared.specs.declared.books.Opened.{Opened}
 use Rattle.ra_shared.specs.declared.shared.Shared.{Shared}
 use Rattle.ra_shared.specs.Books.{IsCommitOf, IsLegalSeen}
 use Rattle.ra_shared.specs.Numbers.{number_of_guard}
@@ -48,16 +48,16 @@ unfoldable pub then_version : Option Reply → ℕ → ℕ → ℕ
 then_version (Some (Recorded at (Done cost))) version seen = seen
 then_version _ version seen = version
 
-module _ {g : Ghosts Book Entry Opening} where
+module _ {g : Ghosts Book Entry Opened} where
   -- the pass may hand in the plan
-  pub record PassMayHandIn (s : Shared) (plan : Plan) (p : Pass Book Entry Opening g) : Type 0 where
+  pub record PassMayHandIn (s : Shared) (plan : Plan) (p : Pass Book Entry Opened g) : Type 0 where
     pub ready : IsReady s.turn p
     pub left : 0 < p.left
     pub legal : IsLegalSeen (start_of s) (seen_by p)
     pub commit : IsCommitOf (start_of s) (seen_by p) p.number plan
 
   -- the pass p, now q, has handed in the plan in one turn, and has the same guards locked
-  pub record IsHandedIn (s : Shared) (plan : Plan) (p q : Pass Book Entry Opening g)
+  pub record IsHandedIn (s : Shared) (plan : Plan) (p q : Pass Book Entry Opened g)
       (reply : Reply) : Type 0 where
     pub ready : IsReady s.turn q
     pub number : q.number ≡ p.number
@@ -69,7 +69,7 @@ module _ {g : Ghosts Book Entry Opening} where
         reply
 
   -- The next turn of the pass shows an entry at place plan.q or later that touched a write guard of the plan's move
-  pub record WillShowNewer (i : Tables) (plan : Plan) (p : Pass Book Entry Opening g) : Type 0 where
+  pub record WillShowNewer (i : Tables) (plan : Plan) (p : Pass Book Entry Opened g) : Type 0 where
     pub guard : Guard
     pub version : ℕ
     pub written : writes i plan.mv.steps guard ≡ true
@@ -78,13 +78,13 @@ module _ {g : Ghosts Book Entry Opening} where
 
   -- No guard has to be locked to hand in the plan: it is refused wherever it is recorded, so its entry touches nothing,
   -- or it will be found stale
-  abbrev pub NeedsNoGuard : Opening → Plan → Pass Book Entry Opening g → Type 0
+  abbrev pub NeedsNoGuard : Opened → Plan → Pass Book Entry Opened g → Type 0
   NeedsNoGuard o plan p =
       IsRefused o.inst.tables (allowed o.lots p.number plan.k) plan ⊎ WillShowNewer o.inst.tables plan p
 
   -- What is known of the guards that are given to hand in the plan: they are the write guards of its move, and the pass
   -- has locked each. If none are given, none has to be locked
-  abbrev pub KnowsGuards : Opening → Plan → Pass Book Entry Opening g → Option (List Guard) → Type 0
+  abbrev pub KnowsGuards : Opened → Plan → Pass Book Entry Opened g → Option (List Guard) → Type 0
   KnowsGuards o plan p (Some guards) =
       AreWrites o.inst.tables plan.mv.steps guards
       × HoldsWrites o.inst.tables plan.mv.steps plan.q (grips_of p)
@@ -92,7 +92,7 @@ module _ {g : Ghosts Book Entry Opening} where
 
   -- the pass p, now q, was told that a guard is newer; it has the same guards locked, and has seen and made nothing
   -- more
-  pub record IsHeldUp (s : Shared) (plan : Plan) (p q : Pass Book Entry Opening g) : Type 0 where
+  pub record IsHeldUp (s : Shared) (plan : Plan) (p q : Pass Book Entry Opened g) : Type 0 where
     pub ready : IsReady s.turn q
     pub number : q.number ≡ p.number
     pub same : KnowsSame p q

@@ -12,7 +12,7 @@ use Rattle.ra_guards.specs.Versions.{touches}
 use Rattle.ra_journal.specs.declared.entries.Entry.{Entry}
 use Rattle.ra_journal.specs.declared.replies.Reply.TheVariants.{Recorded, Stale}
 use Rattle.ra_journal.specs.Entries.{entry_at, made_by}
-use Rattle.ra_shared.specs.declared.books.Opening.{Opening}
+use Rattle.ra_shared.specs.declared.books.Opened.{Opened}
 use Rattle.ra_shared.specs.Books.{KnowsOwn, IsCommitOf}
 use Rattle.ra_shared.specs.Numbers.{guard_count, number_of_guard, touches_number}
 use Rattle.ra_shared.specs.Shares.{IsCommitted}
@@ -43,7 +43,7 @@ pub record IsRecorded (w : ℕ) (plan : Plan) (mine seen' mine' : List Entry) (j
 
 -- the plan is stale because of a guard of its move, which another worker's entry at this place has touched since it was
 -- planned; nothing was made
-pub record IsStale (o : Opening) (w : ℕ) (plan : Plan) (mine seen' mine' : List Entry)
+pub record IsStale (o : Opened) (w : ℕ) (plan : Plan) (mine seen' mine' : List Entry)
     (guard : Guard) (at : ℕ) : Type 0 where
   pub made : mine' ≡ mine
   pub guarded : is_guard o.inst.tables plan.mv.steps guard ≡ true
@@ -55,7 +55,7 @@ pub record IsStale (o : Opening) (w : ℕ) (plan : Plan) (mine seen' mine' : Lis
 -- what a worker knows if it is answered Recorded
 abbrev pub RecordedStands : Type 0
 RecordedStands =
-    (o : Opening) (w : ℕ) (plan : Plan) (seen mine seen' mine' : List Entry) (j : ℕ)
+    (o : Opened) (w : ℕ) (plan : Plan) (seen mine seen' mine' : List Entry) (j : ℕ)
     (verdict : Verdict)
     → KnowsOwn w seen mine → IsCommitOf o seen w plan
     → IsCommitted o w plan.q seen mine seen' mine' (Recorded j verdict)
@@ -64,7 +64,7 @@ RecordedStands =
 -- what a worker knows if it is answered Stale
 abbrev pub StaleStands : Type 0
 StaleStands =
-    (o : Opening) (w : ℕ) (plan : Plan) (seen mine seen' mine' : List Entry) (guard : Guard)
+    (o : Opened) (w : ℕ) (plan : Plan) (seen mine seen' mine' : List Entry) (guard : Guard)
     (at : ℕ)
     → KnowsOwn w seen mine → IsCommitOf o seen w plan
     → IsCommitted o w plan.q seen mine seen' mine' (Stale guard at)

@@ -5,7 +5,7 @@ use ra_model::Instance;
 use ra_turn::{Pass, Story};
 
 /// What a journal was opened with. Only clauses name this type; no value of it is made.
-pub struct Opening {
+pub struct Opened {
     /// The instance.
     pub inst: Instance,
     /// The initial assignment.
@@ -29,7 +29,7 @@ impl<'a> Story for Book<'a> {
 
     type Note = Entry;
 
-    type Opening = Opening;
+    type Opening = Opened;
 
     ghost opening = { opened_by };
 

@@ -8,6 +8,6 @@ mod labour;
 mod numbering;
 mod shared;
 
-pub use books::{Book, Opening, WorkerPass};
+pub use books::{Book, Opened, WorkerPass};
 pub use labour::{Labour, all_labour};
 pub use shared::Shared;

@@ -5,16 +5,17 @@ use Rattle.ra_base.specs.Listed.{Listed}
 use Rattle.ra_base.specs.declared.ids.Machine.{Machine}
 use Rattle.ra_draws.specs.declared.budgets.Lots.{Lots}
 use Rattle.ra_model.specs.declared.numbers.Instance.{Instance}
-use Rattle.ra_model.specs.declared.raw.Tables.{Tables}
 use Rattle.ra_journal.specs.declared.entries.Entry.{Entry}
 use Rattle.ra_journal.specs.Committing.{next_entry}
 use Rattle.ra_journal.specs.Entries.{entry_at, worker_count, proposal_count}
 use Rattle.ra_journal.specs.Legal.{Legal}
+use Rattle.ra_journal.specs.Openings.{Opening}
+use Rattle.ra_journal.specs.Journals.{opening_in}
 use Rattle.ra_journal.proofs.RoomLemmas.{AreNumbered, entries_few}
 use Rattle.ra_journal.proofs.Places.{entry_added}
 use Rattle.ra_report.specs.JournalTexts.{entry_line}
 use Rattle.ra_worker.specs.declared.replica.Replica.{Replica}
-use Rattle.ra_worker.proofs.TurnLemmas.{same_legal}
+use Rattle.ra_worker.proofs.OpeningLemmas.{same_parts}
 use Rattle.ra_worker.specs.declared.events.CoreReply.{CoreReply}
 use Rattle.ra_worker.specs.Core.{core_place_of, turn}
 use Rattle.ra_worker.specs.AllReplicas.{AreAt, core_of}
@@ -26,7 +27,7 @@ use Rattle.ra_verify.proofs.FollowLemmas.{last_legal, one_next_entry, is_taken, 
 pub may_stand : (c : Checker) (e : Entry) (w q : ℕ) → IsOpen c → MayFollow c e → e.worker ≡ w → e.q ≡ q → MayStand c w q
 may_stand c e w q ready legal own at =
     let j = c.journal in
-    let next = last_legal j.inst.now.tables j.a0.now.items j.lots.now (checker_entries c) e legal in
+    let next = last_legal (opening_in j) (checker_entries c) e legal in
     let exists : w < worker_count j.lots.now = subst (λ k. k < worker_count j.lots.now) own next.numbered.worker in
     record {
       worker = exists;
@@ -38,7 +39,7 @@ may_stand c e w q ready legal own at =
 
 -- a turn that was recorded
 next_own : (c : Checker) (w q : ℕ) →
-    (next_entry c.journal.inst.now.tables c.journal.a0.now.items c.journal.lots.now (checker_entries c) w q).worker ≡ w
+    (next_entry (opening_in c.journal) (checker_entries c) w q).worker ≡ w
 unfolding next_entry
 next_own c w q = refl
 
@@ -46,29 +47,32 @@ places_long : (h : List Entry) (rs : List Replica) → length (core_of h rs).pla
 unfolding core_of
 places_long h rs = length-map rs (λ (r : Replica). r.place)
 
+pub same_run : (c d : Checker) → IsSameRun c d → opening_in d.journal ≡ opening_in c.journal
+same_run c d same = same_parts d.journal.inst.now.tables c.journal.inst.now.tables d.journal.a0.now.items
+    c.journal.a0.now.items d.journal.lots.now c.journal.lots.now (ap (λ (x : Instance). x.tables) same.instance)
+    (ap (λ (x : Listed Machine). x.items) same.initial) same.lots
+
 pub taken : (c d : Checker) (w q : ℕ) (reply : CoreReply) → IsOpen c → MayStand c w q → IsSameRun c d →
     checker_entries d ≡
-    (turn c.journal.inst.now.tables c.journal.a0.now.items c.journal.lots.now (checker_entries c) w q).journal →
-    reply ≡ (turn c.journal.inst.now.tables c.journal.a0.now.items c.journal.lots.now (checker_entries c) w q).reply →
+    (turn (opening_in c.journal) (checker_entries c) w q).journal →
+    reply ≡ (turn (opening_in c.journal) (checker_entries c) w q).reply →
     is_recorded reply ≡ true → (checker_core d).places ≡ set (checker_core c).places w q →
     HasTakenEntry c d
-    (next_entry c.journal.inst.now.tables c.journal.a0.now.items c.journal.lots.now (checker_entries c) w q)
+    (next_entry (opening_in c.journal) (checker_entries c) w q)
 taken c d w q reply ready stands same journal reply_is was places =
     let j = c.journal in
-    let e = next_entry j.inst.now.tables j.a0.now.items j.lots.now (checker_entries c) w q in
+    let e = next_entry (opening_in j) (checker_entries c) w q in
     let added : checker_entries d ≡ checker_entries c ++ e ∷ [] =
-    is_taken j.inst.now.tables j.a0.now.items j.lots.now (checker_entries c) (checker_entries d) w q reply journal
+    is_taken (opening_in j) (checker_entries c) (checker_entries d) w q reply journal
     reply_is
     was in
-    let legal : Legal j.inst.now.tables j.a0.now.items j.lots.now (checker_entries d) =
-    same_legal j.inst.now.tables d.journal.inst.now.tables j.a0.now.items d.journal.a0.now.items j.lots.now
-    d.journal.lots.now (checker_entries d) d.journal.kept.legal (ap (λ (x : Instance). x.tables) same.instance)
-    (ap (λ (x : Listed Machine). x.items) same.initial) same.lots in
+    let legal : Legal (opening_in j) (checker_entries d) =
+    subst (λ (o : Opening). Legal o (checker_entries d)) (same_run c d same) d.journal.kept.legal in
     let there : w < length (checker_core c).places =
     omega (arith, places_long (checker_entries c) c.replicas.items, c.at.one_each, stands.worker) in
     record {
       entries = added;
-      legal = subst (Legal j.inst.now.tables j.a0.now.items j.lots.now) added legal;
+      legal = subst (Legal (opening_in j)) added legal;
       ready = subst (λ (l : Lots). NoneIsPast l (checker_entries d) (checker_core d)) (sym same.lots)
           (none_past j.lots.now (checker_entries c) (checker_entries d) (checker_core c) (checker_core d) w q e ready
           added (next_own c w q)
@@ -97,25 +101,25 @@ pub only_taken : (c d : Checker) (f e entry : Entry) (at : ℕ) → HasTakenEntr
 only_taken c d f e entry at has legal own q at_is entry_is =
     let j = c.journal in
     ap₂ entry_line at_is (last_taken c d f entry at has at_is entry_is
-    ∙ sym (one_next_entry j.inst.now.tables j.a0.now.items j.lots.now (checker_entries c) e f legal has.legal own q))
+    ∙ sym (one_next_entry (opening_in j) (checker_entries c) e f legal has.legal own q))
 
 -- before the first entry
-start_place : (i : Tables) (a0 : List Machine) (l : Lots) (h : List Entry) (rs : List Replica) (w : ℕ) →
-    AreAt i a0 l [] rs → w < length rs → core_place_of (core_of h rs) w ≡ 0
+start_place : (o : Opening) (h : List Entry) (rs : List Replica) (w : ℕ) →
+    AreAt o [] rs → w < length rs → core_place_of (core_of h rs) w ≡ 0
 unfolding core_place_of core_of
-start_place i a0 l h [] w at there = absurd (omega (arith, there))
-start_place i a0 l h (r ∷ rs) w at there =
+start_place o h [] w at there = absurd (omega (arith, there))
+start_place o h (r ∷ rs) w at there =
     let here : Replica = get_or (r ∷ rs) w r in
     let same : get_or (r ∷ rs) w here ≡ here = get_or_default (r ∷ rs) w here r there in
     let place : here.place ≤ 0 = (at.each w here there same).at.place in
     get_or-map (λ (x : Replica). x.place) (r ∷ rs) w here 0 there ∙ ap (λ (x : Replica). x.place) same
     ∙ omega (arith, place)
 
-pub open_start : (i : Tables) (a0 : List Machine) (l m : Lots) (h : List Entry) (rs : List Replica) →
-    AreAt i a0 l [] rs → m ≡ l → NoneIsPast m h (core_of h rs)
-open_start i a0 l m h rs at lots =
+pub open_start : (o : Opening) (m : Lots) (h : List Entry) (rs : List Replica) → AreAt o [] rs → m ≡ o.lots →
+    NoneIsPast m h (core_of h rs)
+open_start o m h rs at lots =
     none_past_start m h (core_of h rs)
-    (λ w exists. start_place i a0 l h rs w at (omega (arith, at.one_each, ap worker_count lots, exists)))
+    (λ w exists. start_place o h rs w at (omega (arith, at.one_each, ap worker_count lots, exists)))
 
 -- an entry more leaves fewer proposals
 pub more_smaller : (c d : Checker) → HasTakenSomeEntry c d → IsSameRun c d →

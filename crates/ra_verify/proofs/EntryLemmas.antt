@@ -3,9 +3,6 @@ use Rattle.std.proofs.Common.{◌≡◌, ℕ, ◌+◌, ◌-◌, ◌<◌, ◌≤�
 use Rattle.std.proofs.lemmas.Bool.{cases_lt}
 use Rattle.std.proofs.lemmas.List.{length_push, take-append-le}
 use Rattle.std.proofs.lemmas.Option.{slice_get_within}
-use Rattle.ra_base.specs.declared.ids.Machine.{Machine}
-use Rattle.ra_draws.specs.declared.budgets.Lots.{Lots}
-use Rattle.ra_model.specs.declared.raw.Tables.{Tables}
 use Rattle.ra_token.specs.declared.line_answers.Next.{Next}
 use Rattle.ra_token.specs.declared.line_answers.Next.TheVariants.{Line, Last, Long, End}
 use Rattle.ra_token.specs.Lines.{lines_of, line_at, joined_lines, ends_line, body_of}
@@ -14,6 +11,7 @@ use Rattle.ra_token.proofs.SplitLaws.{joined_back}
 use Rattle.ra_journal.specs.declared.entries.Entry.{Entry}
 use Rattle.ra_journal.specs.Entries.{entry_at}
 use Rattle.ra_journal.specs.Legal.{Legal}
+use Rattle.ra_journal.specs.Openings.{Opening}
 use Rattle.ra_journal.proofs.Places.{entry_before, entry_added}
 use Rattle.ra_report.specs.JournalTexts.{entry_line}
 use Rattle.ra_report.proofs.LineEnds.{entry_is_line, line_ends}
@@ -30,9 +28,9 @@ told_map None P Q f p = tt
 told_map (Some bytes) P Q f p = f bytes p
 
 -- nothing was read but the head
-pub read_head_only : (i : Tables) (a0 : List Machine) (l : Lots) (bytes : List ℕ) (place : ℕ) (h : List Entry) →
-    Legal i a0 l h → h ≡ [] → AreLines bytes place 10 → AreRead i a0 l bytes place h
-read_head_only i a0 l bytes place h legal none given = record {
+pub read_head_only : (o : Opening) (bytes : List ℕ) (place : ℕ) (h : List Entry) →
+    Legal o h → h ≡ [] → AreLines bytes place 10 → AreRead o bytes place h
+read_head_only o bytes place h legal none given = record {
   given = record { lines = given.lines; number = given.number ∙ ap (λ (x : List Entry). 10 + length x) (sym none) };
   right = record {
     legal = legal;
@@ -41,12 +39,12 @@ read_head_only i a0 l bytes place h legal none given = record {
 }
 
 -- the line of an entry more
-pub read_more : (i : Tables) (a0 : List Machine) (l : Lots) (bytes : List ℕ) (place after : ℕ) (h g : List Entry)
-    (e : Entry) (line : List ℕ) → place ≤ after → AreRead i a0 l bytes place h →
+pub read_more : (o : Opening) (bytes : List ℕ) (place after : ℕ) (h g : List Entry)
+    (e : Entry) (line : List ℕ) → place ≤ after → AreRead o bytes place h →
     drop place bytes ≡ line ++ drop after bytes → lines_of (drop place bytes) ≡ line ∷ lines_of (drop after bytes) →
-    ends_line line ≡ true → line ≡ entry_line (length h) e → g ≡ h ++ e ∷ [] → Legal i a0 l g →
-    AreRead i a0 l bytes after g
-read_more i a0 l bytes place after h g e line on read split lines ended text g_is legal =
+    ends_line line ≡ true → line ≡ entry_line (length h) e → g ≡ h ++ e ∷ [] → Legal o g →
+    AreRead o bytes after g
+read_more o bytes place after h g e line on read split lines ended text g_is legal =
     let given = lines_more bytes line place after (10 + length h) on read.given split lines ended in
     let long : length g ≡ length h + 1 = ap (λ (x : List Entry). length x) g_is ∙ omega (arith, length_push h e) in
     record {
@@ -116,12 +114,12 @@ same_some : (x y : List ℕ) → Some x ≡ Some y → x ≡ y
 same_some x y e = ap (λ (o : Option (List ℕ)). unwrap_or o []) e
 
 -- the next line is there, and what it would take to be right doesn't hold
-wrong_line : (i : Tables) (a0 : List Machine) (l : Lots) (bytes line : List ℕ) (others : List (List ℕ)) (place n : ℕ)
-    (h : List Entry) → AreRead i a0 l bytes place h → lines_of (drop place bytes) ≡ line ∷ others →
-    ((e : Entry) → Legal i a0 l (h ++ e ∷ []) → line ≡ entry_line (length h) e → ⊥) → n ≡ 11 + length h →
-    IsWrongNext i a0 l bytes h n
+wrong_line : (o : Opening) (bytes line : List ℕ) (others : List (List ℕ)) (place n : ℕ)
+    (h : List Entry) → AreRead o bytes place h → lines_of (drop place bytes) ≡ line ∷ others →
+    ((e : Entry) → Legal o (h ++ e ∷ []) → line ≡ entry_line (length h) e → ⊥) → n ≡ 11 + length h →
+    IsWrongNext o bytes h n
 unfolding line_at
-wrong_line i a0 l bytes line others place n h read lines wrong number =
+wrong_line o bytes line others place n h read lines wrong number =
     let here = line_next bytes line others place (10 + length h) read.given lines in
     record {
       right = read.right;
@@ -131,19 +129,19 @@ wrong_line i a0 l bytes line others place n h read lines wrong number =
     }
 
 -- the last line has no LF
-pub wrong_last : (i : Tables) (a0 : List Machine) (l : Lots) (bytes : List ℕ) (place n : ℕ) (h : List Entry) →
-    AreRead i a0 l bytes place h → lines_of (drop place bytes) ≡ drop place bytes ∷ [] →
-    ends_line (drop place bytes) ≡ false → n ≡ 11 + length h → IsWrongNext i a0 l bytes h n
-wrong_last i a0 l bytes place n h read lines unended number =
-    wrong_line i a0 l bytes (drop place bytes) [] place n h read lines
+pub wrong_last : (o : Opening) (bytes : List ℕ) (place n : ℕ) (h : List Entry) →
+    AreRead o bytes place h → lines_of (drop place bytes) ≡ drop place bytes ∷ [] →
+    ends_line (drop place bytes) ≡ false → n ≡ 11 + length h → IsWrongNext o bytes h n
+wrong_last o bytes place n h read lines unended number =
+    wrong_line o bytes (drop place bytes) [] place n h read lines
     (λ e legal is. let ended : ends_line (drop place bytes) ≡ true = ap ends_line is
     ∙ line_ends (entry_line (length h) e) (entry_is_line (length h) e) in (cc))
     number
 
 -- all entry lines were read
-pub read_all : (i : Tables) (a0 : List Machine) (l : Lots) (bytes : List ℕ) (place : ℕ) (h : List Entry) →
-    AreRead i a0 l bytes place h → length (lines_of bytes) ≡ 10 + length h → AreAllRight i a0 l bytes h
-read_all i a0 l bytes place h read long = record { right = read.right; all = omega (arith, long) }
+pub read_all : (o : Opening) (bytes : List ℕ) (place : ℕ) (h : List Entry) →
+    AreRead o bytes place h → length (lines_of bytes) ≡ 10 + length h → AreAllRight o bytes h
+read_all o bytes place h read long = record { right = read.right; all = omega (arith, long) }
 
 -- a line that was given to the check of entries
 pub record WasGiven (bytes : List ℕ) (place after : ℕ) (line : List ℕ) : Type 0 where
@@ -151,44 +149,44 @@ pub record WasGiven (bytes : List ℕ) (place after : ℕ) (line : List ℕ) : T
   pub text : line ≡ take (after - place) (drop place bytes)
 
 -- and what the check says of it
-pub record IsChecked (i : Tables) (a0 : List Machine) (l : Lots) (h : List Entry) (line : List ℕ) (front longest : ℕ) :
+pub record IsChecked (o : Opening) (h : List Entry) (line : List ℕ) (front longest : ℕ) :
     Type 0 where
-  pub wrong : (e : Entry) → Legal i a0 l (h ++ e ∷ []) → line ≡ entry_line (length h) e → ⊥
-  pub short : (e : Entry) (rest : List ℕ) → Legal i a0 l (h ++ e ∷ []) → front ≤ length line →
+  pub wrong : (e : Entry) → Legal o (h ++ e ∷ []) → line ≡ entry_line (length h) e → ⊥
+  pub short : (e : Entry) (rest : List ℕ) → Legal o (h ++ e ∷ []) → front ≤ length line →
       line ++ rest ≡ entry_line (length h) e → length (entry_line (length h) e) ≤ longest
 
-pub entry_taken : (i : Tables) (a0 : List Machine) (l : Lots) (bytes : List ℕ) (place after room : ℕ) (h g : List Entry)
-    (e : Entry) (line : List ℕ) (next : Next) → (next ≡ Line) ⊎ (next ≡ Long) → AreRead i a0 l bytes place h →
+pub entry_taken : (o : Opening) (bytes : List ℕ) (place after room : ℕ) (h g : List Entry)
+    (e : Entry) (line : List ℕ) (next : Next) → (next ≡ Line) ⊎ (next ≡ Long) → AreRead o bytes place h →
     IsNextLine room (drop place bytes) (drop after bytes) next → WasGiven bytes place after line →
-    (next ≡ Long → after ≡ place + room + 1) → line ≡ entry_line (length h) e → g ≡ h ++ e ∷ [] → Legal i a0 l g →
-    AreRead i a0 l bytes after g
-entry_taken i a0 l bytes place after room h g e line Line which read is given far text g_is legal =
+    (next ≡ Long → after ≡ place + room + 1) → line ≡ entry_line (length h) e → g ≡ h ++ e ∷ [] → Legal o g →
+    AreRead o bytes after g
+entry_taken o bytes place after room h g e line Line which read is given far text g_is legal =
     let same : is.line ≡ entry_line (length h) e = sym (piece_is bytes is.line place after given.on is.split)
     ∙ sym given.text ∙ text in
-    read_more i a0 l bytes place after h g e is.line given.on read is.split is.lines is.ended same g_is legal
-entry_taken i a0 l bytes place after room h g e line Long which read is given far text g_is legal =
+    read_more o bytes place after h g e is.line given.on read is.split is.lines is.ended same g_is legal
+entry_taken o bytes place after room h g e line Long which read is given far text g_is legal =
     absurd (front_is_no_entry (drop place bytes) line room (length h) e is
     (given.text ∙ ap (λ (k : ℕ). take k (drop place bytes)) {x = after - place} {y = room + 1}
     (omega (arith, far refl))) text)
-entry_taken i a0 l bytes place after room h g e line Last which read is given far text g_is legal =
+entry_taken o bytes place after room h g e line Last which read is given far text g_is legal =
     absurd (⊎_elim (λ (a : Last ≡ Line). (cc)) (λ (a : Last ≡ Long). (cc)) which)
-entry_taken i a0 l bytes place after room h g e line End which read is given far text g_is legal =
+entry_taken o bytes place after room h g e line End which read is given far text g_is legal =
     absurd (⊎_elim (λ (a : End ≡ Line). (cc)) (λ (a : End ≡ Long). (cc)) which)
 
-pub entry_wrong : (i : Tables) (a0 : List Machine) (l : Lots) (bytes : List ℕ) (place after room n front : ℕ)
+pub entry_wrong : (o : Opening) (bytes : List ℕ) (place after room n front : ℕ)
     (h : List Entry) (line : List ℕ) (next : Next) → (next ≡ Line) ⊎ (next ≡ Long) → front ≤ room →
-    AreRead i a0 l bytes place h → IsNextLine room (drop place bytes) (drop after bytes) next →
+    AreRead o bytes place h → IsNextLine room (drop place bytes) (drop after bytes) next →
     WasGiven bytes place after line → (next ≡ Long → after ≡ place + room + 1) →
-    IsChecked i a0 l h line front (room + 1) → n ≡ 11 + length h → IsWrongNext i a0 l bytes h n
-entry_wrong i a0 l bytes place after room n front h line Line which few read is given far checked number =
-    wrong_line i a0 l bytes is.line (lines_of (drop after bytes)) place n h read is.lines
+    IsChecked o h line front (room + 1) → n ≡ 11 + length h → IsWrongNext o bytes h n
+entry_wrong o bytes place after room n front h line Line which few read is given far checked number =
+    wrong_line o bytes is.line (lines_of (drop after bytes)) place n h read is.lines
     (λ e legal same. checked.wrong e legal (given.text ∙ piece_is bytes is.line place after given.on is.split ∙ same))
     number
-entry_wrong i a0 l bytes place after room n front h line Long which few read is given far checked number =
+entry_wrong o bytes place after room n front h line Long which few read is given far checked number =
     let text : line ≡ take (room + 1) (drop place bytes) = given.text
     ∙ ap (λ (k : ℕ). take k (drop place bytes)) {x = after - place} {y = room + 1} (omega (arith, far refl)) in
     let long : length line ≡ room + 1 = front_long (drop place bytes) line room is text in
-    wrong_line i a0 l bytes is.line is.others place n h read is.lines
+    wrong_line o bytes is.line is.others place n h read is.lines
     (λ e legal same.
     let parts = front_of_long (drop place bytes) line room (length h) e is text same in
     omega (arith, parts.1, checked.short e (drop (room + 1) is.line) legal (omega (arith, long, few)) parts.0)) number
@@ -199,17 +197,17 @@ entry_wrong i a0 l bytes place after room n front h line Long which few read is 
         let cut : part ≡ take (most + 1) b.line = part_is
         ∙ long_front rest b.line b.others (most + 1) b.lines (omega (arith, b.long)) in
         omega (arith, ap (λ (x : List ℕ). length x) cut, length-take (most + 1) b.line, body_within b.line, b.long)
-entry_wrong i a0 l bytes place after room n front h line Last which few read is given far checked number =
+entry_wrong o bytes place after room n front h line Last which few read is given far checked number =
     absurd (⊎_elim (λ (a : Last ≡ Line). (cc)) (λ (a : Last ≡ Long). (cc)) which)
-entry_wrong i a0 l bytes place after room n front h line End which few read is given far checked number =
+entry_wrong o bytes place after room n front h line End which few read is given far checked number =
     absurd (⊎_elim (λ (a : End ≡ Line). (cc)) (λ (a : End ≡ Long). (cc)) which)
 
 -- the line is the text of an entry that may follow, and g has this entry more than h
-pub record IsTakenIn (i : Tables) (a0 : List Machine) (l : Lots) (h g : List Entry) (line : List ℕ) : Type 0 where
+pub record IsTakenIn (o : Opening) (h g : List Entry) (line : List ℕ) : Type 0 where
   pub entry : Entry
   pub text : line ≡ entry_line (length h) entry
   pub entries : g ≡ h ++ entry ∷ []
-  pub legal : Legal i a0 l g
+  pub legal : Legal o g
 
 abbrev Comes : Option (List ℕ) → ℕ → ℕ → ℕ → Next → Type 0
 Comes told place after room next = IfSome told (λ bytes. IsNextLine room (drop place bytes) (drop after bytes) next)
@@ -223,36 +221,36 @@ told_given (Some bytes) place after before buffer line on empty line_is given = 
   text = line_is ∙ given ∙ ap (λ (t : List ℕ). t ++ take (after - place) (drop place bytes)) empty;
 }
 
-pub told_taken : {P : Type 0} (told : Option (List ℕ)) (i : Tables) (a0 : List Machine) (l : Lots)
+pub told_taken : {P : Type 0} (told : Option (List ℕ)) (o : Opening)
     (place after room : ℕ) (h g : List Entry) (line : List ℕ) (next : Next) → (next ≡ Line) ⊎ (next ≡ Long) →
-    (next ≡ Long → after ≡ place + room + 1) → (P → IsTakenIn i a0 l h g line) →
-    IfSome told (λ bytes. AreRead i a0 l bytes place h) → Comes told place after room next →
-    IfSome told (λ bytes. WasGiven bytes place after line) → IfSome told (λ bytes. P → AreRead i a0 l bytes after g)
-told_taken None i a0 l place after room h g line next which far taken read comes given = tt
-told_taken (Some bytes) i a0 l place after room h g line next which far taken read comes given = λ p.
+    (next ≡ Long → after ≡ place + room + 1) → (P → IsTakenIn o h g line) →
+    IfSome told (λ bytes. AreRead o bytes place h) → Comes told place after room next →
+    IfSome told (λ bytes. WasGiven bytes place after line) → IfSome told (λ bytes. P → AreRead o bytes after g)
+told_taken None o place after room h g line next which far taken read comes given = tt
+told_taken (Some bytes) o place after room h g line next which far taken read comes given = λ p.
     let t = taken p in
-    entry_taken i a0 l bytes place after room h g t.entry line next which read comes given far t.text t.entries t.legal
+    entry_taken o bytes place after room h g t.entry line next which read comes given far t.text t.entries t.legal
 
-pub told_wrong : {P : ℕ → Type 0} (told : Option (List ℕ)) (i : Tables) (a0 : List Machine) (l : Lots)
+pub told_wrong : {P : ℕ → Type 0} (told : Option (List ℕ)) (o : Opening)
     (place after room front : ℕ) (h : List Entry) (line : List ℕ) (next : Next) → (next ≡ Line) ⊎ (next ≡ Long) →
     (next ≡ Long → after ≡ place + room + 1) → front ≤ room →
-    ((n : ℕ) → P n → (n ≡ 11 + length h) × IsChecked i a0 l h line front (room + 1)) →
-    IfSome told (λ bytes. AreRead i a0 l bytes place h) → Comes told place after room next →
+    ((n : ℕ) → P n → (n ≡ 11 + length h) × IsChecked o h line front (room + 1)) →
+    IfSome told (λ bytes. AreRead o bytes place h) → Comes told place after room next →
     IfSome told (λ bytes. WasGiven bytes place after line) →
-    IfSome told (λ bytes. (n : ℕ) → P n → IsWrongNext i a0 l bytes h n)
-told_wrong None i a0 l place after room front h line next which far few checked read comes given = tt
-told_wrong (Some bytes) i a0 l place after room front h line next which far few checked read comes given = λ n p.
+    IfSome told (λ bytes. (n : ℕ) → P n → IsWrongNext o bytes h n)
+told_wrong None o place after room front h line next which far few checked read comes given = tt
+told_wrong (Some bytes) o place after room front h line next which far few checked read comes given = λ n p.
     let c = checked n p in
-    entry_wrong i a0 l bytes place after room n front h line next which few read comes given far c.1 c.0
+    entry_wrong o bytes place after room n front h line next which few read comes given far c.1 c.0
 
-pub told_last : {P : ℕ → Type 0} (told : Option (List ℕ)) (i : Tables) (a0 : List Machine) (l : Lots)
+pub told_last : {P : ℕ → Type 0} (told : Option (List ℕ)) (o : Opening)
     (place after room : ℕ) (h : List Entry) (next : Next) → next ≡ Last → ((n : ℕ) → P n → n ≡ 11 + length h) →
-    IfSome told (λ bytes. AreRead i a0 l bytes place h) → Comes told place after room next →
-    IfSome told (λ bytes. (n : ℕ) → P n → IsWrongNext i a0 l bytes h n)
-told_last None i a0 l place after room h next is number read comes = tt
-told_last (Some bytes) i a0 l place after room h next is number read comes = λ n p.
+    IfSome told (λ bytes. AreRead o bytes place h) → Comes told place after room next →
+    IfSome told (λ bytes. (n : ℕ) → P n → IsWrongNext o bytes h n)
+told_last None o place after room h next is number read comes = tt
+told_last (Some bytes) o place after room h next is number read comes = λ n p.
     let last = subst (IsNextLine room (drop place bytes) (drop after bytes)) is comes in
-    wrong_last i a0 l bytes place n h read last.lines last.unended (number n p)
+    wrong_last o bytes place n h read last.lines last.unended (number n p)
 
 -- the number of the line that is told
 pub same_wrong : {X : Type 0} (a b : ℕ) → (let r : Result X VerifyFault = Err (fault.Wrong a) in r) ≡

@@ -16,73 +16,75 @@ pub record IsHeadSoFar (bytes : List ℕ) (place n : ℕ) (head : List ℕ) : Ty
   pub text : head ≡ take place bytes
   pub short : (k : ℕ) → k < n → over_long bytes k ≡ None
 
-pub so_far_start : (bytes : List ℕ) (place : ℕ) (head : List ℕ) → place ≡ 0 → head ≡ [] → IsHeadSoFar bytes place 0 head
-so_far_start bytes place head start empty = record {
-  given = lines_start bytes place start;
-  text = empty ∙ ap (λ (k : ℕ). take k bytes) {x = 0} {y = place} (sym start);
-  short = λ k before. absurd (omega (arith, before));
-}
+module _ (bytes : List ℕ) where
+  pub so_far_start : (place : ℕ) (head : List ℕ) → place ≡ 0 → head ≡ [] → IsHeadSoFar bytes place 0 head
+  so_far_start place head start empty = record {
+    given = lines_start bytes place start;
+    text = empty ∙ ap (λ (k : ℕ). take k bytes) {x = 0} {y = place} (sym start);
+    short = λ k before. absurd (omega (arith, before));
+  }
 
-short_more : (bytes : List ℕ) (n : ℕ) → ((k : ℕ) → k < n → over_long bytes k ≡ None) → over_long bytes n ≡ None →
-    (k : ℕ) → k < n + 1 → over_long bytes k ≡ None
-short_more bytes n before here k within = ⊎_elim
-    (λ (less : k < n). before k less)
-    (λ (last : n ≤ k). ap (over_long bytes) {x = k} {y = n} (omega (arith, last, within)) ∙ here)
-    (cases_lt k n)
+  short_more : (n : ℕ) → ((k : ℕ) → k < n → over_long bytes k ≡ None) → over_long bytes n ≡ None →
+      (k : ℕ) → k < n + 1 → over_long bytes k ≡ None
+  short_more n before here k within = ⊎_elim
+      (λ (less : k < n). before k less)
+      (λ (last : n ≤ k). ap (over_long bytes) {x = k} {y = n} (omega (arith, last, within)) ∙ here)
+      (cases_lt k n)
 
-text_more : (bytes head more : List ℕ) (place after : ℕ) → place ≤ after → head ≡ take place bytes →
-    more ≡ head ++ take (after - place) (drop place bytes) → more ≡ take after bytes
-text_more bytes head more place after on text more_is = more_is
-    ∙ ap (λ (t : List ℕ). t ++ take (after - place) (drop place bytes)) text ∙ sym (take_on bytes place after on)
+  text_more : (head more : List ℕ) (place after : ℕ) → place ≤ after → head ≡ take place bytes →
+      more ≡ head ++ take (after - place) (drop place bytes) → more ≡ take after bytes
+  text_more head more place after on text more_is = more_is
+      ∙ ap (λ (t : List ℕ). t ++ take (after - place) (drop place bytes)) text ∙ sym (take_on bytes place after on)
 
-pub so_far_line : (bytes : List ℕ) (place after n : ℕ) (head more : List ℕ) → place ≤ after →
-    IsHeadSoFar bytes place n head → more ≡ head ++ take (after - place) (drop place bytes) →
-    BeginsWithLine (most_bytes n) (drop place bytes) (drop after bytes) → IsHeadSoFar bytes after (n + 1) more
-so_far_line bytes place after n head more on before more_is is = record {
-  given = lines_more bytes is.line place after n on before.given is.split is.lines is.ended;
-  text = text_more bytes head more place after on before.text more_is;
-  short = short_more bytes n before.short
-      (short_at bytes is.line n (line_next bytes is.line _ place n before.given is.lines) is.short);
-}
-
-pub head_last : (bytes : List ℕ) (place after n : ℕ) (head more : List ℕ) → place ≤ after → n < 10 →
-    IsHeadSoFar bytes place n head → more ≡ head ++ take (after - place) (drop place bytes) →
-    IsLastLine (most_bytes n) (drop place bytes) (drop after bytes) → IsHead bytes after (n + 1) more
-head_last bytes place after n head more on few before more_is is =
-    let given = lines_last bytes place after n before.given is.lines is.none_left in
-    let so_far =
-    short_more bytes n before.short
-    (short_at bytes (drop place bytes) n (line_next bytes (drop place bytes) [] place n before.given is.lines)
-    is.short) in
-    record {
-      first = record { given = given; few = omega (arith, few); all = λ less. is.none_left };
-      text = text_more bytes head more place after on before.text more_is;
-      short = λ k within. ⊎_elim
-          (λ (there : k < n + 1). so_far k there)
-          (λ (past : n + 1 ≤ k).
-          short_past bytes k (omega (arith, past, lines_end bytes after (n + 1) given is.none_left)))
-          (cases_lt k (n + 1));
+  module _ (place after n : ℕ) (head more : List ℕ) where
+    pub so_far_line : place ≤ after →
+        IsHeadSoFar bytes place n head → more ≡ head ++ take (after - place) (drop place bytes) →
+        BeginsWithLine (most_bytes n) (drop place bytes) (drop after bytes) → IsHeadSoFar bytes after (n + 1) more
+    so_far_line on before more_is is = record {
+      given = lines_more bytes is.line place after n on before.given is.split is.lines is.ended;
+      text = text_more head more place after on before.text more_is;
+      short = short_more n before.short
+          (short_at bytes is.line n (line_next bytes is.line _ place n before.given is.lines) is.short);
     }
 
-pub head_end : (bytes : List ℕ) (place after n : ℕ) (head more : List ℕ) → place ≤ after → n < 10 →
-    IsHeadSoFar bytes place n head → more ≡ head ++ take (after - place) (drop place bytes) → drop place bytes ≡ [] →
-    IsHead bytes after n more
-head_end bytes place after n head more on few before more_is none =
-    let given = lines_still bytes place after n on before.given none in
-    record {
-      first = record { given = given; few = omega (arith, few); all = λ less. none_on bytes place after on none };
-      text = text_more bytes head more place after on before.text more_is;
-      short = λ k within. ⊎_elim
-          (λ (there : k < n). before.short k there)
-          (λ (past : n ≤ k). short_past bytes k (omega (arith, past, lines_end bytes place n before.given none)))
-          (cases_lt k n);
-    }
+    pub head_last : place ≤ after → n < 10 →
+        IsHeadSoFar bytes place n head → more ≡ head ++ take (after - place) (drop place bytes) →
+        IsLastLine (most_bytes n) (drop place bytes) (drop after bytes) → IsHead bytes after (n + 1) more
+    head_last on few before more_is is =
+        let given = lines_last bytes place after n before.given is.lines is.none_left in
+        let so_far =
+        short_more n before.short
+        (short_at bytes (drop place bytes) n (line_next bytes (drop place bytes) [] place n before.given is.lines)
+        is.short) in
+        record {
+          first = record { given = given; few = omega (arith, few); all = λ less. is.none_left };
+          text = text_more head more place after on before.text more_is;
+          short = λ k within. ⊎_elim
+              (λ (there : k < n + 1). so_far k there)
+              (λ (past : n + 1 ≤ k).
+              short_past bytes k (omega (arith, past, lines_end bytes after (n + 1) given is.none_left)))
+              (cases_lt k (n + 1));
+        }
 
-pub head_long : (bytes : List ℕ) (place n : ℕ) (head : List ℕ) → n < 10 → IsHeadSoFar bytes place n head →
-    BeginsOverLong (most_bytes n) (drop place bytes) → first_over_long bytes ≡ Some (n + 1)
-head_long bytes place n head few before is =
-    first_over bytes n few before.short
-    (over_at bytes is.line n (line_next bytes is.line is.others place n before.given is.lines) is.long)
+    pub head_end : place ≤ after → n < 10 →
+        IsHeadSoFar bytes place n head → more ≡ head ++ take (after - place) (drop place bytes) → drop place bytes ≡ [] →
+        IsHead bytes after n more
+    head_end on few before more_is none =
+        let given = lines_still bytes place after n on before.given none in
+        record {
+          first = record { given = given; few = omega (arith, few); all = λ less. none_on bytes place after on none };
+          text = text_more head more place after on before.text more_is;
+          short = λ k within. ⊎_elim
+              (λ (there : k < n). before.short k there)
+              (λ (past : n ≤ k). short_past bytes k (omega (arith, past, lines_end bytes place n before.given none)))
+              (cases_lt k n);
+        }
+
+  pub head_long : (place n : ℕ) (head : List ℕ) → n < 10 → IsHeadSoFar bytes place n head →
+      BeginsOverLong (most_bytes n) (drop place bytes) → first_over_long bytes ≡ Some (n + 1)
+  head_long place n head few before is =
+      first_over bytes n few before.short
+      (over_at bytes is.line n (line_next bytes is.line is.others place n before.given is.lines) is.long)
 
 -- if the bytes are told, `head` is their head so far, as `IsHeadSoFar` says
 abbrev SoFar : Option (List ℕ) → ℕ → ℕ → List ℕ → Type 0

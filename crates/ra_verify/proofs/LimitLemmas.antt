@@ -6,19 +6,20 @@ use Rattle.ra_base.specs.declared.causes.Drawing.TheVariants.{One, Two}
 use Rattle.ra_base.specs.declared.ids.Machine.{Machine}
 use Rattle.ra_bounds.specs.PinnedBounds.{pinned_bound_of}
 use Rattle.ra_bounds.proofs.PinnedLemmas.{none_costs_less_pinned}
-use Rattle.ra_draws.specs.declared.budgets.Lots.{Lots}
 use Rattle.ra_model.specs.declared.raw.Tables.{Tables}
 use Rattle.ra_model.specs.Limits.{WellFormed, Small}
 use Rattle.ra_model.specs.Assignments.{IsAssignment, machine_at}
 use Rattle.ra_model.specs.Feasible.{Feasible}
-use Rattle.ra_model.specs.Costs.{parts_of, objective}
+use Rattle.ra_model.specs.Costs.{parts_of}
+use Rattle.ra_model.specs.Situations.{cost_at, parts_at}
 use Rattle.ra_model.proofs.BoundLemmas.{objective_under, load_under, balance_under, process_under, service_under, machine_under}
 use Rattle.ra_token.specs.Lines.{lines_of, line_at, body_of, HasNoEnd}
 use Rattle.ra_token.proofs.BodyLaws.{body_before}
 use Rattle.ra_journal.specs.declared.entries.Entry.{Entry}
 use Rattle.ra_journal.specs.Best.{best_of}
 use Rattle.ra_journal.specs.Legal.{Legal}
-use Rattle.ra_journal.specs.States.{state}
+use Rattle.ra_journal.specs.States.{state, state_at}
+use Rattle.ra_journal.specs.Openings.{Opening}
 use Rattle.ra_journal.proofs.BestLemmas.{best_within}
 use Rattle.ra_journal.proofs.SoundLemmas.{sound}
 use Rattle.ra_report.specs.Texts.{space, number_text, number_line}
@@ -107,41 +108,47 @@ drawing_few One = omega arith
 drawing_few Two = omega arith
 
 -- the ten lines of a report of a legal journal
-heads_short : (i : Tables) (a0 : List Machine) (l : Lots) (h : List Entry) → WellFormed i → Small i →
-    IsAssignment i a0 → Feasible i a0 a0 → Legal i a0 l h →
-    AreShort 0 (head_lines (parts_of i a0 (state a0 h (best_of i a0 h))) (pinned_bound_of i a0).total (best_of i a0 h)
-    (state a0 h (best_of i a0 h)) l.drawing)
+heads_short : (o : Opening) (h : List Entry) → WellFormed o.tables → Small o.tables →
+    IsAssignment o.tables o.start → Feasible o.tables o.start o.start → Legal o h →
+    AreShort 0 (head_lines (parts_at (state_at o h (best_of o h))) (pinned_bound_of o.tables o.start).total (best_of o h)
+    (state o.start h (best_of o h)) o.lots.drawing)
 unfolding AreShort head_lines most_bytes parts_of best_of body_of
-heads_short i a0 l h limits numbers fits feasible legal =
-    let j = best_of i a0 h in
-    let a = state a0 h j in
-    let within : j ≤ length h = best_within i a0 h (length h) in
-    let right = sound i a0 l h limits fits feasible legal j within in
-    let cost = objective_under i a0 a limits numbers in
-    let bound = (none_costs_less_pinned i a0 a limits right.assignment right.feasible).total in (
-      number_short (codes "cost") (objective i a0 a) 64 refl (omega (arith, cost)) (omega arith),
+heads_short o h limits numbers fits feasible legal =
+    let j = best_of o h in
+    let st = state_at o h j in
+    let within : j ≤ length h = best_within o h (length h) in
+    let right = sound o h limits fits feasible legal j within in
+    let cost = objective_under o.tables o.start st.here limits numbers in
+    let bound = (none_costs_less_pinned o.tables o.start st.here limits right.assignment right.feasible).total in (
+      number_short (codes "cost") (cost_at st) 64 refl (omega (arith, cost)) (omega arith),
       (
-        number_short (codes "load") _ 64 refl (omega (arith, load_under i a limits numbers)) (omega arith),
+        number_short (codes "load") _ 64 refl (omega (arith, load_under o.tables st.here limits numbers)) (omega arith),
         (
-          number_short (codes "balance") _ 64 refl (omega (arith, balance_under i a limits numbers)) (omega arith),
+          number_short (codes "balance") _ 64 refl (omega (arith, balance_under o.tables st.here limits numbers))
+              (omega arith),
           (
-            number_short (codes "process") _ 64 refl (omega (arith, process_under i a0 a limits numbers)) (omega arith),
+            number_short (codes "process") _ 64 refl
+                (omega (arith, process_under o.tables o.start st.here limits numbers)) (omega arith),
             (
-              number_short (codes "service") _ 64 refl (omega (arith, service_under i a0 a limits numbers))
+              number_short (codes "service") _ 64 refl
+                  (omega (arith, service_under o.tables o.start st.here limits numbers))
                   (omega arith),
               (
-                number_short (codes "machine") _ 64 refl (omega (arith, machine_under i a0 a limits numbers))
+                number_short (codes "machine") _ 64 refl
+                    (omega (arith, machine_under o.tables o.start st.here limits numbers))
                     (omega arith),
                 (
-                  number_short (codes "bound") (pinned_bound_of i a0).total 64 refl (omega (arith, bound, cost))
+                  number_short (codes "bound") (pinned_bound_of o.tables o.start).total 64 refl
+                      (omega (arith, bound, cost))
                       (omega arith),
                   (
-                    number_short (codes "best_at") j 64 refl (omega (arith, within, few_entries i a0 l h legal))
+                    number_short (codes "best_at") j 64 refl (omega (arith, within, few_entries o h legal))
                         (omega arith),
                     (
-                      assignment_short i a limits right.assignment,
+                      assignment_short o.tables st.here limits right.assignment,
                       (
-                        number_short (codes "draws") (drawing_number l.drawing) 64 refl (drawing_few l.drawing)
+                        number_short (codes "draws") (drawing_number o.lots.drawing) 64 refl
+                            (drawing_few o.lots.drawing)
                             (omega arith),
                         tt,
                       ),
@@ -156,30 +163,31 @@ heads_short i a0 l h limits numbers fits feasible legal =
     )
 
 -- none of them is over long
-report_short : (i : Tables) (a0 : List Machine) (l : Lots) (h : List Entry) (k : ℕ) → WellFormed i → Small i →
-    IsAssignment i a0 → Feasible i a0 a0 → Legal i a0 l h → k < 10 → over_long (report_text i a0 l h) k ≡ None
+report_short : (o : Opening) (h : List Entry) (k : ℕ) → WellFormed o.tables → Small o.tables →
+    IsAssignment o.tables o.start → Feasible o.tables o.start o.start → Legal o h → k < 10 →
+    over_long (report_text o h) k ≡ None
 unfolding line_at report_head head_lines
-report_short i a0 l h k limits numbers fits feasible legal within =
-    let j = best_of i a0 h in
-    let a = state a0 h j in
-    let lines = head_lines (parts_of i a0 a) (pinned_bound_of i a0).total j a l.drawing in
-    let head : lines_of (report_head i a0 l h) ≡ lines =
-    head_alone (parts_of i a0 a) (pinned_bound_of i a0).total j a l.drawing in
+report_short o h k limits numbers fits feasible legal within =
+    let j = best_of o h in
+    let st = state_at o h j in
+    let lines = head_lines (parts_at st) (pinned_bound_of o.tables o.start).total j st.here o.lots.drawing in
+    let head : lines_of (report_head o h) ≡ lines =
+    head_alone (parts_at st) (pinned_bound_of o.tables o.start).total j st.here o.lots.drawing in
     let there : slice_get lines k ≡ Some (get_or lines k []) = slice_get-get_or lines k [] within in
-    let at : line_at k (report_text i a0 l h) ≡ Some (get_or lines k []) = report_at i a0 l h k within
+    let at : line_at k (report_text o h) ≡ Some (get_or lines k []) = report_at o h k within
     ∙ ap (λ (t : List (List ℕ)). slice_get t k) head ∙ there in
-    short_at (report_text i a0 l h) (get_or lines k []) k at
+    short_at (report_text o h) (get_or lines k []) k at
     (subst (λ (m : ℕ). length (body_of (get_or lines k [])) ≤ most_bytes m) {x = 0 + k} {y = k} (omega arith)
-    (short_there 0 lines k (get_or lines k []) (heads_short i a0 l h limits numbers fits feasible legal) there))
+    (short_there 0 lines k (get_or lines k []) (heads_short o h limits numbers fits feasible legal) there))
 
 pub report_has_none_wrong : ReportHasNoneWrong
-report_has_none_wrong i a0 l bytes n limits numbers fits feasible is = rw is.text (record {
-  short = none_over (report_text i a0 l is.journal)
-      (λ k within. report_short i a0 l is.journal k limits numbers fits feasible is.legal within);
+report_has_none_wrong o bytes n limits numbers fits feasible is = rw is.text (record {
+  short = none_over (report_text o is.journal)
+      (λ k within. report_short o is.journal k limits numbers fits feasible is.legal within);
   journal = is.journal;
   right = record {
-    right = record { legal = is.legal; lines = λ j within. report_entry_at i a0 l is.journal j within };
-    all = omega (arith, report_long i a0 l is.journal);
+    right = record { legal = is.legal; lines = λ j within. report_entry_at o is.journal j within };
+    all = omega (arith, report_long o is.journal);
   };
   whole = is.whole;
   head = λ k within. refl;

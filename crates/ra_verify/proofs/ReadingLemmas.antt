@@ -45,150 +45,153 @@ body_front (suc n) (b ∷ x) within = either (eqb b 10) within (λ few. body_fro
     either true few more = absurd (omega (arith, few))
     either false few more = omega (arith, more (omega (arith, few)))
 
-drop_on : (bytes : List ℕ) (place after : ℕ) → place ≤ after → drop (after - place) (drop place bytes) ≡
-    drop after bytes
-drop_on bytes place after on = drop-drop (after - place) place bytes
-    ∙ ap (λ (k : ℕ). drop k bytes) {x = place + (after - place)} {y = after} (omega (arith, on))
-
--- a line that was given
-pub piece_is : (bytes line : List ℕ) (place after : ℕ) → place ≤ after → drop place bytes ≡ line ++ drop after bytes →
-    take (after - place) (drop place bytes) ≡ line
-piece_is bytes line place after on split =
-    let behind : drop (after - place) (drop place bytes) ≡ drop after bytes = drop_on bytes place after on in
-    append_cancel_right (take (after - place) (drop place bytes)) line (drop after bytes)
-    (ap (λ (t : List ℕ). take (after - place) (drop place bytes) ++ t) (sym behind)
-    ∙ take-append-drop (after - place) (drop place bytes) ∙ split)
-
-pub take_on : (bytes : List ℕ) (place after : ℕ) → place ≤ after →
-    take after bytes ≡ take place bytes ++ take (after - place) (drop place bytes)
-take_on bytes place after on = ap (λ (k : ℕ). take k bytes) {x = after} {y = place + (after - place)}
-    (omega (arith, on)) ∙ take-add place (after - place) bytes
-
-all_of : (bytes : List ℕ) (after : ℕ) → drop after bytes ≡ [] → take after bytes ≡ bytes
-all_of bytes after none = sym (append-nil (take after bytes)) ∙ ap (λ (t : List ℕ). take after bytes ++ t) (sym none)
-    ∙ take-append-drop after bytes
-
-pub none_on : (bytes : List ℕ) (place after : ℕ) → place ≤ after → drop place bytes ≡ [] → drop after bytes ≡ []
-none_on bytes place after on none =
-    sym (drop_on bytes place after on) ∙ ap (drop (after - place)) none ∙ drop_none (after - place)
-  where
-    drop_none : (n : ℕ) → drop {A = ℕ} n [] ≡ []
-    drop_none zero = refl
-    drop_none (suc n) = refl
-
 lines_none : lines_of [] ≡ []
 unfolding lines_of
 lines_none = refl
 
--- before the first line
-pub lines_start : (bytes : List ℕ) (place : ℕ) → place ≡ 0 → AreLines bytes place 0
-lines_start bytes place start = rw start (record {
-  lines = ap (λ (t : List (List ℕ)). t ++ lines_of bytes) (sym lines_none);
-  number = ap (λ (t : List (List ℕ)). length t) lines_none;
-})
+module _ (bytes : List ℕ) where
+  all_of : (after : ℕ) → drop after bytes ≡ [] → take after bytes ≡ bytes
+  all_of after none = sym (append-nil (take after bytes)) ∙ ap (λ (t : List ℕ). take after bytes ++ t) (sym none)
+      ∙ take-append-drop after bytes
 
--- one line more
-pub lines_more : (bytes line : List ℕ) (place after n : ℕ) → place ≤ after → AreLines bytes place n →
-    drop place bytes ≡ line ++ drop after bytes → lines_of (drop place bytes) ≡ line ∷ lines_of (drop after bytes) →
-    ends_line line ≡ true → AreLines bytes after (n + 1)
-lines_more bytes line place after n on given split lines ended =
-    let ends : ends_line (take after bytes) ≡ true =
-    subst (λ (t : List ℕ). ends_line t ≡ true)
-    (sym (take_on bytes place after on
-    ∙ ap (λ (t : List ℕ). take place bytes ++ t) (piece_is bytes line place after on split)))
-    (ends_append (take place bytes) line ended) in
-    let both : lines_of bytes ≡ lines_of (take after bytes) ++ lines_of (drop after bytes) =
-    ap lines_of (sym (take-append-drop after bytes)) ∙ lines_append (take after bytes) (drop after bytes) ends in
-    record {
-      lines = both;
-      number = omega (
-        arith,
-        ap (λ (t : List (List ℕ)). length t) both,
-        length-append (lines_of (take after bytes)) (lines_of (drop after bytes)),
-        ap (λ (t : List (List ℕ)). length t) given.lines,
-        length-append (lines_of (take place bytes)) (lines_of (drop place bytes)),
-        ap (λ (t : List (List ℕ)). length t) lines,
-        given.number,
-      );
-    }
+  module _ (place : ℕ) where
+    module _ (after : ℕ) where
+      drop_on : place ≤ after → drop (after - place) (drop place bytes) ≡
+          drop after bytes
+      drop_on on = drop-drop (after - place) place bytes
+          ∙ ap (λ (k : ℕ). drop k bytes) {x = place + (after - place)} {y = after} (omega (arith, on))
 
--- line n is the one that comes next
-pub line_next : (bytes line : List ℕ) (others : List (List ℕ)) (place n : ℕ) → AreLines bytes place n →
-    lines_of (drop place bytes) ≡ line ∷ others → line_at n bytes ≡ Some line
-unfolding line_at
-line_next bytes line others place n given lines =
-    ap (λ (t : List (List ℕ)). slice_get t n)
-    (given.lines ∙ ap (λ (t : List (List ℕ)). lines_of (take place bytes) ++ t) lines)
-    ∙ ap (slice_get (lines_of (take place bytes) ++ line ∷ others)) {x = n}
-    {y = length (lines_of (take place bytes)) + 0} (omega (arith, given.number))
-    ∙ got_behind (lines_of (take place bytes)) (line ∷ others) 0
+      pub take_on : place ≤ after →
+          take after bytes ≡ take place bytes ++ take (after - place) (drop place bytes)
+      take_on on = ap (λ (k : ℕ). take k bytes) {x = after} {y = place + (after - place)}
+          (omega (arith, on)) ∙ take-add place (after - place) bytes
 
--- the last line, without LF
-pub lines_last : (bytes : List ℕ) (place after n : ℕ) → AreLines bytes place n →
-    lines_of (drop place bytes) ≡ drop place bytes ∷ [] → drop after bytes ≡ [] → AreLines bytes after (n + 1)
-lines_last bytes place after n given lines none =
-    let all = all_of bytes after none in
-    record {
-      lines = sym (append-nil (lines_of bytes))
-          ∙ ap (λ (t : List (List ℕ)). lines_of bytes ++ t) (sym (ap lines_of none ∙ lines_none))
-          ∙ ap (λ (t : List ℕ). lines_of t ++ lines_of (drop after bytes)) (sym all);
-      number = omega (
-        arith,
-        ap (λ (t : List ℕ). length (lines_of t)) all,
-        ap (λ (t : List (List ℕ)). length t) given.lines,
-        length-append (lines_of (take place bytes)) (lines_of (drop place bytes)),
-        ap (λ (t : List (List ℕ)). length t) lines,
-        given.number,
-      );
-    }
+      pub none_on : place ≤ after → drop place bytes ≡ [] → drop after bytes ≡ []
+      none_on on none =
+          sym (drop_on on) ∙ ap (drop (after - place)) none ∙ drop_none (after - place)
+        where
+          drop_none : (n : ℕ) → drop {A = ℕ} n [] ≡ []
+          drop_none zero = refl
+          drop_none (suc n) = refl
 
--- and none
-pub lines_end : (bytes : List ℕ) (place n : ℕ) → AreLines bytes place n → drop place bytes ≡ [] →
-    length (lines_of bytes) ≡ n
-lines_end bytes place n given none = omega (
-  arith,
-  ap (λ (t : List (List ℕ)). length t) given.lines,
-  length-append (lines_of (take place bytes)) (lines_of (drop place bytes)),
-  ap (λ (t : List ℕ). length (lines_of t)) none,
-  ap (λ (t : List (List ℕ)). length t) lines_none,
-  given.number,
-)
+      -- the last line, without LF
+      pub lines_last : (n : ℕ) → AreLines bytes place n →
+          lines_of (drop place bytes) ≡ drop place bytes ∷ [] → drop after bytes ≡ [] → AreLines bytes after (n + 1)
+      lines_last n given lines none =
+          let all = all_of after none in
+          record {
+            lines = sym (append-nil (lines_of bytes))
+                ∙ ap (λ (t : List (List ℕ)). lines_of bytes ++ t) (sym (ap lines_of none ∙ lines_none))
+                ∙ ap (λ (t : List ℕ). lines_of t ++ lines_of (drop after bytes)) (sym all);
+            number = omega (
+              arith,
+              ap (λ (t : List ℕ). length (lines_of t)) all,
+              ap (λ (t : List (List ℕ)). length t) given.lines,
+              length-append (lines_of (take place bytes)) (lines_of (drop place bytes)),
+              ap (λ (t : List (List ℕ)). length t) lines,
+              given.number,
+            );
+          }
 
-pub lines_still : (bytes : List ℕ) (place after n : ℕ) → place ≤ after → AreLines bytes place n →
-    drop place bytes ≡ [] → AreLines bytes after n
-lines_still bytes place after n on given none =
-    let behind = none_on bytes place after on none in
-    let all : take after bytes ≡ take place bytes = all_of bytes after behind ∙ sym (all_of bytes place none) in
-    record {
-      lines = given.lines ∙ ap (λ (t : List ℕ). lines_of t ++ lines_of (drop place bytes)) (sym all)
-          ∙ ap (λ (t : List ℕ). lines_of (take after bytes) ++ lines_of t) (none ∙ sym behind);
-      number = ap (λ (t : List ℕ). length (lines_of t)) all ∙ given.number;
-    }
+      pub lines_still : (n : ℕ) → place ≤ after → AreLines bytes place n →
+          drop place bytes ≡ [] → AreLines bytes after n
+      lines_still n on given none =
+          let behind = none_on on none in
+          let all : take after bytes ≡ take place bytes = all_of after behind ∙ sym (all_of place none) in
+          record {
+            lines = given.lines ∙ ap (λ (t : List ℕ). lines_of t ++ lines_of (drop place bytes)) (sym all)
+                ∙ ap (λ (t : List ℕ). lines_of (take after bytes) ++ lines_of t) (none ∙ sym behind);
+            number = ap (λ (t : List ℕ). length (lines_of t)) all ∙ given.number;
+          }
 
--- whether a line is over long
-pub over_at : (bytes line : List ℕ) (n : ℕ) → line_at n bytes ≡ Some line → most_bytes n < length (body_of line) →
-    over_long bytes n ≡ Some (n + 1)
-unfolding over_long if_over_long
-over_at bytes line n at long = ap (if_over_long n) at
-    ∙ ap (λ (t : Bool). cond t (Some (n + 1)) None) (lt-ltb (most_bytes n) (length (body_of line)) long)
+    -- before the first line
+    pub lines_start : place ≡ 0 → AreLines bytes place 0
+    lines_start start = rw start (record {
+      lines = ap (λ (t : List (List ℕ)). t ++ lines_of bytes) (sym lines_none);
+      number = ap (λ (t : List (List ℕ)). length t) lines_none;
+    })
 
-pub short_at : (bytes line : List ℕ) (n : ℕ) → line_at n bytes ≡ Some line → length (body_of line) ≤ most_bytes n →
-    over_long bytes n ≡ None
-unfolding over_long if_over_long
-short_at bytes line n at short = ap (if_over_long n) at
-    ∙ ap (λ (t : Bool). cond t (Some (n + 1)) None) (le-ltb (most_bytes n) (length (body_of line)) short)
+    -- and none
+    pub lines_end : (n : ℕ) → AreLines bytes place n → drop place bytes ≡ [] →
+        length (lines_of bytes) ≡ n
+    lines_end n given none = omega (
+      arith,
+      ap (λ (t : List (List ℕ)). length t) given.lines,
+      length-append (lines_of (take place bytes)) (lines_of (drop place bytes)),
+      ap (λ (t : List ℕ). length (lines_of t)) none,
+      ap (λ (t : List (List ℕ)). length t) lines_none,
+      given.number,
+    )
 
-pub short_past : (bytes : List ℕ) (n : ℕ) → length (lines_of bytes) ≤ n → over_long bytes n ≡ None
-unfolding over_long if_over_long line_at
-short_past bytes n past = ap (if_over_long n) (slice_get_past (lines_of bytes) n past)
+  -- a line that was given
+  pub piece_is : (line : List ℕ) (place after : ℕ) → place ≤ after → drop place bytes ≡ line ++ drop after bytes →
+      take (after - place) (drop place bytes) ≡ line
+  piece_is line place after on split =
+      let behind : drop (after - place) (drop place bytes) ≡ drop after bytes = drop_on place after on in
+      append_cancel_right (take (after - place) (drop place bytes)) line (drop after bytes)
+      (ap (λ (t : List ℕ). take (after - place) (drop place bytes) ++ t) (sym behind)
+      ∙ take-append-drop (after - place) (drop place bytes) ∙ split)
 
--- the first one
-pub first_over : (bytes : List ℕ) (n : ℕ) → n < 10 → ((k : ℕ) → k < n → over_long bytes k ≡ None) →
-    over_long bytes n ≡ Some (n + 1) → first_over_long bytes ≡ Some (n + 1)
-unfolding first_over_long
-first_over bytes n within before here =
-    first_found n 10 (over_long bytes) (n + 1) within (first_none_from n (over_long bytes) before) here
+  -- one line more
+  pub lines_more : (line : List ℕ) (place after n : ℕ) → place ≤ after → AreLines bytes place n →
+      drop place bytes ≡ line ++ drop after bytes → lines_of (drop place bytes) ≡ line ∷ lines_of (drop after bytes) →
+      ends_line line ≡ true → AreLines bytes after (n + 1)
+  lines_more line place after n on given split lines ended =
+      let ends : ends_line (take after bytes) ≡ true =
+      subst (λ (t : List ℕ). ends_line t ≡ true)
+      (sym (take_on place after on
+      ∙ ap (λ (t : List ℕ). take place bytes ++ t) (piece_is line place after on split)))
+      (ends_append (take place bytes) line ended) in
+      let both : lines_of bytes ≡ lines_of (take after bytes) ++ lines_of (drop after bytes) =
+      ap lines_of (sym (take-append-drop after bytes)) ∙ lines_append (take after bytes) (drop after bytes) ends in
+      record {
+        lines = both;
+        number = omega (
+          arith,
+          ap (λ (t : List (List ℕ)). length t) both,
+          length-append (lines_of (take after bytes)) (lines_of (drop after bytes)),
+          ap (λ (t : List (List ℕ)). length t) given.lines,
+          length-append (lines_of (take place bytes)) (lines_of (drop place bytes)),
+          ap (λ (t : List (List ℕ)). length t) lines,
+          given.number,
+        );
+      }
 
-pub none_over : (bytes : List ℕ) → ((k : ℕ) → k < 10 → over_long bytes k ≡ None) → first_over_long bytes ≡ None
-unfolding first_over_long
-none_over bytes short = first_none_from 10 (over_long bytes) short
+  -- line n is the one that comes next
+  pub line_next : (line : List ℕ) (others : List (List ℕ)) (place n : ℕ) → AreLines bytes place n →
+      lines_of (drop place bytes) ≡ line ∷ others → line_at n bytes ≡ Some line
+  unfolding line_at
+  line_next line others place n given lines =
+      ap (λ (t : List (List ℕ)). slice_get t n)
+      (given.lines ∙ ap (λ (t : List (List ℕ)). lines_of (take place bytes) ++ t) lines)
+      ∙ ap (slice_get (lines_of (take place bytes) ++ line ∷ others)) {x = n}
+      {y = length (lines_of (take place bytes)) + 0} (omega (arith, given.number))
+      ∙ got_behind (lines_of (take place bytes)) (line ∷ others) 0
+
+  -- whether a line is over long
+  pub over_at : (line : List ℕ) (n : ℕ) → line_at n bytes ≡ Some line → most_bytes n < length (body_of line) →
+      over_long bytes n ≡ Some (n + 1)
+  unfolding over_long if_over_long
+  over_at line n at long = ap (if_over_long n) at
+      ∙ ap (λ (t : Bool). cond t (Some (n + 1)) None) (lt-ltb (most_bytes n) (length (body_of line)) long)
+
+  pub short_at : (line : List ℕ) (n : ℕ) → line_at n bytes ≡ Some line → length (body_of line) ≤ most_bytes n →
+      over_long bytes n ≡ None
+  unfolding over_long if_over_long
+  short_at line n at short = ap (if_over_long n) at
+      ∙ ap (λ (t : Bool). cond t (Some (n + 1)) None) (le-ltb (most_bytes n) (length (body_of line)) short)
+
+  pub short_past : (n : ℕ) → length (lines_of bytes) ≤ n → over_long bytes n ≡ None
+  unfolding over_long if_over_long line_at
+  short_past n past = ap (if_over_long n) (slice_get_past (lines_of bytes) n past)
+
+  -- the first one
+  pub first_over : (n : ℕ) → n < 10 → ((k : ℕ) → k < n → over_long bytes k ≡ None) →
+      over_long bytes n ≡ Some (n + 1) → first_over_long bytes ≡ Some (n + 1)
+  unfolding first_over_long
+  first_over n within before here =
+      first_found n 10 (over_long bytes) (n + 1) within (first_none_from n (over_long bytes) before) here
+
+  pub none_over : ((k : ℕ) → k < 10 → over_long bytes k ≡ None) → first_over_long bytes ≡ None
+  unfolding first_over_long
+  none_over short = first_none_from 10 (over_long bytes) short

@@ -3,13 +3,12 @@ use Rattle.std.proofs.Common.{◌≡◌, ℕ, ◌+◌, ◌<◌, ◌≤◌, inl, 
 use Rattle.std.proofs.lemmas.Bool.{cases_lt}
 use Rattle.std.proofs.lemmas.List.{append-nil}
 use Rattle.std.proofs.lemmas.Option.{slice_get_past}
-use Rattle.ra_base.specs.declared.ids.Machine.{Machine}
-use Rattle.ra_draws.specs.declared.budgets.Lots.{Lots}
-use Rattle.ra_model.specs.declared.raw.Tables.{Tables}
 use Rattle.ra_token.specs.Lines.{lines_of, line_at, FirstUnlike}
 use Rattle.ra_journal.specs.declared.entries.Entry.{Entry}
 use Rattle.ra_journal.specs.declared.journal.Journal.{Journal}
 use Rattle.ra_journal.specs.Legal.{Whole}
+use Rattle.ra_journal.specs.Openings.{Opening}
+use Rattle.ra_journal.specs.Journals.{opening_in}
 use Rattle.ra_report.specs.JournalTexts.{report_head, report_text, head_of}
 use Rattle.ra_report.proofs.LineEnds.{head_line_count}
 use Rattle.ra_verify.specs.Judging.{IsAccepted, IsUnfinished, HasUnlike, IsMisjudged}
@@ -37,39 +36,35 @@ head_at bytes head place n k is within =
     (cases_lt k n)
 
 -- the head of a journal's report
-pub head_is : (i : Tables) (a0 : List Machine) (l : Lots) (j : Journal) → j.inst.now.tables ≡ i → j.a0.now.items ≡ a0 →
-    j.lots.now ≡ l → head_of j ≡ report_head i a0 l j.book.entries.items
+pub head_is : (o : Opening) (j : Journal) → opening_in j ≡ o → head_of j ≡ report_head o j.book.entries.items
 unfolding head_of
-head_is i a0 l j inst initial lots =
-    ap (λ (t : Tables). report_head t j.a0.now.items j.lots.now j.book.entries.items) inst
-    ∙ ap (λ (a : List Machine). report_head i a j.lots.now j.book.entries.items) initial
-    ∙ ap (λ (x : Lots). report_head i a0 x j.book.entries.items) lots
+head_is o j same = ap (λ (p : Opening). report_head p j.book.entries.items) same
 
-pub accepted : (i : Tables) (a0 : List Machine) (l : Lots) (bytes head : List ℕ) (place lines n : ℕ) (j : Journal) →
-    j.inst.now.tables ≡ i → j.a0.now.items ≡ a0 → j.lots.now ≡ l → IsHead bytes place lines head →
-    AreAllRight i a0 l bytes j.book.entries.items → IsAccepted j head n → NoneIsWrong i a0 l bytes
-accepted i a0 l bytes head place lines n j inst initial lots is right judged = record {
+pub accepted : (o : Opening) (bytes head : List ℕ) (place lines n : ℕ) (j : Journal) →
+    opening_in j ≡ o → IsHead bytes place lines head →
+    AreAllRight o bytes j.book.entries.items → IsAccepted j head n → NoneIsWrong o bytes
+accepted o bytes head place lines n j same is right judged = record {
   short = none_over bytes is.short;
   journal = j.book.entries.items;
   right = right;
-  whole = subst (λ (m : Lots). Whole m j.book.entries.items) lots judged.whole;
+  whole = subst (λ (p : Opening). Whole p.lots j.book.entries.items) same judged.whole;
   head = λ k within. head_at bytes head place lines k is within
-      ∙ ap (line_at k) (judged.text ∙ head_is i a0 l j inst initial lots)
-      ∙ sym (report_at i a0 l j.book.entries.items k within);
+      ∙ ap (line_at k) (judged.text ∙ head_is o j same)
+      ∙ sym (report_at o j.book.entries.items k within);
 }
 
-pub reported : (i : Tables) (a0 : List Machine) (l : Lots) (bytes head : List ℕ) (place lines n : ℕ) (j : Journal) →
-    j.inst.now.tables ≡ i → j.a0.now.items ≡ a0 → j.lots.now ≡ l → IsHead bytes place lines head →
-    AreAllRight i a0 l bytes j.book.entries.items → IsAccepted j head n → IsReport i a0 l bytes n
+pub reported : (o : Opening) (bytes head : List ℕ) (place lines n : ℕ) (j : Journal) →
+    opening_in j ≡ o → IsHead bytes place lines head →
+    AreAllRight o bytes j.book.entries.items → IsAccepted j head n → IsReport o bytes n
 unfolding accepted
-reported i a0 l bytes head place lines n j inst initial lots is right judged =
-    is_report i a0 l bytes n (accepted i a0 l bytes head place lines n j inst initial lots is right judged)
+reported o bytes head place lines n j same is right judged =
+    is_report o bytes n (accepted o bytes head place lines n j same is right judged)
     (sym judged.number)
 
 -- an entry line that isn't right
-pub wrong_entry : (i : Tables) (a0 : List Machine) (l : Lots) (bytes head : List ℕ) (place lines n : ℕ)
-    (h : List Entry) → IsHead bytes place lines head → IsWrongNext i a0 l bytes h n → IsWrongLine i a0 l bytes (Some n)
-wrong_entry i a0 l bytes head place lines n h is next = inr (inl (record {
+pub wrong_entry : (o : Opening) (bytes head : List ℕ) (place lines n : ℕ)
+    (h : List Entry) → IsHead bytes place lines head → IsWrongNext o bytes h n → IsWrongLine o bytes (Some n)
+wrong_entry o bytes head place lines n h is next = inr (inl (record {
   short = none_over bytes is.short;
   journal = h;
   right = next.right;
@@ -79,14 +74,15 @@ wrong_entry i a0 l bytes head place lines n h is next = inr (inl (record {
 }))
 
 -- what isn't whole
-cut_off : (i : Tables) (a0 : List Machine) (l : Lots) (bytes head : List ℕ) (place lines n : ℕ) (j : Journal) →
-    j.lots.now ≡ l → IsHead bytes place lines head → AreAllRight i a0 l bytes j.book.entries.items →
-    length (lines_of bytes) ≡ lines + length j.book.entries.items → IsUnfinished j lines n → IsCutOff i a0 l bytes n
-cut_off i a0 l bytes head place lines n j lots is right long unfinished = record {
+cut_off : (o : Opening) (bytes head : List ℕ) (place lines n : ℕ) (j : Journal) →
+    opening_in j ≡ o → IsHead bytes place lines head → AreAllRight o bytes j.book.entries.items →
+    length (lines_of bytes) ≡ lines + length j.book.entries.items → IsUnfinished j lines n → IsCutOff o bytes n
+cut_off o bytes head place lines n j same is right long unfinished = record {
   short = none_over bytes is.short;
   journal = j.book.entries.items;
   right = right;
-  not_whole = λ whole. unfinished.not_whole (subst (λ (m : Lots). Whole m j.book.entries.items) (sym lots) whole);
+  not_whole = λ whole. unfinished.not_whole
+      (subst (λ (p : Opening). Whole p.lots j.book.entries.items) (sym same) whole);
   number = omega (arith, unfinished.number, long);
 }
 
@@ -101,24 +97,24 @@ unlike_ten head report place few ten unlike = ⊎_elim
     ∙ sym (slice_get_past (lines_of report) place (omega (arith, ten, past))))))
     (cases_lt place 10)
 
-wrong_head : (i : Tables) (a0 : List Machine) (l : Lots) (bytes head : List ℕ) (place lines n : ℕ) (j : Journal) →
-    j.inst.now.tables ≡ i → j.a0.now.items ≡ a0 → j.lots.now ≡ l → IsHead bytes place lines head →
-    AreAllRight i a0 l bytes j.book.entries.items → HasUnlike j head n → IsWrongHead i a0 l bytes n
-wrong_head i a0 l bytes head place lines n j inst initial lots is right judged =
+wrong_head : (o : Opening) (bytes head : List ℕ) (place lines n : ℕ) (j : Journal) →
+    opening_in j ≡ o → IsHead bytes place lines head →
+    AreAllRight o bytes j.book.entries.items → HasUnlike j head n → IsWrongHead o bytes n
+wrong_head o bytes head place lines n j opened is right judged =
     let h = j.book.entries.items in
     let few : length (lines_of head) ≤ 10 =
     omega (arith, ap (λ (t : List ℕ). length (lines_of t)) is.text, is.first.given.number, is.first.few) in
-    let same : head_of j ≡ report_head i a0 l h = head_is i a0 l j inst initial lots in
+    let same : head_of j ≡ report_head o h = head_is o j opened in
     let ten : length (lines_of (head_of j)) ≡ 10 = ap (λ (t : List ℕ). length (lines_of t)) same
-    ∙ head_line_count i a0 l h in
+    ∙ head_line_count o h in
     let within : judged.place < 10 = unlike_ten head (head_of j) judged.place few ten judged.unlike in
-    let report : (k : ℕ) → k < 10 → line_at k (head_of j) ≡ line_at k (report_text i a0 l h) =
-    λ k there. ap (line_at k) same ∙ sym (report_at i a0 l h k there) in
+    let report : (k : ℕ) → k < 10 → line_at k (head_of j) ≡ line_at k (report_text o h) =
+    λ k there. ap (line_at k) same ∙ sym (report_at o h k there) in
     record {
       short = none_over bytes is.short;
       journal = h;
       right = right;
-      whole = subst (λ (m : Lots). Whole m h) lots judged.whole;
+      whole = subst (λ (p : Opening). Whole p.lots h) opened judged.whole;
       place = judged.place;
       within = within;
       unlike = record {
@@ -130,14 +126,14 @@ wrong_head i a0 l bytes head place lines n j inst initial lots is right judged =
       number = judged.number;
     }
 
-pub misjudged : (i : Tables) (a0 : List Machine) (l : Lots) (bytes head : List ℕ) (place lines n : ℕ) (j : Journal) →
-    j.inst.now.tables ≡ i → j.a0.now.items ≡ a0 → j.lots.now ≡ l → IsHead bytes place lines head →
-    AreAllRight i a0 l bytes j.book.entries.items → length (lines_of bytes) ≡ lines + length j.book.entries.items →
-    IsMisjudged j head lines n → IsWrongLine i a0 l bytes (Some n)
-misjudged i a0 l bytes head place lines n j inst initial lots is right long (inl unfinished) =
-    inr (inr (inl (cut_off i a0 l bytes head place lines n j lots is right long unfinished)))
-misjudged i a0 l bytes head place lines n j inst initial lots is right long (inr unlike) =
-    inr (inr (inr (wrong_head i a0 l bytes head place lines n j inst initial lots is right unlike)))
+pub misjudged : (o : Opening) (bytes head : List ℕ) (place lines n : ℕ) (j : Journal) →
+    opening_in j ≡ o → IsHead bytes place lines head →
+    AreAllRight o bytes j.book.entries.items → length (lines_of bytes) ≡ lines + length j.book.entries.items →
+    IsMisjudged j head lines n → IsWrongLine o bytes (Some n)
+misjudged o bytes head place lines n j same is right long (inl unfinished) =
+    inr (inr (inl (cut_off o bytes head place lines n j same is right long unfinished)))
+misjudged o bytes head place lines n j same is right long (inr unlike) =
+    inr (inr (inr (wrong_head o bytes head place lines n j same is right unlike)))
 
 pub no_more : (bytes : List ℕ) (place lines : ℕ) (h : List Entry) → h ≡ [] → AreFirstLines bytes place lines →
     lines < 10 → length (lines_of bytes) ≡ lines + length h

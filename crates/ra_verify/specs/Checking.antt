@@ -5,7 +5,7 @@ use Rattle.ra_journal.specs.declared.entries.Entry.{Entry}
 use Rattle.ra_journal.specs.declared.replies.Reply.TheVariants.{Recorded, Stale}
 use Rattle.ra_journal.specs.Entries.{entry_at, worker_count}
 use Rattle.ra_journal.specs.Legal.{Legal}
-use Rattle.ra_journal.specs.Journals.{entries_in, initial_in, instance_in, lots_in, start_in, tables_in}
+use Rattle.ra_journal.specs.Journals.{entries_in, initial_in, instance_in, lots_in, opening_in}
 use Rattle.ra_report.specs.JournalTexts.{entry_line}
 use Rattle.ra_worker.specs.declared.events.CoreReply.{CoreReply}
 use Rattle.ra_worker.specs.declared.events.CoreReply.TheVariants.{Took, Answer, Skipped}
@@ -35,7 +35,7 @@ IsOpen c = NoneIsPast (lots_in c.journal) (checker_entries c) (checker_core c)
 -- entry e may follow the entries of a checker
 abbrev pub MayFollow : Checker → Entry → Type 0
 MayFollow c e =
-    Legal (tables_in c.journal) (start_in c.journal) (lots_in c.journal)
+    Legal (opening_in c.journal)
     (checker_entries c ++ e ∷ [])
 
 -- a checker has taken in an entry that may follow, and can take in the next

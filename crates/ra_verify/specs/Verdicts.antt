@@ -1,16 +1,14 @@
 -- What each stage of a check tells of a report, whose bytes may be told, and what it leaves.
 use Rattle.std.specs.Prelude.{◌≡◌, ◌≢◌, ℕ, ◌+◌, ◌≤◌, Bool, true, false, List, [], length, Some, None, Result, Ok, Err, IfSome, IfOk, OnOk}
-use Rattle.ra_base.specs.declared.ids.Machine.{Machine}
 use Rattle.ra_bounds.specs.declared.costs.Bound.{Bound}
 use Rattle.ra_bounds.specs.PinnedBounds.{pinned_bound_of}
-use Rattle.ra_draws.specs.declared.budgets.Lots.{Lots}
 use Rattle.ra_io.specs.Outside.{Reading, LeavesFiles, ReadFailed}
-use Rattle.ra_model.specs.declared.raw.Tables.{Tables}
 use Rattle.ra_token.specs.Lines.{lines_of}
 use Rattle.ra_token.specs.Reading.{Reads}
 use Rattle.ra_token.specs.LineStanding.{Standing}
 use Rattle.ra_journal.specs.declared.entries.Entry.{Entry}
-use Rattle.ra_journal.specs.Journals.{lots_in, start_in, tables_in}
+use Rattle.ra_journal.specs.Journals.{start_in, tables_in, opening_in}
+use Rattle.ra_journal.specs.Openings.{Opening}
 use Rattle.ra_model.specs.Situations.{Situation, situation}
 use Rattle.ra_verify.specs.declared.checker.Checker.{Checker}
 use Rattle.ra_verify.specs.declared.faults.VerifyFault.{VerifyFault}
@@ -21,21 +19,21 @@ use Rattle.ra_verify.specs.WrongLines.{AreAllRight, IsWrongLine, IsReport, first
 
 -- the report of a run of these lots was checked: it is accepted if no line is wrong, and then it is the report of a
 -- legal whole journal with this number of entries; else its wrong line is told
-pub record TellsVerdict (i : Tables) (a0 : List Machine) (l : Lots) (files : Reading)
+pub record TellsVerdict (o : Opening) (files : Reading)
     (name : List ℕ) (told : Result ℕ VerifyFault) : Type 0 where
   pub none_wrong :
-      IfSome (files.held name) (λ bytes. IfOk told (λ n. IsWrongLine i a0 l bytes None))
-  pub report : IfSome (files.held name) (λ bytes. IfOk told (λ n. IsReport i a0 l bytes n))
+      IfSome (files.held name) (λ bytes. IfOk told (λ n. IsWrongLine o bytes None))
+  pub report : IfSome (files.held name) (λ bytes. IfOk told (λ n. IsReport o bytes n))
   pub wrong :
       IfSome (files.held name) (λ bytes. (n : ℕ) → told ≡ Err (why.Wrong n)
-      → IsWrongLine i a0 l bytes (Some n))
+      → IsWrongLine o bytes (Some n))
   pub fault : told ≡ Err why.ReadFault → ReadFailed files name
   pub leaves : LeavesFiles files
 
 -- this holds of the run of a checker
 abbrev pub TellsOf : Checker → Reading → List ℕ → Result ℕ VerifyFault → Type 0
 TellsOf c files name told =
-    TellsVerdict (tables_in c.journal) (start_in c.journal) (lots_in c.journal) files name told
+    TellsVerdict (opening_in c.journal) files name told
 
 -- a checker has taken in no entry, and a world is at the start of its run, which has this bound
 pub record AreAtStart (checker : Checker) (world : Situation) (bound : Bound) : Type 0 where
@@ -69,15 +67,13 @@ pub record ReadsEntries (files : Reading) (name : List ℕ) (lines : ℕ) (befor
     (told : Result (Unit {0}) VerifyFault) : Type 0 where
   pub right :
       IfSome (files.held name) (λ bytes. OnOk told
-      (AreAllRight (tables_in before.journal) (start_in before.journal)
-      (lots_in before.journal) bytes (checker_entries after)))
+      (AreAllRight (opening_in before.journal) bytes (checker_entries after)))
   pub all :
       IfSome (files.held name) (λ bytes. OnOk told
       (length (lines_of bytes) ≡ lines + length (checker_entries after)))
   pub wrong :
       IfSome (files.held name) (λ bytes. (n : ℕ) → told ≡ Err (why.Wrong n) → (h : List Entry) ×
-      IsWrongNext (tables_in before.journal) (start_in before.journal)
-      (lots_in before.journal) bytes h n)
+      IsWrongNext (opening_in before.journal) bytes h n)
   pub fault : told ≡ Err why.ReadFault → ReadFailed files name
   pub memory : told ≢ Err why.NoMemory
   pub same : IsSameRun before after
@@ -86,7 +82,7 @@ pub record ReadsEntries (files : Reading) (name : List ℕ) (lines : ℕ) (befor
 -- the bytes up to the place of a reader are the head and the lines of the entries of a checker, in the run of another
 abbrev pub AreReadBy : Checker → List ℕ → ℕ → Checker → Type 0
 AreReadBy before bytes place after =
-    AreRead (tables_in before.journal) (start_in before.journal) (lots_in before.journal) bytes
+    AreRead (opening_in before.journal) bytes
     place (checker_entries after)
 
 -- the next entry line was read, if there is one, and its entry was taken in; or the line is that of no entry that may
@@ -104,8 +100,7 @@ pub record ReadsEntry (files : Reading) (old new : Standing) (before after : Che
       → length (lines_of bytes) ≡ 10 + length (checker_entries before))
   pub wrong :
       IfSome (files.held old.name) (λ bytes. (n : ℕ) → told ≡ Err (why.Wrong n)
-      → IsWrongNext (tables_in before.journal) (start_in before.journal)
-      (lots_in before.journal) bytes (checker_entries before) n)
+      → IsWrongNext (opening_in before.journal) bytes (checker_entries before) n)
   pub fault : told ≡ Err why.ReadFault → ReadFailed files old.name
   pub memory : told ≢ Err why.NoMemory
   pub same : IsSameRun before after

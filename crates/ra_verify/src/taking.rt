@@ -2,7 +2,7 @@ ghost use Rattle.std.specs.Prelude.{◌≡◌, ◌≢◌, ◌≤◌, ◌↔◌, 
 ghost use Rattle.ra_topology.specs.Starts.{IsFeasibleStart};
 ghost use Rattle.ra_journal.specs.declared.entries.Entry.{Entry as Recorded};
 ghost use Rattle.ra_journal.specs.Committing.{next_entry};
-ghost use Rattle.ra_journal.specs.Journals.{initial_in, instance_in, lots_in, start_in, tables_in, topology_in};
+ghost use Rattle.ra_journal.specs.Journals.{initial_in, instance_in, lots_in, opening_in, topology_in};
 ghost use Rattle.ra_report.specs.JournalTexts.{entry_line};
 ghost use Rattle.ra_verify.specs.Checking.{checker_entries, IsOpen, MayFollow, HasTakenEntry, HasTakenLine, IsSameRun, MayStand, is_recorded};
 
@@ -83,8 +83,7 @@ impl<'a> Checker<'a> {
     fn take(&mut self, worker: u32, q: u64) -> bool
         requires ready { IsOpen self.old }
         ensures right { result ≡ true → HasTakenEntry self.old self.new
-            (next_entry (tables_in self.old.journal) (start_in self.old.journal)
-            (lots_in self.old.journal) (checker_entries self.old) worker q) }
+            (next_entry (opening_in self.old.journal) (checker_entries self.old) worker q) }
         ensures wrong { result ≡ false → (e : Recorded) → MayFollow self.old e
             → e.worker ≡ worker → e.q ≡ q → ⊥ }
         ensures same { IsSameRun self.old self.new }

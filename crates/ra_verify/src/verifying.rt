@@ -2,6 +2,7 @@ ghost use Rattle.std.specs.Prelude.{◌≡◌, ℕ, List, [], Option, IfOk};
 ghost use Rattle.ra_bounds.specs.PinnedBounds.{pinned_bound_of};
 ghost use Rattle.ra_io.specs.Outside.{reading};
 ghost use Rattle.ra_model.specs.Assignments.{IsAssignment};
+ghost use Rattle.ra_journal.specs.Openings.{opening};
 ghost use Rattle.ra_token.specs.Reading.{Reads};
 ghost use Rattle.ra_topology.specs.Starts.{IsFeasibleStart};
 ghost use Rattle.ra_verify.specs.Verdicts.{TellsVerdict};
@@ -40,7 +41,7 @@ pub fn verify<'a, F: Files>(
     lots: &'a Lots,
 ) -> Result<u64, VerifyFault>
     requires { IsFeasibleStart inst.now.tables topo.now a0.now.items start }
-    ensures { TellsVerdict inst.now.tables a0.now.items lots.now
+    ensures { TellsVerdict (opening inst.now.tables a0.now.items lots.now)
         (reading F.Files files.old files.new) name.now result }
 {
     let bound = bound_from(alloc, inst, a0)?;

@@ -1,136 +1,141 @@
 -- The plans that a worker makes ahead: they are right as long as no move is done, and are handed in at the replica's
 -- place.
-use Rattle.std.proofs.Common.{◌≡◌, ℕ, zero, suc, ◌+◌, ◌<◌, ◌≤◌, Bool, true, false, List, slice_index_or, refl, sym, ap, ◌∙◌, subst, arith, ⊎_elim}
+use Rattle.std.proofs.Common.{◌≡◌, ℕ, zero, suc, ◌+◌, ◌<◌, ◌≤◌, Bool, true, false, List, slice_index_or, refl, sym, ap, ap₂, ◌∙◌, subst, arith, ⊎_elim}
 use Rattle.std.proofs.lemmas.Bool.{cases_lt}
-use Rattle.ra_draws.specs.declared.budgets.Lots.{Lots}
 use Rattle.ra_moves.specs.declared.verdicts.Plan.{Plan}
+use Rattle.ra_base.specs.declared.ids.Machine.{Machine}
 use Rattle.ra_journal.specs.Entries.{budget}
+use Rattle.ra_journal.specs.Openings.{Opening}
+use Rattle.ra_model.specs.Situations.{situation}
 use Rattle.ra_worker.specs.declared.replica.Replica.{Replica}
 use Rattle.ra_worker.specs.Replicas.{place_at, next_at, budget_at, IsPlanAt, IsNextPlan, HasPassed}
-use Rattle.ra_worker.proofs.FollowingLemmas.{one_situation}
 use Rattle.ra_worker.specs.declared.ahead.Ahead.{Ahead}
 use Rattle.ra_worker.specs.Ahead.{moved_to, ahead_at, HasAdded, HasPlaced, AreAhead, PlansStand}
 
--- one plan more is made ahead
-pub ahead_added : (r : Replica) (n k : ℕ) (before after : Ahead) (plan : Plan) → AreAhead r n before →
-    HasAdded before after plan → before.made < 63 → k ≡ n + before.made → k < budget_at r → IsPlanAt r k plan →
-    AreAhead r n after
-ahead_added r n k before after plan are added few number left is = record {
-  few = omega (arith, added.made, few);
-  within = omega (arith, added.made, number, left);
-  each = λ j d there. ⊎_elim
-      (λ (low : j < before.made).
-      subst (λ (p : Plan). IsPlanAt r (n + j) (moved_to (place_at r) p)) (sym (added.others j d low)) (are.each j d low))
-      (λ (high : before.made ≤ j).
-      let last : j ≡ before.made = omega (arith, high, there, added.made) in
-      let here : ahead_at after j d ≡ plan = rw last (added.last d) in
-      let at : k ≡ n + j = omega (arith, number, last) in
-      let moved : IsPlanAt r k (moved_to (place_at r) plan) =
-      record { place = refl; number = is.number; planned = is.planned; weighed = is.weighed } in
-      subst (λ (p : Plan). IsPlanAt r (n + j) (moved_to (place_at r) p)) (sym here)
-      (subst (λ (m : ℕ). IsPlanAt r m (moved_to (place_at r) plan)) at moved))
-      (cases_lt j before.made);
-}
+module _ (r : Replica) where
+  -- one plan more is made ahead
+  pub ahead_added : (n k : ℕ) (before after : Ahead) (plan : Plan) → AreAhead r n before →
+      HasAdded before after plan → before.made < 63 → k ≡ n + before.made → k < budget_at r → IsPlanAt r k plan →
+      AreAhead r n after
+  ahead_added n k before after plan are added few number left is = record {
+    few = omega (arith, added.made, few);
+    within = omega (arith, added.made, number, left);
+    each = λ j d there. ⊎_elim
+        (λ (low : j < before.made).
+        subst (λ (p : Plan). IsPlanAt r (n + j) (moved_to (place_at r) p)) (sym (added.others j d low)) (are.each j d low))
+        (λ (high : before.made ≤ j).
+        let last : j ≡ before.made = omega (arith, high, there, added.made) in
+        let here : ahead_at after j d ≡ plan = rw last (added.last d) in
+        let at : k ≡ n + j = omega (arith, number, last) in
+        let moved : IsPlanAt r k (moved_to (place_at r) plan) =
+        record { place = refl; number = is.number; planned = is.planned; weighed = is.weighed } in
+        subst (λ (p : Plan). IsPlanAt r (n + j) (moved_to (place_at r) p)) (sym here)
+        (subst (λ (m : ℕ). IsPlanAt r m (moved_to (place_at r) plan)) at moved))
+        (cases_lt j before.made);
+  }
 
--- one of the plans gets a place
-ahead_placed : (r : Replica) (n : ℕ) (before after : Ahead) (place : ℕ) → AreAhead r n before →
-    HasPlaced before after place → AreAhead r n after
-ahead_placed r n before after place are placed =
-    let kept : (j : ℕ) (d : Plan) → moved_to (place_at r) (ahead_at after j d) ≡ moved_to (place_at r) (ahead_at before j d) =
-    λ j d.
-    let other : (j + 1 ≡ before.at → ⊥) → moved_to (place_at r) (ahead_at after j d) ≡ moved_to (place_at r) (ahead_at before j d) =
-    λ no. ap (moved_to (place_at r)) (placed.others j d no) in
-    ⊎_elim
-    (λ (low : j + 1 < before.at). other (λ is. omega (arith, is, low)))
-    (λ (high : before.at ≤ j + 1).
-    ⊎_elim
-    (λ (above : before.at < j + 1). other (λ is. omega (arith, is, above)))
-    (λ (at : j + 1 ≤ before.at). ap (moved_to (place_at r)) (placed.there j d (omega (arith, at, high))))
-    (cases_lt before.at (j + 1)))
-    (cases_lt (j + 1) before.at)
-    in
-    record {
-      few = omega (arith, placed.made, are.few);
-      within = omega (arith, placed.made, are.within);
-      each = λ j d there.
-          subst (λ (p : Plan). IsPlanAt r (n + j) p) (sym (kept j d)) (are.each j d (omega (arith, there, placed.made)));
+  -- one of the plans gets a place
+  ahead_placed : (n : ℕ) (before after : Ahead) (place : ℕ) → AreAhead r n before →
+      HasPlaced before after place → AreAhead r n after
+  ahead_placed n before after place are placed =
+      let kept : (j : ℕ) (d : Plan) → moved_to (place_at r) (ahead_at after j d) ≡ moved_to (place_at r) (ahead_at before j d) =
+      λ j d.
+      let other : (j + 1 ≡ before.at → ⊥) → moved_to (place_at r) (ahead_at after j d) ≡ moved_to (place_at r) (ahead_at before j d) =
+      λ no. ap (moved_to (place_at r)) (placed.others j d no) in
+      ⊎_elim
+      (λ (low : j + 1 < before.at). other (λ is. omega (arith, is, low)))
+      (λ (high : before.at ≤ j + 1).
+      ⊎_elim
+      (λ (above : before.at < j + 1). other (λ is. omega (arith, is, above)))
+      (λ (at : j + 1 ≤ before.at). ap (moved_to (place_at r)) (placed.there j d (omega (arith, at, high))))
+      (cases_lt before.at (j + 1)))
+      (cases_lt (j + 1) before.at)
+      in
+      record {
+        few = omega (arith, placed.made, are.few);
+        within = omega (arith, placed.made, are.within);
+        each = λ j d there.
+            subst (λ (p : Plan). IsPlanAt r (n + j) p) (sym (kept j d)) (are.each j d (omega (arith, there, placed.made)));
+      }
+
+  ahead_same : (n : ℕ) (a b : Ahead) → AreAhead r n a → b.plans ≡ a.plans → b.made ≡ a.made → AreAhead r n b
+  ahead_same n a b are plans made = record {
+    few = omega (arith, are.few, made);
+    within = omega (arith, are.within, made);
+    each = λ j d there.
+        subst (λ (ps : List Plan). IsPlanAt r (n + j) (moved_to (place_at r) (slice_index_or ps j d))) (sym plans)
+        (are.each j d (omega (arith, there, made)));
+  }
+
+  module _ (s : Replica) where
+    module _ (to : ℕ) where
+      -- they are right after entries were skipped
+      plan_passed : (k : ℕ) (plan : Plan) → HasPassed r s to → IsPlanAt r k (moved_to (place_at r) plan) →
+          IsPlanAt s k (moved_to (place_at s) plan)
+      plan_passed k plan passed is =
+          let world : s.world ≡ r.world =
+          ap₂ (λ (o : Opening) (a : List Machine). situation o.tables o.start a) passed.opening passed.here in
+          let lots : s.proposals.lots.now ≡ r.proposals.lots.now = ap (λ (o : Opening). o.lots) passed.opening in
+          let worker : s.proposals.worker ≡ r.proposals.worker = passed.worker in
+          record {
+            place = refl;
+            number = is.number;
+            planned = rw (world, lots, worker) is.planned;
+            weighed = rw world is.weighed;
+          }
+
+      budget_passed : HasPassed r s to → budget_at s ≡ budget_at r
+      budget_passed passed =
+          ap (λ (o : Opening). budget o.lots s.proposals.worker) passed.opening ∙ ap (budget r.proposals.lots.now)
+          passed.worker
+
+      ahead_passed : (n : ℕ) (a : Ahead) → HasPassed r s to → AreAhead r n a → AreAhead s n a
+      ahead_passed n a passed are = record {
+        few = are.few;
+        within = omega (arith, are.within, budget_passed passed);
+        each = λ j d there. plan_passed (n + j) (ahead_at a j d) passed (are.each j d there);
+      }
+
+    -- after a quiet turn the rest of the round is right
+    round_stands : (n place to : ℕ) (first : Plan) (a b c : Ahead) → PlansStand r n first a →
+        HasPlaced a b place → HasPassed r s to → c.plans ≡ b.plans → c.made ≡ b.made → c.at ≡ b.at + 1 → PlansStand s n first c
+    round_stands n place to first a b c stands placed passed plans made at = record {
+      next = omega (arith, passed.number, stands.next, placed.at, at);
+      fresh = λ none. absurd (omega (arith, none, at));
+      later = ahead_passed to (n + 1) c passed
+          (ahead_same (n + 1) b c (ahead_placed (n + 1) a b place stands.later placed) plans made);
     }
 
--- they are right after entries were skipped
-plan_passed : (r s : Replica) (to k : ℕ) (plan : Plan) → HasPassed r s to → IsPlanAt r k (moved_to (place_at r) plan) →
-    IsPlanAt s k (moved_to (place_at s) plan)
-plan_passed r s to k plan passed is =
-    let world : s.world ≡ r.world =
-    one_situation s.world r.world.tables r.world.start r.world.here passed.instance passed.initial passed.here in
-    let lots : s.proposals.lots.now ≡ r.proposals.lots.now = passed.lots in
-    let worker : s.proposals.worker ≡ r.proposals.worker = passed.worker in
-    record {
-      place = refl;
-      number = is.number;
-      planned = rw (world, lots, worker) is.planned;
-      weighed = rw world is.weighed;
-    }
+    -- the round is right after any turn, if a plan of it is left
+    pub round_handed : (n place : ℕ) (quiet : Bool) (first : Plan) (a b c : Ahead) → PlansStand r n first a →
+        HasPlaced a b place → (quiet ≡ true → HasPassed r s (place_at s)) → c.plans ≡ b.plans → c.made ≡ b.made →
+        (quiet ≡ true → c.at ≡ b.at + 1) → (quiet ≡ false → c.made < c.at) → c.at ≤ c.made → PlansStand s n first c
+    round_handed n place true first a b c stands placed passed plans made next none left =
+        round_stands n place (place_at s) first a b c stands placed (passed refl) plans made (next refl)
+    round_handed n place false first a b c stands placed passed plans made next none left =
+        absurd (omega (arith, none refl, left))
 
-budget_passed : (r s : Replica) (to : ℕ) → HasPassed r s to → budget_at s ≡ budget_at r
-budget_passed r s to passed =
-    ap (λ (l : Lots). budget l s.proposals.worker) passed.lots ∙ ap (budget r.proposals.lots.now) passed.worker
+  -- the next plan of a round that is right is the plan of the next proposal
+  next_at_place : (n i : ℕ) (a b : Ahead) (first plan : Plan) → PlansStand r n first a → a.at ≡ i →
+      a.at ≤ a.made → HasPlaced a b (place_at r) → (b.at ≡ 0 → plan ≡ first) →
+      ((j : ℕ) → j + 1 ≡ b.at → plan ≡ ahead_at b j plan) → IsNextPlan r plan
+  next_at_place n zero a b first plan stands is within placed first_is later_is =
+      subst (IsNextPlan r) (sym (first_is (placed.at ∙ is))) (stands.fresh is)
+  next_at_place n (suc j) a b first plan stands is within placed first_is later_is =
+      let at : j + 1 ≡ a.at = omega (arith, is) in
+      let moved : plan ≡ moved_to (place_at r) (ahead_at a j plan) =
+      later_is j (omega (arith, at, placed.at)) ∙ placed.there j plan at in
+      let number : n + 1 + j ≡ next_at r = omega (arith, stands.next, is) in
+      subst (λ (k : ℕ). IsPlanAt r k plan) number
+      (subst (IsPlanAt r (n + 1 + j)) (sym moved) (stands.later.each j plan (omega (arith, within, is))))
 
-ahead_passed : (r s : Replica) (to n : ℕ) (a : Ahead) → HasPassed r s to → AreAhead r n a → AreAhead s n a
-ahead_passed r s to n a passed are = record {
-  few = are.few;
-  within = omega (arith, are.within, budget_passed r s to passed);
-  each = λ j d there. plan_passed r s to (n + j) (ahead_at a j d) passed (are.each j d there);
-}
+  pub round_next : (n place : ℕ) (a b : Ahead) (first plan : Plan) → PlansStand r n first a → a.at ≤ a.made →
+      place ≡ place_at r → HasPlaced a b place → (b.at ≡ 0 → plan ≡ first) →
+      ((j : ℕ) → j + 1 ≡ b.at → plan ≡ ahead_at b j plan) → IsNextPlan r plan
+  round_next n place a b first plan stands within here placed first_is later_is =
+      next_at_place n a.at a b first plan stands refl within (subst (HasPlaced a b) here placed) first_is later_is
 
-ahead_same : (r : Replica) (n : ℕ) (a b : Ahead) → AreAhead r n a → b.plans ≡ a.plans → b.made ≡ a.made → AreAhead r n b
-ahead_same r n a b are plans made = record {
-  few = omega (arith, are.few, made);
-  within = omega (arith, are.within, made);
-  each = λ j d there.
-      subst (λ (ps : List Plan). IsPlanAt r (n + j) (moved_to (place_at r) (slice_index_or ps j d))) (sym plans)
-      (are.each j d (omega (arith, there, made)));
-}
-
--- the next plan of a round that is right is the plan of the next proposal
-next_at_place : (r : Replica) (n i : ℕ) (a b : Ahead) (first plan : Plan) → PlansStand r n first a → a.at ≡ i →
-    a.at ≤ a.made → HasPlaced a b (place_at r) → (b.at ≡ 0 → plan ≡ first) →
-    ((j : ℕ) → j + 1 ≡ b.at → plan ≡ ahead_at b j plan) → IsNextPlan r plan
-next_at_place r n zero a b first plan stands is within placed first_is later_is =
-    subst (IsNextPlan r) (sym (first_is (placed.at ∙ is))) (stands.fresh is)
-next_at_place r n (suc j) a b first plan stands is within placed first_is later_is =
-    let at : j + 1 ≡ a.at = omega (arith, is) in
-    let moved : plan ≡ moved_to (place_at r) (ahead_at a j plan) =
-    later_is j (omega (arith, at, placed.at)) ∙ placed.there j plan at in
-    let number : n + 1 + j ≡ next_at r = omega (arith, stands.next, is) in
-    subst (λ (k : ℕ). IsPlanAt r k plan) number
-    (subst (IsPlanAt r (n + 1 + j)) (sym moved) (stands.later.each j plan (omega (arith, within, is))))
-
-pub round_next : (r : Replica) (n place : ℕ) (a b : Ahead) (first plan : Plan) → PlansStand r n first a → a.at ≤ a.made →
-    place ≡ place_at r → HasPlaced a b place → (b.at ≡ 0 → plan ≡ first) →
-    ((j : ℕ) → j + 1 ≡ b.at → plan ≡ ahead_at b j plan) → IsNextPlan r plan
-round_next r n place a b first plan stands within here placed first_is later_is =
-    next_at_place r n a.at a b first plan stands refl within (subst (HasPlaced a b) here placed) first_is later_is
-
--- some budget is left for it
-pub round_left : (r : Replica) (n : ℕ) (first : Plan) (a : Ahead) → PlansStand r n first a → a.at ≤ a.made →
-    next_at r < budget_at r
-round_left r n first a stands within = omega (arith, stands.next, stands.later.within, within)
-
--- after a quiet turn the rest of the round is right
-round_stands : (r s : Replica) (n place to : ℕ) (first : Plan) (a b c : Ahead) → PlansStand r n first a →
-    HasPlaced a b place → HasPassed r s to → c.plans ≡ b.plans → c.made ≡ b.made → c.at ≡ b.at + 1 → PlansStand s n first c
-round_stands r s n place to first a b c stands placed passed plans made at = record {
-  next = omega (arith, passed.number, stands.next, placed.at, at);
-  fresh = λ none. absurd (omega (arith, none, at));
-  later = ahead_passed r s to (n + 1) c passed
-      (ahead_same r (n + 1) b c (ahead_placed r (n + 1) a b place stands.later placed) plans made);
-}
-
--- the round is right after any turn, if a plan of it is left
-pub round_handed : (r s : Replica) (n place : ℕ) (quiet : Bool) (first : Plan) (a b c : Ahead) → PlansStand r n first a →
-    HasPlaced a b place → (quiet ≡ true → HasPassed r s (place_at s)) → c.plans ≡ b.plans → c.made ≡ b.made →
-    (quiet ≡ true → c.at ≡ b.at + 1) → (quiet ≡ false → c.made < c.at) → c.at ≤ c.made → PlansStand s n first c
-round_handed r s n place true first a b c stands placed passed plans made next none left =
-    round_stands r s n place (place_at s) first a b c stands placed (passed refl) plans made (next refl)
-round_handed r s n place false first a b c stands placed passed plans made next none left =
-    absurd (omega (arith, none refl, left))
+  -- some budget is left for it
+  pub round_left : (n : ℕ) (first : Plan) (a : Ahead) → PlansStand r n first a → a.at ≤ a.made →
+      next_at r < budget_at r
+  round_left n first a stands within = omega (arith, stands.next, stands.later.within, within)

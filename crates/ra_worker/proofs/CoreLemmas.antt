@@ -2,15 +2,12 @@
 use Rattle.std.proofs.Common.{◌≡◌, ℕ, ◌<◌, ◌≤◌, ◌||◌, List, set, get_or, length, Option, Some, None, sym, refl, ap, ◌∙◌, subst, ⊎_elim, arith, map}
 use Rattle.std.proofs.lemmas.Bool.{cond_both, cases_eq}
 use Rattle.std.proofs.lemmas.List.{length_push, length-set, get_or-set_same, get_or-set_other, get_or-map, map-set}
-use Rattle.ra_base.specs.Listed.{Listed}
-use Rattle.ra_base.specs.declared.ids.Machine.{Machine}
-use Rattle.ra_draws.specs.declared.budgets.Lots.{Lots}
-use Rattle.ra_model.specs.declared.numbers.Instance.{Instance}
-use Rattle.ra_model.specs.declared.raw.Tables.{Tables}
 use Rattle.ra_guards.specs.declared.newest.Newer.{Newer}
 use Rattle.ra_journal.specs.declared.entries.Entry.{Entry}
 use Rattle.ra_journal.specs.declared.journal.Journal.{Journal}
 use Rattle.ra_journal.specs.Committing.{next_entry, next_move, newer_since, committed, committed_by}
+use Rattle.ra_journal.specs.Openings.{Opening, opening}
+use Rattle.ra_journal.specs.Journals.{opening_in, IsOverSame}
 use Rattle.ra_journal.proofs.Places.{SameBelow, same_fewer, same_added, same_state, same_entries_of}
 use Rattle.ra_worker.specs.declared.replica.Replica.{Replica}
 use Rattle.ra_worker.specs.Skipping.{has_used, is_behind, is_skipped}
@@ -18,24 +15,14 @@ use Rattle.ra_worker.specs.Replicas.{IsAt}
 use Rattle.ra_worker.specs.declared.events.CoreReply.{CoreReply}
 use Rattle.ra_worker.specs.Core.{core_place_of, Turn, answered, turn}
 use Rattle.ra_worker.specs.AllReplicas.{IsAtOf, AreAt, core_of}
-use Rattle.ra_worker.specs.Turns.{StandIn, IsOverSame, TakesTurn}
+use Rattle.ra_worker.specs.Turns.{StandIn, TakesTurn}
+use Rattle.ra_worker.proofs.OpeningLemmas.{over_is}
 
 -- an answer takes no entry away
 longer_by : (newer : Option Newer) (h : List Entry) (e : Entry) → length h ≤ length (committed_by newer h e).journal
 unfolding committed_by
 longer_by (Some newer) h e = omega arith
 longer_by None h e = omega (arith, length_push h e)
-
-pub committed_longer : (i : Tables) (a0 : List Machine) (l : Lots) (h : List Entry) (w q : ℕ) →
-    length h ≤ length (committed i a0 l h w q).journal
-unfolding committed
-committed_longer i a0 l h w q = longer_by (newer_since i h q (next_move i a0 l h w q).steps) h (next_entry i a0 l h w q)
-
-pub turn_longer : (i : Tables) (a0 : List Machine) (l : Lots) (h : List Entry) (w q : ℕ) →
-    length h ≤ length (turn i a0 l h w q).journal
-unfolding turn answered is_skipped
-turn_longer i a0 l h w q = cond_both (has_used l h w || is_behind h w q) _ _ (λ (t : Turn). length h ≤ length t.journal)
-    (λ skipped. omega arith) (λ handed. committed_longer i a0 l h w q)
 
 -- a turn leaves the entries that are there
 kept_below : (newer : Option Newer) (h : List Entry) (e : Entry) →
@@ -44,55 +31,63 @@ unfolding committed_by
 kept_below (Some newer) h e = record { each = λ j before. refl }
 kept_below None h e = same_added h e
 
-committed_same : (i : Tables) (a0 : List Machine) (l : Lots) (h : List Entry) (w q : ℕ) →
-    SameBelow (length h) h (committed i a0 l h w q).journal
-unfolding committed
-committed_same i a0 l h w q = kept_below (newer_since i h q (next_move i a0 l h w q).steps) h (next_entry i a0 l h w q)
+module _ (o : Opening) (h : List Entry) where
+  module _ (w : ℕ) where
+    module _ (q : ℕ) where
+      pub committed_longer : length h ≤ length (committed o h w q).journal
+      unfolding committed
+      committed_longer = longer_by (newer_since o.tables h q (next_move o h w q).steps) h (next_entry o h w q)
 
-pub turn_same : (i : Tables) (a0 : List Machine) (l : Lots) (h : List Entry) (w q : ℕ) →
-    SameBelow (length h) h (turn i a0 l h w q).journal
-unfolding turn answered
-turn_same i a0 l h w q = cond_both (is_skipped l h w q) _ _ (λ (t : Turn). SameBelow (length h) h t.journal)
-    (λ skipped. record { each = λ j before. refl }) (λ handed. committed_same i a0 l h w q)
+      pub turn_longer : length h ≤ length (turn o h w q).journal
+      unfolding turn answered is_skipped
+      turn_longer = cond_both (has_used o.lots h w || is_behind h w q) _ _ (λ (t : Turn). length h ≤ length t.journal)
+          (λ skipped. omega arith) (λ handed. committed_longer)
 
--- a replica stays at a state when entries are added
-at_later : (i : Tables) (a0 : List Machine) (l : Lots) (h g : List Entry) (r : Replica) → SameBelow (length h) h g →
-    length h ≤ length g → IsAt i a0 l h r → IsAt i a0 l g r
-at_later i a0 l h g r same longer at =
-    let here = same_fewer r.place (length h) h g at.place same in
-    record {
-      instance = at.instance;
-      initial = at.initial;
-      lots = at.lots;
-      place = omega (arith, at.place, longer);
-      state = at.state ∙ same_state a0 r.place h g here;
-      number = at.number ∙ same_entries_of r.place r.proposals.worker h g here;
+      committed_same : SameBelow (length h) h (committed o h w q).journal
+      unfolding committed
+      committed_same = kept_below (newer_since o.tables h q (next_move o h w q).steps) h (next_entry o h w q)
+
+      pub turn_same : SameBelow (length h) h (turn o h w q).journal
+      unfolding turn answered
+      turn_same = cond_both (is_skipped o.lots h w q) _ _ (λ (t : Turn). SameBelow (length h) h t.journal)
+          (λ skipped. record { each = λ j before. refl }) (λ handed. committed_same)
+
+    -- one replica is brought to another state
+    pub all_set : (rs : List Replica) (s : Replica) →
+        AreAt o h rs → w < length rs → IsAtOf o h w s → AreAt o h (set rs w s)
+    all_set rs s at there here = record {
+      one_each = length-set rs w s ∙ at.one_each;
+      each = λ v r within is. ⊎_elim
+          (λ (same : v ≡ w).
+          subst (IsAtOf o h v) (sym (get_or-set_same rs w s r there)
+          ∙ ap (λ k. get_or (set rs w s) k r) (sym same) ∙ is)
+          (subst (λ k. IsAtOf o h k s) (sym same) here))
+          (λ (apart : v ≡ w → ⊥). at.each v r (omega (arith, within, length-set rs w s))
+          (sym (get_or-set_other rs w v s r apart) ∙ is))
+          (cases_eq v w);
     }
 
-pub all_later : (i : Tables) (a0 : List Machine) (l : Lots) (h g : List Entry) (w q : ℕ) (rs : List Replica) →
-    AreAt i a0 l h rs → g ≡ (turn i a0 l h w q).journal → AreAt i a0 l g rs
-all_later i a0 l h g w q rs at g_is = rw g_is (record {
-  one_each = at.one_each;
-  each = λ v r within is. let here = at.each v r within is in record {
-    worker = here.worker;
-    at = at_later i a0 l h (turn i a0 l h w q).journal r (turn_same i a0 l h w q) (turn_longer i a0 l h w q) here.at;
-  };
-})
+  -- a replica stays at a state when entries are added
+  at_later : (g : List Entry) (r : Replica) → SameBelow (length h) h g →
+      length h ≤ length g → IsAt o h r → IsAt o g r
+  at_later g r same longer at =
+      let here = same_fewer r.place (length h) h g at.place same in
+      record {
+        opening = at.opening;
+        place = omega (arith, at.place, longer);
+        state = at.state ∙ same_state o.start r.place h g here;
+        number = at.number ∙ same_entries_of r.place r.proposals.worker h g here;
+      }
 
--- one replica is brought to another state
-pub all_set : (i : Tables) (a0 : List Machine) (l : Lots) (h : List Entry) (w : ℕ) (rs : List Replica) (s : Replica) →
-    AreAt i a0 l h rs → w < length rs → IsAtOf i a0 l h w s → AreAt i a0 l h (set rs w s)
-all_set i a0 l h w rs s at there here = record {
-  one_each = length-set rs w s ∙ at.one_each;
-  each = λ v r within is. ⊎_elim
-      (λ (same : v ≡ w).
-      subst (IsAtOf i a0 l h v) (sym (get_or-set_same rs w s r there)
-      ∙ ap (λ k. get_or (set rs w s) k r) (sym same) ∙ is)
-      (subst (λ k. IsAtOf i a0 l h k s) (sym same) here))
-      (λ (apart : v ≡ w → ⊥). at.each v r (omega (arith, within, length-set rs w s))
-      (sym (get_or-set_other rs w v s r apart) ∙ is))
-      (cases_eq v w);
-}
+  pub all_later : (g : List Entry) (w q : ℕ) (rs : List Replica) →
+      AreAt o h rs → g ≡ (turn o h w q).journal → AreAt o g rs
+  all_later g w q rs at g_is = rw g_is (record {
+    one_each = at.one_each;
+    each = λ v r within is. let here = at.each v r within is in record {
+      worker = here.worker;
+      at = at_later (turn o h w q).journal r (turn_same w q) (turn_longer w q) here.at;
+    };
+  })
 
 -- the place of a replica in the core
 pub place_there : (h : List Entry) (rs : List Replica) (w : ℕ) (r : Replica) → w < length rs → get_or rs w r ≡ r →
@@ -108,11 +103,6 @@ unfolding core_of
 places_set h g rs w q s place =
     map-set (λ (x : Replica). x.place) rs w s ∙ ap (λ (k : ℕ). set (map (λ (x : Replica). x.place) rs) w k) place
 
--- equal openings
-pub same_all : (i j : Tables) (a0 b0 : List Machine) (l m : Lots) (h : List Entry) (rs : List Replica) →
-    AreAt j b0 m h rs → j ≡ i → b0 ≡ a0 → m ≡ l → AreAt i a0 l h rs
-same_all i j a0 b0 l m h rs at inst initial lots = rw (← inst, ← initial, ← lots) at
-
 -- a journal is over what it is over, and over what another is that is over the same
 pub over_itself : (j : Journal) → IsOverSame j j
 over_itself j = record { instance = refl; topology = refl; initial = refl; lots = refl }
@@ -125,17 +115,9 @@ over_then j k g first second = record {
   lots = second.lots ∙ first.lots;
 }
 
-pub same_tables : (j k : Journal) → IsOverSame j k → k.inst.now.tables ≡ j.inst.now.tables
-same_tables j k over = ap (λ (x : Instance). x.tables) over.instance
-
-pub same_start : (j k : Journal) → IsOverSame j k → k.a0.now.items ≡ j.a0.now.items
-same_start j k over = ap (λ (x : Listed Machine). x.items) over.initial
-
 -- the replicas stay at states of a journal with which a worker has taken its turn
 pub stand_later : (j k : Journal) (w q : ℕ) (said : CoreReply) (rs : List Replica) → StandIn j rs →
     TakesTurn j k w q said → StandIn k rs
-stand_later j k w q said rs at turned = same_all k.inst.now.tables j.inst.now.tables k.a0.now.items j.a0.now.items
-    k.lots.now j.lots.now k.book.entries.items rs
-    (all_later j.inst.now.tables j.a0.now.items j.lots.now j.book.entries.items k.book.entries.items w q rs at
-    turned.journal)
-    (sym (same_tables j k turned.over)) (sym (same_start j k turned.over)) (sym turned.over.lots)
+stand_later j k w q said rs at turned =
+    subst (λ (o : Opening). AreAt o k.book.entries.items rs) (sym (over_is j k turned.over))
+    (all_later (opening_in j) j.book.entries.items k.book.entries.items w q rs at turned.journal)

@@ -5,11 +5,9 @@ use Rattle.ra_base.specs.declared.causes.Cause.{Cause}
 use Rattle.ra_base.specs.Sums.{one_if}
 use Rattle.ra_base.proofs.Searches.{left_none}
 use Rattle.ra_base.proofs.Counts.{count_more}
-use Rattle.ra_draws.specs.declared.budgets.Lots.{Lots}
-use Rattle.ra_model.specs.declared.raw.Tables.{Tables}
 use Rattle.ra_model.specs.Limits.{WellFormed}
 use Rattle.ra_model.specs.Assignments.{IsAssignment}
-use Rattle.ra_model.specs.Situations.{Situation, situation}
+use Rattle.ra_model.specs.Situations.{Situation}
 use Rattle.ra_moves.specs.declared.steps.Step.{Step}
 use Rattle.ra_moves.specs.declared.verdicts.Verdict.{Verdict}
 use Rattle.ra_moves.specs.declared.verdicts.Verdict.TheVariants.{Done, Refused}
@@ -19,22 +17,16 @@ use Rattle.ra_moves.specs.Moving.{MayMove}
 use Rattle.ra_journal.specs.declared.entries.Entry.{Entry}
 use Rattle.ra_journal.specs.Entries.{entry_at, entries_of, steps_made, made_by}
 use Rattle.ra_journal.specs.Legal.{Legal}
-use Rattle.ra_journal.specs.States.{state, after_made}
+use Rattle.ra_journal.specs.States.{state, after_made, state_at}
+use Rattle.ra_journal.specs.Openings.{Opening}
 use Rattle.ra_journal.proofs.StandingLemmas.{unbroken_if_done, legal_offered}
 use Rattle.ra_worker.specs.Following.{IsJudged}
-
--- a situation by its parts
-pub one_situation : (st : Situation) (i : Tables) (a0 a : List Machine) → st.tables ≡ i → st.start ≡ a0 → st.here ≡ a →
-    st ≡ situation i a0 a
-one_situation st i a0 a tables start here =
-    ap (λ (j : Tables). situation j st.start st.here) tables ∙ ap (λ (b : List Machine). situation i b st.here) start
-    ∙ ap (situation i a0) here
 
 -- a move that is done breaks nothing
 pub done_unbroken : (st : Situation) (steps : List Step) (cost : ℕ) (verdict : Verdict) →
     IsJudged st steps verdict → verdict ≡ Done cost → broken_by st steps ≡ None
 done_unbroken st steps cost verdict is done =
-    unbroken_if_done st.tables st.start st.here steps is.allowed cost verdict is.judged done
+    unbroken_if_done st steps is.allowed cost verdict is.judged done
 
 -- so what can be weighed is a move
 pub done_moves : (st : Situation) (steps : List Step) (cost : ℕ) (verdict : Verdict) →
@@ -55,12 +47,12 @@ unfolding after_made steps_made
 after_refused a steps cause verdict refused = rw refused refl
 
 -- each entry of a legal journal was offered and judged at the state of its own place
-pub entry_judged : (i : Tables) (a0 a : List Machine) (l : Lots) (h : List Entry) (j : ℕ) (e : Entry) → WellFormed i →
-    IsAssignment i a0 → Legal i a0 l h → j < length h → e ≡ entry_at h j → a ≡ state a0 h j →
-    IsJudged (situation i a0 a) e.mv.steps e.verdict
-entry_judged i a0 a l h j e limits fits legal within e_is a_is = rw (e_is, a_is) (record {
+pub entry_judged : (o : Opening) (h : List Entry) (j : ℕ) (e : Entry) → WellFormed o.tables →
+    IsAssignment o.tables o.start → Legal o h → j < length h → e ≡ entry_at h j →
+    IsJudged (state_at o h j) e.mv.steps e.verdict
+entry_judged o h j e limits fits legal within e_is = rw e_is (record {
   allowed = _;
-  offered = (legal_offered i a0 l h limits fits legal j within).here;
+  offered = (legal_offered o h limits fits legal j within).here;
   judged = (legal.each j within).judged;
 })
 

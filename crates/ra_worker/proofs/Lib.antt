@@ -1,4 +1,5 @@
 pub mod FollowingLemmas
+pub mod OpeningLemmas
 pub mod ProposalLemmas
 pub mod ReplicaLemmas
 pub mod TurnLemmas

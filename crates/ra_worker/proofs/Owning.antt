@@ -6,14 +6,15 @@ use Rattle.ra_journal.specs.declared.replies.Reply.{Reply}
 use Rattle.ra_journal.specs.Batches.{batch_from}
 use Rattle.ra_journal.specs.Entries.{entries_of, budget}
 use Rattle.ra_journal.specs.Quiet.{AreRefused}
+use Rattle.ra_journal.specs.Openings.{Opening}
 use Rattle.ra_turn.specs.Passes.{seen_by, notes_made_by as mine_of}
 use Rattle.ra_shared.specs.declared.shared.Shared.{Shared}
 use Rattle.ra_shared.specs.Copies.{CopiesUnlessQuiet}
 use Rattle.ra_shared.specs.Shares.{start_of, HasCommitted}
 use Rattle.ra_shared.proofs.Quiet.{made_more}
-use Rattle.ra_worker.proofs.TurnLemmas.{batch_long, same_opening}
+use Rattle.ra_worker.proofs.TurnLemmas.{batch_long}
 use Rattle.ra_worker.specs.declared.replica.Replica.{Replica}
-use Rattle.ra_worker.specs.Replicas.{IsNextPlan, ArePassed, HasPassed}
+use Rattle.ra_worker.specs.Replicas.{IsNextPlan, IsAt, ArePassed, HasPassed}
 use Rattle.ra_worker.specs.declared.worker.Worker.{Worker}
 use Rattle.ra_worker.specs.Working.{IsAtWork, IsQuiet, HasNextBatch, IsAtOrAfterOwn, HasOwn, shown_in}
 use Rattle.ra_worker.proofs.Seen.{own_count}
@@ -74,9 +75,7 @@ module _ (s : Shared) (w w' : Worker) (plan : Plan) (reply : Reply) (work : IsAt
         subst (λ (v : ℕ). entries_of h (length h) v ≡ length (mine_of w'.pass)) (sym handed.same)
         (own_count h (mine_of w'.pass) w'.pass.number done.rest.own) in
         record {
-          here = same_opening r.world.tables (start_of s).inst.tables r.world.start
-              (start_of s).a0.items r.proposals.lots.now (start_of s).lots h r at (sym at.instance) (sym at.initial)
-              (sym at.lots);
+          here = subst (λ (p : Opening). IsAt p h r) (sym at.opening) at;
           from = at.place;
           within = omega arith;
           refused = subst (λ (q : ℕ). AreRefused h q (length h)) place refused;
@@ -104,7 +103,5 @@ work_passed s w after to work quiet is passed same =
     record {
       rest = rw same work.rest;
       same = rw same (passed.worker ∙ work.same);
-      at = rw same (same_opening (start_of s).inst.tables r.world.tables (start_of s).a0.items
-          r.world.start (start_of s).lots r.proposals.lots.now h after.replica at work.at.instance
-          work.at.initial work.at.lots);
+      at = rw same (subst (λ (p : Opening). IsAt p h after.replica) work.at.opening at);
     }

@@ -5,12 +5,10 @@ use mathlib.Core.List.{IsPrefix}
 use Rattle.ra_base.specs.Sums.{one_if}
 use Rattle.ra_base.proofs.Sums.{total_none, total_front}
 use Rattle.ra_base.proofs.Counts.{count_grows}
-use Rattle.ra_base.specs.declared.ids.Machine.{Machine}
-use Rattle.ra_draws.specs.declared.budgets.Lots.{Lots}
-use Rattle.ra_model.specs.declared.raw.Tables.{Tables}
 use Rattle.ra_journal.specs.declared.entries.Entry.{Entry}
 use Rattle.ra_journal.specs.Entries.{entry_at, entries_of, proposal_count}
 use Rattle.ra_journal.specs.Legal.{Legal}
+use Rattle.ra_journal.specs.Openings.{Opening}
 use Rattle.ra_journal.proofs.Places.{SameBelow, same_fewer, same_state, same_entries_of}
 use Rattle.ra_journal.proofs.RoomLemmas.{entries_few}
 use Rattle.ra_turn.specs.Notes.{by}
@@ -19,38 +17,35 @@ use Rattle.ra_worker.specs.declared.replica.Replica.{Replica}
 use Rattle.ra_worker.specs.Replicas.{IsAt}
 
 -- a legal journal has at most as many entries as all budgets together
-pub legal_few : (i : Tables) (a0 : List Machine) (l : Lots) (h : List Entry) → Legal i a0 l h →
-    length h ≤ proposal_count l
-legal_few i a0 l h legal = entries_few l h (length h) (record { each = λ j there. (legal.each j there).numbered })
+pub legal_few : (o : Opening) (h : List Entry) → Legal o h → length h ≤ proposal_count o.lots
+legal_few o h legal = entries_few o.lots h (length h) (record { each = λ j there. (legal.each j there).numbered })
 
--- a beginning of a history
-pub prefix_long : (h g : List Entry) → IsPrefix h g → length h ≤ length g
-prefix_long h g p = omega (arith, length-append h p.0, ap (λ (x : List Entry). length x) p.1)
+module _ (h g : List Entry) where
+  -- a beginning of a history
+  pub prefix_long : IsPrefix h g → length h ≤ length g
+  prefix_long p = omega (arith, length-append h p.0, ap (λ (x : List Entry). length x) p.1)
 
-pub prefix_same : (h g : List Entry) → IsPrefix h g → SameBelow (length h) h g
-unfolding entry_at
-prefix_same h g p = record {
-  each = λ j before. subst (λ (x : List Entry). entry_at h j ≡ entry_at x j) p.1
-      (sym (get_or_append_left h p.0 _ j before));
-}
+  pub prefix_same : IsPrefix h g → SameBelow (length h) h g
+  unfolding entry_at
+  prefix_same p = record {
+    each = λ j before. subst (λ (x : List Entry). entry_at h j ≡ entry_at x j) p.1
+        (sym (get_or_append_left h p.0 _ j before));
+  }
+
+  -- and as many entries before a place are a worker's
+  pub prefix_entries : (n w : ℕ) → IsPrefix h g → n ≤ length h → entries_of g n w ≡ entries_of h n w
+  prefix_entries n w p within = sym (same_entries_of n w h g (same_fewer n (length h) h g within (prefix_same p)))
 
 -- a replica stays at a state
-pub prefix_at : (i : Tables) (a0 : List Machine) (l : Lots) (h g : List Entry) (r : Replica) → IsPrefix h g →
-    IsAt i a0 l h r → IsAt i a0 l g r
-prefix_at i a0 l h g r p at =
+pub prefix_at : (o : Opening) (h g : List Entry) (r : Replica) → IsPrefix h g → IsAt o h r → IsAt o g r
+prefix_at o h g r p at =
     let here = same_fewer r.place (length h) h g at.place (prefix_same h g p) in
     record {
-      instance = at.instance;
-      initial = at.initial;
-      lots = at.lots;
+      opening = at.opening;
       place = omega (arith, at.place, prefix_long h g p);
-      state = at.state ∙ same_state a0 r.place h g here;
+      state = at.state ∙ same_state o.start r.place h g here;
       number = at.number ∙ same_entries_of r.place r.proposals.worker h g here;
     }
-
--- and as many entries before a place are a worker's
-pub prefix_entries : (h g : List Entry) (n w : ℕ) → IsPrefix h g → n ≤ length h → entries_of g n w ≡ entries_of h n w
-prefix_entries h g n w p within = sym (same_entries_of n w h g (same_fewer n (length h) h g within (prefix_same h g p)))
 
 -- more entries before a later place
 pub entries_grow : (h : List Entry) (m n w : ℕ) → m ≤ n → entries_of h m w ≤ entries_of h n w

@@ -1,47 +1,47 @@
 -- A replica that takes in one entry after another of a journal that it can read.
 use Rattle.std.proofs.Common.{◌≡◌, ◌^◌, ◌<◌, List, length, refl, sym, ap, ◌∙◌, subst, arith}
-use Rattle.ra_base.specs.declared.ids.Machine.{Machine}
 use Rattle.ra_draws.specs.declared.budgets.Lots.{Lots}
-use Rattle.ra_model.specs.declared.raw.Tables.{Tables}
 use Rattle.ra_model.specs.Limits.{WellFormed}
 use Rattle.ra_model.specs.Assignments.{IsAssignment}
 use Rattle.ra_model.specs.Situations.{Situation}
 use Rattle.ra_journal.specs.declared.entries.Entry.{Entry}
 use Rattle.ra_journal.specs.Entries.{entry_at, entries_of, budget}
 use Rattle.ra_journal.specs.Legal.{Legal}
+use Rattle.ra_journal.specs.Openings.{Opening}
 use Rattle.ra_journal.proofs.RoomLemmas.{AreNumbered, entries_few, proposals_few}
 use Rattle.ra_worker.specs.declared.replica.Replica.{Replica}
 use Rattle.ra_worker.specs.Following.{IsJudged}
 use Rattle.ra_worker.specs.Replicas.{IsAt}
-use Rattle.ra_worker.proofs.FollowingLemmas.{entry_judged, one_situation}
+use Rattle.ra_worker.proofs.FollowingLemmas.{entry_judged}
+use Rattle.ra_worker.proofs.OpeningLemmas.{world_is}
 
--- the entry at the place of a replica was judged at its state
-pub here_judged : (i : Tables) (a0 : List Machine) (l : Lots) (h : List Entry) (r : Replica) (e : Entry) →
-    WellFormed i → IsAssignment i a0 → Legal i a0 l h → IsAt i a0 l h r → r.place < length h → e ≡ entry_at h r.place →
-    IsJudged r.world e.mv.steps e.verdict
-here_judged i a0 l h r e limits fits legal at within e_is =
-    subst (λ (st : Situation). IsJudged st e.mv.steps e.verdict)
-    (sym (one_situation r.world i a0 r.world.here at.instance at.initial refl))
-    (entry_judged i a0 r.world.here l h r.place e limits fits legal within e_is at.state)
+module _ (o : Opening) (h : List Entry) (r : Replica) where
+  -- the entry at the place of a replica was judged at its state
+  pub here_judged : (e : Entry) →
+      WellFormed o.tables → IsAssignment o.tables o.start → Legal o h → IsAt o h r → r.place < length h →
+      e ≡ entry_at h r.place →
+      IsJudged r.world e.mv.steps e.verdict
+  here_judged e limits fits legal at within e_is =
+      subst (λ (st : Situation). IsJudged st e.mv.steps e.verdict)
+      (sym (world_is o h r at)) (entry_judged o h r.place e limits fits legal within e_is)
 
--- if that entry is of its worker, the worker has some budget left
-pub here_left : (i : Tables) (a0 : List Machine) (l : Lots) (h : List Entry) (r : Replica) (e : Entry) →
-    Legal i a0 l h → IsAt i a0 l h r → r.place < length h → e ≡ entry_at h r.place → e.worker ≡ r.proposals.worker →
-    r.proposals.number < budget r.proposals.lots.now r.proposals.worker
-here_left i a0 l h r e legal at within e_is own =
-    let numbered = (legal.each r.place within).numbered in
-    let here : (entry_at h r.place).worker ≡ r.proposals.worker = ap (λ (x : Entry). x.worker) (sym e_is) ∙ own in
-    let left : entries_of h r.place (entry_at h r.place).worker < budget l (entry_at h r.place).worker =
-    omega (arith, numbered.number, numbered.budget) in
-    let number : r.proposals.number ≡ entries_of h r.place r.proposals.worker = at.number in
-    let lots : r.proposals.lots.now ≡ l = at.lots in
-    let some : entries_of h r.place r.proposals.worker < budget l r.proposals.worker =
-    subst (λ w. entries_of h r.place w < budget l w) here left in
-    omega (arith, number, some, ap (λ (m : Lots). budget m r.proposals.worker) lots)
+  -- if that entry is of its worker, the worker has some budget left
+  pub here_left : (e : Entry) →
+      Legal o h → IsAt o h r → r.place < length h → e ≡ entry_at h r.place → e.worker ≡ r.proposals.worker →
+      r.proposals.number < budget r.proposals.lots.now r.proposals.worker
+  here_left e legal at within e_is own =
+      let numbered = (legal.each r.place within).numbered in
+      let here : (entry_at h r.place).worker ≡ r.proposals.worker = ap (λ (x : Entry). x.worker) (sym e_is) ∙ own in
+      let left : entries_of h r.place (entry_at h r.place).worker < budget o.lots (entry_at h r.place).worker =
+      omega (arith, numbered.number, numbered.budget) in
+      let number : r.proposals.number ≡ entries_of h r.place r.proposals.worker = at.number in
+      let lots : r.proposals.lots.now ≡ o.lots = ap (λ (x : Opening). x.lots) at.opening in
+      let some : entries_of h r.place r.proposals.worker < budget o.lots r.proposals.worker =
+      subst (λ w. entries_of h r.place w < budget o.lots w) here left in
+      omega (arith, number, some, ap (λ (m : Lots). budget m r.proposals.worker) lots)
 
--- and there are few entries
-pub here_few : (i : Tables) (a0 : List Machine) (l : Lots) (h : List Entry) (r : Replica) → Legal i a0 l h →
-    r.place < length h → r.place < 2 ^ 63
-here_few i a0 l h r legal within =
-    let numbered : AreNumbered l h (length h) = record { each = λ k there. (legal.each k there).numbered } in
-    omega (arith, within, entries_few l h (length h) numbered, proposals_few l)
+  -- and there are few entries
+  pub here_few : Legal o h → r.place < length h → r.place < 2 ^ 63
+  here_few legal within =
+      let numbered : AreNumbered o.lots h (length h) = record { each = λ k there. (legal.each k there).numbered } in
+      omega (arith, within, entries_few o.lots h (length h) numbered, proposals_few o.lots)

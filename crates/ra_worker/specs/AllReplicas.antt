@@ -1,26 +1,22 @@
 -- The replicas of all workers, in order. With a journal they are the core of a run.
 use Rattle.std.specs.Prelude.{◌≡◌, ℕ, ◌<◌, List, length, map, slice_index_or}
-use Rattle.ra_base.specs.declared.ids.Machine.{Machine}
-use Rattle.ra_draws.specs.declared.budgets.Lots.{Lots}
-use Rattle.ra_model.specs.declared.raw.Tables.{Tables}
 use Rattle.ra_journal.specs.declared.entries.Entry.{Entry}
 use Rattle.ra_journal.specs.Entries.{worker_count}
+use Rattle.ra_journal.specs.Openings.{Opening}
 use Rattle.ra_worker.specs.declared.replica.Replica.{Replica}
 use Rattle.ra_worker.specs.Replicas.{IsAt}
 use Rattle.ra_worker.specs.Core.{Core}
 
 -- replica w of a list is the one of worker w, at a state of a journal
-pub record IsAtOf (i : Tables) (a0 : List Machine) (l : Lots) (h : List Entry) (w : ℕ) (r : Replica)
-    : Type 0 where
+pub record IsAtOf (o : Opening) (h : List Entry) (w : ℕ) (r : Replica) : Type 0 where
   pub worker : r.proposals.worker ≡ w
-  pub at : IsAt i a0 l h r
+  pub at : IsAt o h r
 
 -- there is one replica for each worker, in order, each at a state of a journal
-pub record AreAt (i : Tables) (a0 : List Machine) (l : Lots) (h : List Entry)
-    (replicas : List Replica) : Type 0 where
-  pub one_each : length replicas ≡ worker_count l
+pub record AreAt (o : Opening) (h : List Entry) (replicas : List Replica) : Type 0 where
+  pub one_each : length replicas ≡ worker_count o.lots
   pub each : (w : ℕ) (r : Replica) → w < length replicas → slice_index_or replicas w r ≡ r
-      → IsAtOf i a0 l h w r
+      → IsAtOf o h w r
 
 -- the core that consists of a journal and the replicas' places
 unfoldable pub core_of : List Entry → List Replica → Core

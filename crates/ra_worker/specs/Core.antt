@@ -1,12 +1,11 @@
 -- The core of a run: its journal, and for each worker the place up to which it has taken the journal in. The workers
 -- take their turns in any order.
 use Rattle.std.specs.Prelude.{◌≡◌, ℕ, zero, suc, ◌+◌, ◌-◌, ◌<◌, ◌≤◌, min, if◌then◌else◌, List, [], ◌∷◌, ◌++◌, length, slice_index, slice_index_or, slice_set}
-use Rattle.ra_base.specs.declared.ids.Machine.{Machine}
 use Rattle.ra_draws.specs.declared.budgets.Lots.{Lots}
-use Rattle.ra_model.specs.declared.raw.Tables.{Tables}
 use Rattle.ra_journal.specs.declared.entries.Entry.{Entry}
 use Rattle.ra_journal.specs.Committing.{committed, Committed}
 use Rattle.ra_journal.specs.Entries.{worker_count}
+use Rattle.ra_journal.specs.Openings.{Opening}
 use Rattle.ra_worker.specs.Skipping.{is_skipped}
 use Rattle.ra_worker.specs.declared.events.CoreEvent.{CoreEvent}
 use Rattle.ra_worker.specs.declared.events.CoreEvent.TheVariants.{CatchUp, Commit}
@@ -36,10 +35,10 @@ unfoldable pub answered : Committed → Turn
 answered done = record { journal = done.journal; reply = Answer done.reply }
 
 -- worker w hands in its next proposal, planned at place q, unless it is skipped
-unfoldable pub turn : Tables → List Machine → Lots → List Entry → ℕ → ℕ → Turn
-turn i a0 l h w q =
-    if is_skipped l h w q then record { journal = h; reply = Skipped }
-    else answered (committed i a0 l h w q)
+unfoldable pub turn : Opening → List Entry → ℕ → ℕ → Turn
+turn o h w q =
+    if is_skipped o.lots h w q then record { journal = h; reply = Skipped }
+    else answered (committed o h w q)
 
 -- the core after an event, and the reply
 pub record Stepped : Type 0 where
@@ -56,44 +55,44 @@ caught_up c w =
     }
 
 -- worker w hands in a proposal that is planned at its place, and no place changes
-unfoldable pub handed_in : Tables → List Machine → Lots → Core → ℕ → Stepped
-handed_in i a0 l c w =
-    let t = turn i a0 l c.journal w (core_place_of c w) in
+unfoldable pub handed_in : Opening → Core → ℕ → Stepped
+handed_in o c w =
+    let t = turn o c.journal w (core_place_of c w) in
     record { after = record { journal = t.journal; places = c.places }; reply = t.reply }
 
 -- the core and the reply after one event
-unfoldable pub step : Tables → List Machine → Lots → Core → CoreEvent → Stepped
-step i a0 l c (CatchUp w) = caught_up c w
-step i a0 l c (Commit w) = handed_in i a0 l c w
+unfoldable pub step : Opening → Core → CoreEvent → Stepped
+step o c (CatchUp w) = caught_up c w
+step o c (Commit w) = handed_in o c w
 
 -- event n of a list
 unfoldable pub event_at : List CoreEvent → ℕ → CoreEvent
 event_at events n = slice_index_or events n (CatchUp 0)
 
 -- the core after the first n events
-unfoldable pub core_after : Tables → List Machine → Lots → Core → List CoreEvent → ℕ → Core
-core_after i a0 l c events zero = c
-core_after i a0 l c events (suc n) =
-    (step i a0 l (core_after i a0 l c events n) (event_at events n)).after
+unfoldable pub core_after : Opening → Core → List CoreEvent → ℕ → Core
+core_after o c events zero = c
+core_after o c events (suc n) =
+    (step o (core_after o c events n) (event_at events n)).after
 
 -- the replies to the first n events
-unfoldable pub core_replies_to : Tables → List Machine → Lots → Core → List CoreEvent → ℕ
+unfoldable pub core_replies_to : Opening → Core → List CoreEvent → ℕ
     → List CoreReply
-core_replies_to i a0 l c events zero = []
-core_replies_to i a0 l c events (suc n) =
-    core_replies_to i a0 l c events n
-    ++ (step i a0 l (core_after i a0 l c events n) (event_at events n)).reply ∷ []
+core_replies_to o c events zero = []
+core_replies_to o c events (suc n) =
+    core_replies_to o c events n
+    ++ (step o (core_after o c events n) (event_at events n)).reply ∷ []
 
 -- the run of a list of events: the last core, and one reply for each event
 pub record Ran : Type 0 where
   pub last : Core
   pub replies : List CoreReply
 
-unfoldable pub run : Tables → List Machine → Lots → Core → List CoreEvent → Ran
-run i a0 l c events =
+unfoldable pub run : Opening → Core → List CoreEvent → Ran
+run o c events =
     record {
-      last = core_after i a0 l c events (length events);
-      replies = core_replies_to i a0 l c events (length events);
+      last = core_after o c events (length events);
+      replies = core_replies_to o c events (length events);
     }
 
 -- the worker of an event

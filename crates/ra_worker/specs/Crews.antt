@@ -1,10 +1,8 @@
 -- All workers of a run.
 use Rattle.std.specs.Prelude.{◌≡◌, ℕ, List, length}
-use Rattle.ra_base.specs.declared.ids.Machine.{Machine}
-use Rattle.ra_draws.specs.declared.budgets.Lots.{Lots}
-use Rattle.ra_model.specs.declared.raw.Tables.{Tables}
 use Rattle.ra_journal.specs.declared.entries.Entry.{Entry}
 use Rattle.ra_journal.specs.Entries.{worker_count, budget}
+use Rattle.ra_journal.specs.Openings.{Opening}
 use Rattle.ra_turn.specs.Passes.{EachAt, notes_made_by}
 use Rattle.ra_shared.specs.declared.shared.Shared.{Shared}
 use Rattle.ra_shared.specs.Shares.{start_of, IsAtRest}
@@ -13,9 +11,9 @@ use Rattle.ra_worker.specs.declared.worker.Worker.{Worker}
 use Rattle.ra_worker.specs.Running.{MayRun}
 
 -- a worker that hasn't begun: its replica is the one of its pass's worker, and at a state of every journal
-pub record HasNotBegun (i : Tables) (a0 : List Machine) (l : Lots) (w : Worker) : Type 0 where
+pub record HasNotBegun (o : Opening) (w : Worker) : Type 0 where
   pub worker : w.replica.proposals.worker ≡ w.pass.number
-  pub at : (h : List Entry) → IsAt i a0 l h w.replica
+  pub at : (h : List Entry) → IsAt o h w.replica
 
 -- worker n may run
 pub record IsReadyAs (s : Shared) (n : ℕ) (w : Worker) : Type 0 where

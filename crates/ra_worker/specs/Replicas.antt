@@ -13,6 +13,7 @@ use Rattle.ra_journal.specs.Entries.{entry_at, entries_of, budget, words, allowe
 use Rattle.ra_journal.specs.Legal.{Legal}
 use Rattle.ra_journal.specs.Quiet.{AreRefused}
 use Rattle.ra_journal.specs.States.{state, after_made}
+use Rattle.ra_journal.specs.Openings.{Opening, opening}
 use Rattle.ra_worker.specs.declared.replica.Replica.{Replica}
 
 -- the tables of its instance
@@ -33,6 +34,10 @@ lots_at r = r.proposals.lots.now
 
 abbrev pub worker_at : Replica → ℕ
 worker_at r = r.proposals.worker
+
+-- its instance's tables, its initial assignment and its lots as one
+abbrev pub opening_at : Replica → Opening
+opening_at r = opening r.world.tables r.world.start r.proposals.lots.now
 
 -- the number of its worker's next proposal, and how many its worker makes in all
 abbrev pub next_at : Replica → ℕ
@@ -62,23 +67,18 @@ IsNextPlan r = IsPlanAt r (next_at r)
 -- worker's
 pub record HasFollowed (before after : Replica) (e : Entry) : Type 0 where
   pub assignment : here_at after ≡ after_made (here_at before) (made_by e)
-  pub instance : tables_at after ≡ tables_at before
-  pub initial : start_at after ≡ start_at before
-  pub lots : lots_at after ≡ lots_at before
+  pub opening : opening_at after ≡ opening_at before
   pub worker : worker_at after ≡ worker_at before
   pub number : next_at after ≡ next_at before + one_if (e.worker == worker_at before)
   pub place : place_at after ≡ place_at before + 1
 
 -- a replica is at a state of a journal: it is of the same instance, initial assignment and lots, its assignment is the
 -- state at its place, and its worker has made as many proposals as it has entries before that
-pub record IsAt (i : Tables) (a0 : List Machine) (l : Lots) (h : List Entry) (r : Replica) : Type 0
-  where
-    pub instance : tables_at r ≡ i
-    pub initial : start_at r ≡ a0
-    pub lots : lots_at r ≡ l
-    pub place : place_at r ≤ length h
-    pub state : here_at r ≡ state a0 h (place_at r)
-    pub number : next_at r ≡ entries_of h (place_at r) (worker_at r)
+pub record IsAt (o : Opening) (h : List Entry) (r : Replica) : Type 0 where
+  pub opening : opening_at r ≡ o
+  pub place : place_at r ≤ length h
+  pub state : here_at r ≡ state o.start h (place_at r)
+  pub number : next_at r ≡ entries_of h (place_at r) (worker_at r)
 
 -- entries are consecutive entries of a journal from a place on
 pub record ArePartOf (h : List Entry) (at : ℕ) (entries : List Entry) : Type 0 where
@@ -87,8 +87,8 @@ pub record ArePartOf (h : List Entry) (at : ℕ) (entries : List Entry) : Type 0
 
 -- a replica is at a state of a legal journal, and entries are that journal's from its place on
 pub record AreNextEntries (r : Replica) (entries h : List Entry) : Type 0 where
-  pub legal : Legal (tables_at r) (start_at r) (lots_at r) h
-  pub here : IsAt (tables_at r) (start_at r) (lots_at r) h r
+  pub legal : Legal (opening_at r) h
+  pub here : IsAt (opening_at r) h r
   pub part : ArePartOf h (place_at r) entries
 
 -- they are the next entries of some journal
@@ -99,18 +99,16 @@ pub record AreNextOfSomeJournal (r : Replica) (entries : List Entry) : Type 0 wh
 -- a replica has taken in the first n of these entries: its place has grown by n, and it is at a state of each legal
 -- journal whose next entries they are
 pub record HasTaken (before after : Replica) (entries : List Entry) (n : ℕ) : Type 0 where
-  pub instance : tables_at after ≡ tables_at before
-  pub initial : start_at after ≡ start_at before
-  pub lots : lots_at after ≡ lots_at before
+  pub opening : opening_at after ≡ opening_at before
   pub worker : worker_at after ≡ worker_at before
   pub place : place_at after ≡ place_at before + n
   pub at : (h : List Entry) → AreNextEntries before entries h
-      → IsAt (tables_at before) (start_at before) (lots_at before) h after
+      → IsAt (opening_at before) h after
 
 -- a replica is at a state of a journal; the journal's entries from the replica's place on, before another place, are
 -- refused; one of these is its worker's
 pub record ArePassed (r : Replica) (to : ℕ) (h : List Entry) : Type 0 where
-  pub here : IsAt (tables_at r) (start_at r) (lots_at r) h r
+  pub here : IsAt (opening_at r) h r
   pub from : place_at r ≤ to
   pub within : to ≤ length h
   pub refused : AreRefused h (place_at r) to
@@ -119,12 +117,10 @@ pub record ArePassed (r : Replica) (to : ℕ) (h : List Entry) : Type 0 where
 -- a replica has skipped the entries before a place: its assignment is unchanged, and it is at a state of each journal
 -- that allowed this
 pub record HasPassed (before after : Replica) (to : ℕ) : Type 0 where
-  pub instance : tables_at after ≡ tables_at before
-  pub initial : start_at after ≡ start_at before
+  pub opening : opening_at after ≡ opening_at before
   pub here : here_at after ≡ here_at before
-  pub lots : lots_at after ≡ lots_at before
   pub worker : worker_at after ≡ worker_at before
   pub number : next_at after ≡ next_at before + 1
   pub place : place_at after ≡ to
   pub at : (h : List Entry) → ArePassed before to h
-      → IsAt (tables_at before) (start_at before) (lots_at before) h after
+      → IsAt (opening_at before) h after

@@ -1,7 +1,7 @@
 -- The turns of workers with a journal, whose replicas are at its states.
 use Rattle.std.specs.Prelude.{◌≡◌, ℕ, List}
 use Rattle.ra_journal.specs.declared.journal.Journal.{Journal}
-use Rattle.ra_journal.specs.Journals.{instance_in, tables_in, topology_in, initial_in, start_in, lots_in, entries_in}
+use Rattle.ra_journal.specs.Journals.{entries_in, opening_in, IsOverSame}
 use Rattle.ra_worker.specs.declared.replica.Replica.{Replica}
 use Rattle.ra_worker.specs.Replicas.{IsAt}
 use Rattle.ra_worker.specs.declared.events.CoreReply.{CoreReply}
@@ -10,10 +10,10 @@ use Rattle.ra_worker.specs.AllReplicas.{AreAt, core_of}
 
 -- a replica is at a state of a journal, and so is each of the replicas of its workers, one for each in order
 abbrev pub StandsInJournal : Journal → Replica → Type 0
-StandsInJournal j r = IsAt (tables_in j) (start_in j) (lots_in j) (entries_in j) r
+StandsInJournal j r = IsAt (opening_in j) (entries_in j) r
 
 abbrev pub StandIn : Journal → List Replica → Type 0
-StandIn j rs = AreAt (tables_in j) (start_in j) (lots_in j) (entries_in j) rs
+StandIn j rs = AreAt (opening_in j) (entries_in j) rs
 
 -- the core that consists of a journal and the replicas' places
 abbrev pub core_in : Journal → List Replica → Core
@@ -21,14 +21,7 @@ core_in j rs = core_of (entries_in j) rs
 
 -- what a journal becomes and replies, if worker w takes its turn with a proposal that is planned at place q
 abbrev pub turn_in : Journal → ℕ → ℕ → Turn
-turn_in j w q = turn (tables_in j) (start_in j) (lots_in j) (entries_in j) w q
-
--- a journal has the same instance with its topology, the same initial assignment and the same lots as another
-pub record IsOverSame (old new : Journal) : Type 0 where
-  pub instance : instance_in new ≡ instance_in old
-  pub topology : topology_in new ≡ topology_in old
-  pub initial : initial_in new ≡ initial_in old
-  pub lots : lots_in new ≡ lots_in old
+turn_in j w q = turn (opening_in j) (entries_in j) w q
 
 -- worker w has taken its turn with a journal
 pub record TakesTurn (old new : Journal) (w q : ℕ) (said : CoreReply) : Type 0 where

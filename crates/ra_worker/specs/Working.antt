@@ -7,6 +7,7 @@ use Rattle.ra_journal.specs.Entries.{entries_of, proposal_count}
 use Rattle.ra_turn.specs.Passes.{seen_by, notes_made_by}
 use Rattle.ra_shared.specs.declared.shared.Shared.{Shared}
 use Rattle.ra_shared.specs.Shares.{start_of, IsAtRest}
+use Rattle.ra_shared.specs.Books.{opening_by}
 use Rattle.ra_worker.specs.Replicas.{IsAt, ArePassed}
 use Rattle.ra_worker.specs.declared.worker.Worker.{Worker}
 
@@ -16,7 +17,7 @@ pub record IsAtWork (s : Shared) (w : Worker) : Type 0 where
   pub rest : IsAtRest s w.pass
   pub same : w.replica.proposals.worker ≡ w.pass.number
   pub at :
-      IsAt (start_of s).inst.tables (start_of s).a0.items (start_of s).lots (seen_by w.pass)
+      IsAt (opening_by (start_of s)) (seen_by w.pass)
       w.replica
 
 -- it has taken in all entries that it has made

@@ -1,5 +1,6 @@
 ghost use Rattle.std.specs.Prelude.{List, IfOk};
 ghost use Rattle.ra_journal.specs.declared.entries.Entry.{Entry as Recorded};
+ghost use Rattle.ra_journal.specs.Openings.{opening};
 ghost use Rattle.ra_topology.specs.Starts.{IsFeasibleStart};
 ghost use Rattle.ra_worker.specs.AllReplicas.{AreAt};
 
@@ -21,7 +22,7 @@ pub fn make_replicas<'a>(
 ) -> Result<Vec<Replica<'a>>, NoMemory>
     requires { IsFeasibleStart inst.now.tables topo.now a0.now.items start }
     ensures { IfOk result (λ replicas. (h : List Recorded) →
-        AreAt inst.now.tables a0.now.items lots.now h replicas.items) }
+        AreAt (opening inst.now.tables a0.now.items lots.now) h replicas.items) }
 {
     let mut replicas = Vec::new(alloc);
     for worker in 0..lots.len() {

@@ -2,6 +2,7 @@ ghost use Rattle.std.specs.Prelude.{◌≡◌, ◌<◌, ◌≤◌, [], length, m
 ghost use Rattle.ra_journal.specs.Entries.{worker_count};
 ghost use Rattle.ra_journal.specs.Journals.{lots_in, entries_in};
 ghost use Rattle.ra_journal.specs.Legal.{Whole};
+ghost use Rattle.ra_journal.specs.Openings.{opening};
 ghost use Rattle.ra_topology.specs.Starts.{IsFeasibleStart};
 ghost use Rattle.ra_shared.specs.Books.{opening_of_journal};
 ghost use Rattle.ra_shared.specs.Shares.{start_of};
@@ -91,7 +92,7 @@ fn make_workers<'a>(
     ensures taken { IfOk result (λ workers. passes.new.items ≡ []) }
     ensures room { IfOk result (λ workers. length workers.items ≤ vec_capacity passes.new) }
     ensures fresh { IfOk result (λ workers.
-        All (HasNotBegun inst.now.tables a0.now.items lots.now) workers.items) }
+        All (HasNotBegun (opening inst.now.tables a0.now.items lots.now)) workers.items) }
 {
     let mut workers = Vec::with_capacity(alloc, passes.len())?;
     'passes: while passes.len() > 0 {
@@ -116,7 +117,7 @@ fn make_worker<'a>(
     requires exists { pass.number < worker_count lots.now }
     ensures pass { IfOk result (λ worker. worker.pass ≡ pass.entry) }
     ensures fresh { IfOk result (λ worker.
-        HasNotBegun inst.now.tables a0.now.items lots.now worker) }
+        HasNotBegun (opening inst.now.tables a0.now.items lots.now) worker) }
 {
     let replica = Replica::make(alloc, inst, topo, a0, start, lots, pass.number())?;
     Worker::make(alloc, replica, pass)

@@ -2,8 +2,9 @@ ghost use Rattle.std.specs.Prelude.{◌≡◌, ◌<◌, IfOk};
 ghost use Rattle.ra_model.specs.Costs.{parts_of};
 ghost use Rattle.ra_topology.specs.Starts.{IsFeasibleStart};
 ghost use Rattle.ra_journal.specs.Best.{best_of};
+ghost use Rattle.ra_journal.specs.Openings.{opening};
 ghost use Rattle.ra_journal.specs.States.{state};
-ghost use Rattle.ra_journal.specs.Journals.{entries_in, initial_in, start_in, tables_in};
+ghost use Rattle.ra_journal.specs.Journals.{entries_in, initial_in, opening_in, start_in, tables_in};
 ghost use Rattle.ra_check.specs.Made.{IsMadeFor};
 ghost use Rattle.ra_worker.specs.Ready.{IsFor};
 ghost use Rattle.ra_worker.specs.Runs.{IsRun};
@@ -70,8 +71,9 @@ impl<'a> Prepared<'a> {
     /// Makes all proposals of all workers, each worker in a thread of its own, and finds the first of the states of
     /// least cost. Each worker passes the gate between making a plan and committing it. It may wait for others.
     pub fn solve<R: Threads + Wait + Sync, G: Gate>(self, rt: &R, gate: &G) -> Solved<'a>
-        ensures { IsRun self.entry.inst.now.tables self.entry.a0.now.items
-            self.entry.lots.now result }
+        ensures { IsRun
+            (opening self.entry.inst.now.tables self.entry.a0.now.items self.entry.lots.now)
+            result }
     {
         let Prepared {
             a0,
@@ -103,8 +105,7 @@ fn bring_to_best(
     requires made { IsMadeFor scratch.old (tables_in journal.now) }
     ensures best { best.new.items ≡
         state (start_in journal.now) (entries_in journal.now)
-        (best_of (tables_in journal.now) (start_in journal.now)
-        (entries_in journal.now)) }
+        (best_of (opening_in journal.now) (entries_in journal.now)) }
     ensures parts { result ≡
         parts_of (tables_in journal.now) (start_in journal.now) best.new.items }
     ensures made { IsMadeFor scratch.new (tables_in journal.now) }

@@ -1,7 +1,7 @@
 ghost use Rattle.std.specs.Prelude.{◌≡◌, ◌+◌, ◌<◌, ◌≤◌, length};
 ghost use Rattle.ra_model.specs.Situations.{situation};
-ghost use Rattle.ra_journal.specs.Journals.{tables_in, start_in, entries_in};
-ghost use Rattle.ra_journal.specs.States.{state};
+ghost use Rattle.ra_journal.specs.Journals.{tables_in, start_in, opening_in, entries_in};
+ghost use Rattle.ra_journal.specs.States.{state, state_at};
 
 use crate::following::follow;
 use ra_base::Steps;
@@ -35,8 +35,7 @@ fn replay_entry<L: Ledger>(
     world: &mut World<'_>,
     steps: &mut Steps<L>,
 )
-    requires here { world.old ≡ situation (tables_in journal.now) (start_in journal.now)
-        (state (start_in journal.now) (entries_in journal.now) at) }
+    requires here { world.old ≡ state_at (opening_in journal.now) (entries_in journal.now) at }
     requires within { at < length (entries_in journal.now) }
     ensures { world.new ≡ record world.old {
       here = state (start_in journal.now) (entries_in journal.now) (at + 1);

@@ -6,6 +6,7 @@ ghost use Rattle.ra_draws.specs.Shown.{drawing_in};
 ghost use Rattle.ra_model.specs.Numbers.{resource_count};
 ghost use Rattle.ra_journal.specs.declared.entries.Entry.{Entry as Recorded};
 ghost use Rattle.ra_journal.specs.Entries.{worker_count, budget, allowed};
+ghost use Rattle.ra_journal.specs.Openings.{opening};
 ghost use Rattle.ra_journal.specs.Refusing.{IsRefused};
 ghost use Rattle.ra_topology.specs.Starts.{IsFeasibleStart};
 ghost use Rattle.ra_worker.specs.Following.{IsJudged};
@@ -59,7 +60,7 @@ impl<'a> Replica<'a> {
         ensures place { IfOk result (λ replica. place_at replica ≡ 0) }
         ensures worker { IfOk result (λ replica. worker_at replica ≡ worker) }
         ensures at { IfOk result (λ replica. (h : List Recorded) →
-            IsAt inst.now.tables a0.now.items lots.now h replica) }
+            IsAt (opening inst.now.tables a0.now.items lots.now) h replica) }
     {
         let world = World::make(alloc, inst, topo, a0, start)?;
         let proposals = Proposals::make(lots, worker);

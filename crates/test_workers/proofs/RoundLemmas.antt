@@ -3,10 +3,8 @@ use Rattle.std.proofs.Common.{◌≡◌, ℕ, zero, suc, ◌+◌, ◌-◌, ◌<�
 use Rattle.std.proofs.lemmas.Bool.{cond_both, cond-false, cases_Bool, cases_lt, cases_eq, or_from, leb-true, le-ltb}
 use Rattle.std.proofs.lemmas.List.{length_push}
 use Rattle.std.proofs.Math.Bool.{and-false}
-use Rattle.ra_base.specs.Sums.{one_if}
 use Rattle.ra_base.specs.declared.ids.Guard.{Guard}
 use Rattle.ra_base.specs.declared.ids.Guard.TheVariants as guard
-use Rattle.ra_base.specs.declared.ids.Machine.{Machine}
 use Rattle.ra_base.proofs.Counts.{count_grows, one_if_true}
 use Rattle.ra_base.proofs.Searches.{both_none, first_none_from}
 use Rattle.ra_draws.specs.declared.budgets.Lots.{Lots}
@@ -20,6 +18,7 @@ use Rattle.ra_journal.specs.declared.entries.Entry.{Entry}
 use Rattle.ra_journal.specs.Committing.{next_number, next_move, next_entry, newer_since, committed_by, committed}
 use Rattle.ra_journal.specs.Entries.{entry_at, made_in, entries_of, worker_count, budget}
 use Rattle.ra_journal.specs.Legal.{Legal, Whole}
+use Rattle.ra_journal.specs.Openings.{Opening}
 use Rattle.ra_journal.proofs.AddedLemmas.{version_few, entries_added}
 use Rattle.ra_journal.proofs.Places.{SameBelow, same_entries_of}
 use Rattle.ra_journal.proofs.RoomLemmas.{AreNumbered, entries_within}
@@ -59,11 +58,11 @@ unfolding committed_by
 by_more (Some newer) h e w none own = absurd (cc)
 by_more None h e w none own = one_more h e w own
 
-committed_more : (i : Tables) (a0 : List Machine) (l : Lots) (h : List Entry) (w : ℕ) →
-    next_number (committed i a0 l h w (length h)).journal w ≡ next_number h w + 1
+committed_more : (o : Opening) (h : List Entry) (w : ℕ) →
+    next_number (committed o h w (length h)).journal w ≡ next_number h w + 1
 unfolding committed next_entry
-committed_more i a0 l h w = by_more (newer_since i h (length h) (next_move i a0 l h w (length h)).steps) h
-    (next_entry i a0 l h w (length h)) w (never_stale i h (next_move i a0 l h w (length h)).steps) refl
+committed_more o h w = by_more (newer_since o.tables h (length h) (next_move o h w (length h)).steps) h
+    (next_entry o h w (length h)) w (never_stale o.tables h (next_move o h w (length h)).steps) refl
 
 -- no worker is behind there
 never_behind : (h : List Entry) (w : ℕ) → is_behind h w (length h) ≡ false
@@ -75,13 +74,13 @@ unfolding has_used
 used_by l h w used = leb-true _ _ used
 
 -- a worker's turn at the end of the journal adds an entry of its own, unless it has used its budget
-turn_open : (i : Tables) (a0 : List Machine) (l : Lots) (h : List Entry) (w : ℕ) → has_used l h w ≡ false →
-    (turn i a0 l h w (length h)).journal ≡ (committed i a0 l h w (length h)).journal
+turn_open : (o : Opening) (h : List Entry) (w : ℕ) → has_used o.lots h w ≡ false →
+    (turn o h w (length h)).journal ≡ (committed o h w (length h)).journal
 unfolding turn answered is_skipped
-turn_open i a0 l h w unused =
+turn_open o h w unused =
     ap (λ (t : Turn). t.journal)
-    (cond-false (has_used l h w || is_behind h w (length h)) _ _
-    (or_from (has_used l h w) (is_behind h w (length h)) unused (never_behind h w)))
+    (cond-false (has_used o.lots h w || is_behind h w (length h)) _ _
+    (or_from (has_used o.lots h w) (is_behind h w (length h)) unused (never_behind h w)))
 
 -- no worker loses an entry
 number_grows : (h g : List Entry) (v : ℕ) → SameBelow (length h) h g → length h ≤ length g →
@@ -94,23 +93,22 @@ number_grows h g v same longer =
       count_grows (length h) (length g) (λ j. eqb (entry_at g j).worker v) longer,
     )
 
-turn_grows : (i : Tables) (a0 : List Machine) (l : Lots) (h : List Entry) (w q v : ℕ) →
-    next_number h v ≤ next_number (turn i a0 l h w q).journal v
-turn_grows i a0 l h w q v =
-    number_grows h (turn i a0 l h w q).journal v (turn_same i a0 l h w q) (turn_longer i a0 l h w q)
+turn_grows : (o : Opening) (h : List Entry) (w q v : ℕ) → next_number h v ≤ next_number (turn o h w q).journal v
+turn_grows o h w q v =
+    number_grows h (turn o h w q).journal v (turn_same o h w q) (turn_longer o h w q)
 
-turn_makes : (i : Tables) (a0 : List Machine) (l : Lots) (h : List Entry) (w r : ℕ) →
-    min r (budget l w) ≤ next_number h w → min (r + 1) (budget l w) ≤ next_number (turn i a0 l h w (length h)).journal w
-turn_makes i a0 l h w r made = ⊎_elim
-    (λ (used : has_used l h w ≡ true). omega (arith, used_by l h w used, turn_grows i a0 l h w (length h) w))
-    (λ (unused : has_used l h w ≡ false).
+turn_makes : (o : Opening) (h : List Entry) (w r : ℕ) → min r (budget o.lots w) ≤ next_number h w →
+    min (r + 1) (budget o.lots w) ≤ next_number (turn o h w (length h)).journal w
+turn_makes o h w r made = ⊎_elim
+    (λ (used : has_used o.lots h w ≡ true). omega (arith, used_by o.lots h w used, turn_grows o h w (length h) w))
+    (λ (unused : has_used o.lots h w ≡ false).
     omega (
       arith,
       made,
-      ap (λ (x : List Entry). next_number x w) (turn_open i a0 l h w unused),
-      committed_more i a0 l h w,
+      ap (λ (x : List Entry). next_number x w) (turn_open o h w unused),
+      committed_more o h w,
     ))
-    (cases_Bool (has_used l h w))
+    (cases_Bool (has_used o.lots h w))
 
 -- the workers of a round so far
 pub made_none : (l : Lots) (h : List Entry) (r : ℕ) → HaveMade l h 0 r
@@ -119,20 +117,20 @@ made_none l h r = record { each = λ w there. absurd (omega (arith, there)) }
 pub none_made : (l : Lots) (h : List Entry) (n : ℕ) → HaveMade l h n 0
 none_made l h n = record { each = λ w there. omega arith }
 
-pub made_still : (i : Tables) (a0 : List Machine) (l : Lots) (h g : List Entry) (w q n r : ℕ) →
-    g ≡ (turn i a0 l h w q).journal → HaveMade l h n r → HaveMade l g n r
-made_still i a0 l h g w q n r g_is made = rw g_is (record {
-  each = λ v there. omega (arith, made.each v there, turn_grows i a0 l h w q v);
+pub made_still : (o : Opening) (h g : List Entry) (w q n r : ℕ) →
+    g ≡ (turn o h w q).journal → HaveMade o.lots h n r → HaveMade o.lots g n r
+made_still o h g w q n r g_is made = rw g_is (record {
+  each = λ v there. omega (arith, made.each v there, turn_grows o h w q v);
 })
 
-pub made_more : (i : Tables) (a0 : List Machine) (l : Lots) (h g : List Entry) (n w r : ℕ) →
-    g ≡ (turn i a0 l h w (length h)).journal → w < n → HaveMade l h n r → HaveMade l h w (r + 1) →
-    HaveMade l g (w + 1) (r + 1)
-made_more i a0 l h g n w r g_is there all first = rw g_is (record {
+pub made_more : (o : Opening) (h g : List Entry) (n w r : ℕ) →
+    g ≡ (turn o h w (length h)).journal → w < n → HaveMade o.lots h n r → HaveMade o.lots h w (r + 1) →
+    HaveMade o.lots g (w + 1) (r + 1)
+made_more o h g n w r g_is there all first = rw g_is (record {
   each = λ v before. ⊎_elim
-      (λ (here : v ≡ w). subst (λ k. min (r + 1) (budget l k) ≤ next_number (turn i a0 l h w (length h)).journal k)
-      (sym here) (turn_makes i a0 l h w r (all.each w there)))
-      (λ (apart : v ≡ w → ⊥). omega (arith, first.each v (below v w before apart), turn_grows i a0 l h w (length h) v))
+      (λ (here : v ≡ w). subst (λ k. min (r + 1) (budget o.lots k) ≤ next_number (turn o h w (length h)).journal k)
+      (sym here) (turn_makes o h w r (all.each w there)))
+      (λ (apart : v ≡ w → ⊥). omega (arith, first.each v (below v w before apart), turn_grows o h w (length h) v))
       (cases_eq v w);
 })
   where
@@ -144,13 +142,20 @@ pub made_all : (l : Lots) (h : List Entry) (n w r : ℕ) → HaveMade l h w r �
 made_all l h n w r made is = rw (← is) made
 
 -- when all budgets are used, the journal is whole
-pub whole_by : (i : Tables) (a0 : List Machine) (l : Lots) (h : List Entry) (r : ℕ) → Legal i a0 l h →
-    HaveMade l h (worker_count l) r → ((w : ℕ) → w < worker_count l → budget l w ≤ r) → Whole l h
+pub whole_by : (o : Opening) (h : List Entry) (r : ℕ) → Legal o h →
+    HaveMade o.lots h (worker_count o.lots) r → ((w : ℕ) → w < worker_count o.lots → budget o.lots w ≤ r) →
+    Whole o.lots h
 unfolding next_number
-whole_by i a0 l h r legal made longest =
-    let numbered : AreNumbered l h (length h) = record { each = λ k there. (legal.each k there).numbered } in
+whole_by o h r legal made longest =
+    let numbered : AreNumbered o.lots h (length h) = record { each = λ k there. (legal.each k there).numbered } in
     record {
-      each = λ w there. omega (arith, made.each w there, longest w there, entries_within l h (length h) w numbered);
+      each = λ w there. omega (
+        arith,
+        made.each w there,
+        longest w there,
+        entries_within o.lots h
+            (length h) w numbered,
+      );
       no_other = λ j within. (legal.each j within).numbered.worker;
     }
 

@@ -1,17 +1,16 @@
 -- What workers do that take their turns in rounds.
 use Rattle.std.specs.Prelude.{◌≡◌, ℕ, ◌<◌, ◌≤◌, min, List}
-use Rattle.ra_base.specs.declared.ids.Machine.{Machine}
 use Rattle.ra_draws.specs.declared.budgets.Lots.{Lots}
-use Rattle.ra_model.specs.declared.raw.Tables.{Tables}
 use Rattle.ra_journal.specs.declared.entries.Entry.{Entry}
 use Rattle.ra_journal.specs.declared.journal.Journal.{Journal}
 use Rattle.ra_journal.specs.Committing.{next_number}
 use Rattle.ra_journal.specs.Entries.{worker_count, budget}
-use Rattle.ra_journal.specs.Journals.{tables_in, start_in, lots_in, entries_in}
+use Rattle.ra_journal.specs.Journals.{lots_in, entries_in, opening_in, IsOverSame}
+use Rattle.ra_journal.specs.Openings.{Opening}
 use Rattle.ra_worker.specs.declared.replica.Replica.{Replica}
 use Rattle.ra_worker.specs.declared.events.CoreEvent.{CoreEvent}
 use Rattle.ra_worker.specs.Core.{Core, AreNamed, run}
-use Rattle.ra_worker.specs.Turns.{StandIn, core_in, IsOverSame}
+use Rattle.ra_worker.specs.Turns.{StandIn, core_in}
 
 -- each of the first n workers has r entries, or all of its budget if that is less
 pub record HaveMade (l : Lots) (h : List Entry) (n r : ℕ) : Type 0 where
@@ -22,15 +21,15 @@ abbrev pub HaveAllMade : Journal → ℕ → Type 0
 HaveAllMade j r = HaveMade (lots_in j) (entries_in j) (worker_count (lots_in j)) r
 
 -- a core is what some turns of existing workers make of another
-pub record IsPlayed (i : Tables) (a0 : List Machine) (l : Lots) (before after : Core) : Type 0 where
+pub record IsPlayed (o : Opening) (before after : Core) : Type 0 where
   pub events : List CoreEvent
-  pub named : AreNamed l events
-  pub last : after ≡ (run i a0 l before events).last
+  pub named : AreNamed o.lots events
+  pub last : after ≡ (run o before events).last
 
 -- a journal with the replicas of its workers is what some turns make of another
 pub record PlaysOn (old new : Journal) (before after : List Replica) : Type 0 where
   pub played :
-      IsPlayed (tables_in old) (start_in old) (lots_in old) (core_in old before)
+      IsPlayed (opening_in old) (core_in old before)
       (core_in new after)
   pub at : StandIn new after
   pub over : IsOverSame old new

@@ -4,6 +4,7 @@ ghost use Rattle.ra_model.specs.Assignments.{IsAssignment};
 ghost use Rattle.ra_model.specs.Broken.{first_broken};
 ghost use Rattle.ra_model.specs.Costs.{parts_of};
 ghost use Rattle.ra_topology.specs.Fits.{IsTopologyOf};
+ghost use Rattle.ra_journal.specs.Openings.{opening};
 ghost use Rattle.test_workers.specs.FirstPlans.{IsFirstPlan};
 
 mod first;
@@ -42,8 +43,8 @@ fn first_plans<L: Ledger>(
     requires name { blank.name ≡ L.name }
     requires parts { blank.parts ≡ L.parts }
     requires some { 0 < blank.parts }
-    ensures first { IsFirstPlan inst.now.tables a0.now.items lots.now 0 result.0 }
-    ensures second { IsFirstPlan inst.now.tables a0.now.items lots.now 1 result.1 }
+    ensures first { IsFirstPlan (opening inst.now.tables a0.now.items lots.now) 0 result.0 }
+    ensures second { IsFirstPlan (opening inst.now.tables a0.now.items lots.now) 1 result.1 }
 {
     let mut steps = Steps::<L>::make(blank);
     let world = World::make(alloc, inst, topo, a0, start).expect(rt, "no memory");

@@ -1,8 +1,8 @@
 ghost use Rattle.std.specs.Prelude.{◌≡◌, ◌+◌, ◌<◌, ◌≤◌, ◌++◌, true, length};
 ghost use Rattle.ra_journal.specs.Entries.{worker_count};
-ghost use Rattle.ra_journal.specs.Journals.{lots_in};
+ghost use Rattle.ra_journal.specs.Journals.{lots_in, IsOverSame};
 ghost use Rattle.ra_worker.specs.Core.{AreNamed, event_at, worker_of_event};
-ghost use Rattle.ra_worker.specs.Turns.{StandIn, core_in, IsOverSame};
+ghost use Rattle.ra_worker.specs.Turns.{StandIn, core_in};
 ghost use Rattle.test_workers.specs.Plays.{step_in, run_in};
 
 use ra_base::Fixed;

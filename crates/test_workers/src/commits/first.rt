@@ -3,7 +3,8 @@ ghost use Rattle.std.specs.Prelude.{◌≡◌, ◌<◌, None};
 ghost use Rattle.ra_model.specs.Assignments.{IsAssignment};
 ghost use Rattle.ra_model.specs.Broken.{first_broken};
 ghost use Rattle.ra_model.specs.Costs.{parts_of};
-ghost use Rattle.ra_journal.specs.Journals.{initial_in, instance_in, lots_in, start_in, tables_in};
+ghost use Rattle.ra_journal.specs.Journals.{initial_in, instance_in, lots_in, opening_in};
+ghost use Rattle.ra_journal.specs.Openings.{opening};
 ghost use Rattle.test_workers.specs.FirstPlans.{IsFirstPlan};
 
 use ra_base::{Assignment, Parts, Steps};
@@ -40,7 +41,7 @@ pub(super) fn first_plan<L: Ledger>(
     steps: &mut Steps<L>,
 ) -> Plan
     requires start { world.now.here ≡ world.now.start }
-    ensures { IsFirstPlan world.now.tables world.now.start lots.now worker result }
+    ensures { IsFirstPlan (opening world.now.tables world.now.start lots.now) worker result }
 {
     assert!(rt; worker < lots.len());
     let lot = lots.lot(worker);
@@ -53,8 +54,7 @@ pub(super) fn first_plan<L: Ledger>(
 
 /// Hands in a worker's first plan, if the worker has some budget and has made no entry so far.
 pub(super) fn hand_in(journal: &mut Journal<'_>, worker: u32, plan: &Plan) -> Option<Reply>
-    requires { IsFirstPlan (tables_in journal.old) (start_in journal.old)
-        (lots_in journal.old) worker plan.now }
+    requires { IsFirstPlan (opening_in journal.old) worker plan.now }
     ensures instance { instance_in journal.new ≡ instance_in journal.old }
     ensures initial { initial_in journal.new ≡ initial_in journal.old }
     ensures lots { lots_in journal.new ≡ lots_in journal.old }

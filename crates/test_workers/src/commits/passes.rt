@@ -7,6 +7,7 @@ ghost use Rattle.ra_model.specs.Costs.{parts_of};
 ghost use Rattle.ra_topology.specs.Fits.{IsTopologyOf};
 ghost use Rattle.ra_journal.specs.Entries.{worker_count};
 ghost use Rattle.ra_turn.specs.Passes.{EachAt};
+ghost use Rattle.ra_shared.specs.Books.{opening_by};
 ghost use Rattle.ra_shared.specs.Shares.{start_of, IsNew, IsLast};
 ghost use Rattle.test_workers.specs.FirstPlans.{IsFirstPlan};
 
@@ -68,8 +69,7 @@ fn commit_first<'a, R: Abort + Wait>(
     requires lots { lots.now ≡ (start_of shared.now).lots }
     requires new { IsNew shared.now worker pass.old }
     requires exists { worker < worker_count lots.now }
-    requires plan { IsFirstPlan (start_of shared.now).inst.tables (start_of shared.now).a0.items
-        (start_of shared.now).lots worker plan.now }
+    requires plan { IsFirstPlan (opening_by (start_of shared.now)) worker plan.now }
     ensures last { IsLast shared.now worker pass.new }
     ensures left { 0 < pass.new.left }
 {
@@ -104,10 +104,8 @@ fn take_turns<'a, R: Abort + Wait>(
     requires two { worker_count (start_of shared.now).lots ≡ 2 }
     requires first { IsNew shared.now 0 first.old }
     requires second { IsNew shared.now 1 second.old }
-    requires first_plan { IsFirstPlan (start_of shared.now).inst.tables
-        (start_of shared.now).a0.items (start_of shared.now).lots 0 plans.now.0 }
-    requires second_plan { IsFirstPlan (start_of shared.now).inst.tables
-        (start_of shared.now).a0.items (start_of shared.now).lots 1 plans.now.1 }
+    requires first_plan { IsFirstPlan (opening_by (start_of shared.now)) 0 plans.now.0 }
+    requires second_plan { IsFirstPlan (opening_by (start_of shared.now)) 1 plans.now.1 }
     ensures first { IsLast shared.now 0 first.new }
     ensures second { IsLast shared.now 1 second.new }
 {

@@ -1,5 +1,5 @@
 //! The answers to workers that take turns with the journal.
-ghost use Rattle.ra_journal.specs.Journals.{entries_in, lots_in, start_in, tables_in};
+ghost use Rattle.ra_journal.specs.Journals.{entries_in, opening_in};
 ghost use Rattle.ra_worker.specs.AllReplicas.{AreAt};
 
 use super::first::start_parts;
@@ -25,8 +25,8 @@ fn play_all<'a>(
     replicas: &mut Vec<Replica<'a>>,
     events: &[CoreEvent],
 ) -> Fixed<CoreReply>
-    requires at { AreAt (tables_in journal.old) (start_in journal.old) (lots_in journal.old)
-        (entries_in journal.old) replicas.old.items }
+    requires at { AreAt (opening_in journal.old) (entries_in journal.old)
+        replicas.old.items }
 {
     let mut batch = Batch::make(alloc).expect(rt, "no memory");
     let mut replies = Fixed::make(alloc, events.len()).expect(rt, "no memory");

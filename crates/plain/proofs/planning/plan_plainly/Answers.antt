@@ -5,7 +5,7 @@ use Rattle.ra_model.specs.Situations.{situation}
 use Rattle.ra_moves.specs.Options.{option_cost, plan_place, plan_of}
 use Rattle.ra_moves.proofs.OptionLemmas.{option_stands, option_reaches}
 use Rattle.ra_moves.proofs.Repeats.{distinct_from_none}
-use Rattle.plain.proofs.Cheapest.{IsOption, cheapest_more, first_place, option_is}
+use Rattle.plain.proofs.Cheapest.{cheapest_more, first_place, option_is}
 use Rattle.plain.proofs.planning.plan_plainly.Goals as goal
 
 pub loop-option-init : goal.loop-option-init
@@ -29,7 +29,7 @@ loop-option-preserved c =
     c.resolve-mv-in-loop-option.ensures.option c.judge_plainly-verdict-in-loop-option.ensures.verdict in
     record {
       best = rw c.cheaper-best.ensures
-          (cheapest_more _ _ _ _ _ _ _ _ _ (omega arith) c.loop-option.invariant.best next);
+          (cheapest_more _ _ _ _ _ _ _ (omega arith) c.loop-option.invariant.best next);
       unchanged = c.judge_plainly-verdict-in-loop-option.ensures.unchanged ∙ c.loop-option.invariant.unchanged;
       made = c.judge_plainly-verdict-in-loop-option.ensures.kept;
     }

@@ -9,7 +9,7 @@ use Rattle.plain.proofs.planning.plan_plainly.Given as goal
 
 abbrev pub invariant-loop-option : goal.invariant-loop-option
 invariant-loop-option l = record {
-  best : IsOption l.inst.tables l.a0.items l.a.items l.words l.drawing l.allowed
+  best : IsOption (situation l.inst.tables l.a0.items l.a.items) l.words l.drawing l.allowed
       (least_place l.option (option_cost (situation l.inst.tables l.a0.items l.a.items) l.words l.drawing l.allowed))
       l.best;
   unchanged : l.other ≡ l.fn.other;

@@ -3,6 +3,6 @@ use Rattle.plain.proofs.search.first_illegal.Goals as goal
 
 pub loop-j-preserved : goal.loop-j-preserved
 loop-j-preserved c = record {
-  legal = legal_more _ _ _ _ _ (c.is_legal.ensures.legal c.if-not-is_legal.false) c.loop-j.invariant.legal;
+  legal = legal_more _ _ _ (c.is_legal.ensures.legal c.if-not-is_legal.false) c.loop-j.invariant.legal;
   bench = c.is_legal.ensures.kept;
 }

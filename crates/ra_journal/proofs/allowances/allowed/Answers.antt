@@ -12,7 +12,7 @@ lot-requires c = c.requires.worker
 
 pub share_of-requires-clause-left : goal.share_of-requires-clause-left
 unfolding budget budget_of
-share_of-requires-clause-left c = omega (arith, c.requires.left, ap (λ (lot : Lot). lot.budget) c.lot.ensures)
+share_of-requires-clause-left c = omega (arith, c.requires.left, ap (λ lot. lot.budget) c.lot.ensures)
 
 pub share_of-requires-clause-few : goal.share_of-requires-clause-few
 unfolding budget budget_of
@@ -20,7 +20,7 @@ share_of-requires-clause-few c =
     omega (
       arith,
       budgets_few c.args.lots.now c.args.worker c.requires.worker,
-      ap (λ (lot : Lot). lot.budget) c.lot.ensures,
+      ap (λ lot. lot.budget) c.lot.ensures,
     )
 
 pub returns : goal.returns

@@ -1,8 +1,7 @@
 use Rattle.std.proofs.Common.{sym, subst}
-use Rattle.ra_moves.specs.declared.steps.Step.{Step}
 use Rattle.ra_journal.specs.SmallSteps.{IsSmallStep}
 use Rattle.ra_journal.proofs.packed.small_step.Goals as goal
 
 pub of-requires : goal.of-requires
-of-requires c = subst (λ (s : Step). IsSmallStep s) (sym c.step.ensures)
+of-requires c = subst (λ s. IsSmallStep s) (sym c.step.ensures)
     (c.requires.small.steps.each c.args.i c.requires.exists)

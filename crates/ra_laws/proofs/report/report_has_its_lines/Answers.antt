@@ -2,6 +2,7 @@ use Rattle.ra_report.proofs.LineEnds.{line_before, entry_is_line, entries_before
 use Rattle.ra_laws.proofs.ReportLemmas.{lines_behind}
 use Rattle.ra_report.proofs.ReportTexts.{report_parts}
 use Rattle.ra_report.specs.JournalTexts.{entry_line}
+use Rattle.ra_journal.specs.Openings.{opening}
 use Rattle.ra_laws.proofs.report.report_has_its_lines.Goals as goal
 
 pub returns-clause-entry : goal.returns-clause-entry
@@ -11,11 +12,11 @@ pub returns-clause-entries : goal.returns-clause-entries
 returns-clause-entries c = entries_before
 
 pub returns-clause-report : goal.returns-clause-report
-returns-clause-report c = λ i a0 l h. (
-  report_parts i a0 l h,
+returns-clause-report c = λ o h. (
+  report_parts o h,
   record {
-    ten = head_line_count i a0 l h;
-    before = head_before i a0 l h;
+    ten = head_line_count o h;
+    before = head_before o h;
   },
 )
 

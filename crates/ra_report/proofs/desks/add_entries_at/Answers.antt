@@ -1,5 +1,4 @@
 use Rattle.std.proofs.Common.{◌≡◌, length, arith, sym, ◌∙◌, rules}
-use Rattle.ra_report.specs.Gathering.{AddsText}
 use Rattle.ra_report.specs.Pieces.{joined}
 use Rattle.ra_report.specs.JournalTexts.{entries_text}
 use Rattle.ra_report.proofs.GatheringLemmas.{adds_none, adds_more, adds_failed}
@@ -15,14 +14,13 @@ loop-next-init g c = record {
 
 pub loop-next-preserved : goal.loop-next-preserved
 loop-next-preserved g c =
-    let h = c.args.entries.now.items in
     let part = joined c.write_shares-next.new.self.desks.items in
     let same : c.as_slice.result.now ≡ c.write_shares-next.new.self.desks.items = search rules in
     record {
       within = c.write_shares-next.ensures.within;
       added = rw c.write_shares-next.ensures.lines
           (adds_more g.O.Sink.taken g.O.Sink.faults c.args.text.now c.loop-next.text c.add_desks.new.text
-          (entries_text h c.loop-next.next) part c.loop-next.invariant.added
+          (entries_text c.args.entries.now.items c.loop-next.next) part c.loop-next.invariant.added
           (rw same at c.add_desks.ensures));
     }
 
@@ -39,6 +37,5 @@ returns-then-has_failed g c =
 
 pub returns : goal.returns
 returns g c =
-    let h = c.args.entries.now.items in
-    let all : c.loop-next.next ≡ length h = omega (arith, c.loop-next.invariant.within) in
+    let all : c.loop-next.next ≡ length c.args.entries.now.items = omega (arith, c.loop-next.invariant.within) in
     rw all at c.loop-next.invariant.added

@@ -1,4 +1,4 @@
-use Rattle.std.proofs.Common.{◌≡◌, ℕ, List, [], ◌∷◌, ◌++◌, append_assoc, refl, ◌∙◌, subst}
+use Rattle.std.proofs.Common.{◌≡◌, [], ◌∷◌, ◌++◌, append_assoc, refl, ◌∙◌, subst}
 use Rattle.ra_report.specs.Gathering.{AddsText}
 use Rattle.ra_report.specs.Pieces.{joined}
 use Rattle.ra_report.specs.Texts.{line_end}
@@ -13,9 +13,9 @@ returns g c =
     let front = joined (line.words.now ∷ line.name.now ∷ line.behind.now ∷ []) in
     let note = note_text line.note in
     let same : front ++ (note ++ line_end) ≡ line_said line = simp append_assoc refl in
-    subst (λ (t : List ℕ). AddsText g.O.Sink.taken g.O.Sink.faults c.args.text.now c.add.new.self t)
+    subst (λ t. AddsText g.O.Sink.taken g.O.Sink.faults c.args.text.now c.add.new.self t)
     (same ∙ c.fault_line-line.ensures)
     (adds_more g.O.Sink.taken g.O.Sink.faults c.args.text.now c.add_pieces.new.text c.add.new.self front
-    (note ++ line_end) c.add_pieces.ensures
+    _ c.add_pieces.ensures
     (adds_more g.O.Sink.taken g.O.Sink.faults c.add_pieces.new.text c.add_note.new.text c.add.new.self note line_end
     c.add_note.ensures c.add.ensures))

@@ -30,8 +30,7 @@ returns-then-worker c = λ j w k q rest small_w small_q e.
     c.in_ok-k_at.was c.behind_number-3.ensures.behind c.in_ok-q_at.was e in
     let worker = found_is w (told 0 (drop c.in_ok-worker_at.worker_at c.args.line.now)) c.number_at.result
     (rw take_rest at c.number_at.ensures) there.0 (omega arith) in
-    let same = same_found c.in_ok-worker.worker w c.number_at.result c.in_ok-worker.was worker in
-    absurd (omega (arith, same, c.if-worker.true))
+    absurd (omega (arith, (same_found c.in_ok-worker.worker w c.number_at.result c.in_ok-worker.was worker), c.if-worker.true))
 
 pub returns : goal.returns
 returns c = λ j w k q rest small_w small_q e.

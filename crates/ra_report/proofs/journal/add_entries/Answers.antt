@@ -10,6 +10,5 @@ loop-place-init g c = adds_none g.O.Sink.taken g.O.Sink.faults c.args.text.now
 
 pub loop-place-preserved : goal.loop-place-preserved
 loop-place-preserved g c =
-    let read = sym c.get-entry.ensures in
     adds_line g.O.Sink.taken g.O.Sink.faults c.args.entries.now.items c.loop-place.place c.args.text.now
-    c.loop-place.text c.add_line.new.text c.loop-place.invariant (rw read c.add_line.ensures)
+    c.loop-place.text c.add_line.new.text c.loop-place.invariant (rw (sym c.get-entry.ensures) c.add_line.ensures)

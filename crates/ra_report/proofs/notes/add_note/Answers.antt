@@ -1,5 +1,4 @@
 use Rattle.ra_report.specs.Notes.{note_text}
-use Rattle.ra_report.specs.Texts.{cause_text}
 use Rattle.std.proofs.lemmas.List.{append-nil}
 use Rattle.ra_report.proofs.GatheringLemmas.{adds_none, adds_more}
 use Rattle.ra_report.proofs.notes.add_note.Goals as goal
@@ -13,5 +12,5 @@ unfolding note_text
 returns-in-Cause g c =
     rw c.in-Cause.is
     (adds_more g.O.Sink.taken g.O.Sink.faults c.args.text.now c.add_pieces-in-Cause.new.text c.add_cause.new.text
-    c.in-Cause.words.now (cause_text c.in-Cause.cause) (rw append-nil at c.add_pieces-in-Cause.ensures)
+    c.in-Cause.words.now _ (rw append-nil at c.add_pieces-in-Cause.ensures)
     c.add_cause.ensures)

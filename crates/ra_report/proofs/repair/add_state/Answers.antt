@@ -1,10 +1,9 @@
-use Rattle.std.specs.Option.{option_copied}
 use Rattle.ra_report.specs.Texts.{line_end}
-use Rattle.ra_report.specs.RepairTexts.{state_text, state_line}
+use Rattle.ra_report.specs.RepairTexts.{state_line}
 use Rattle.ra_report.proofs.GatheringLemmas.{adds_more}
 use Rattle.ra_report.proofs.repair.add_state.Goals as goal
 
 pub returns : goal.returns
 unfolding state_line
 returns g c = adds_more g.O.Sink.taken g.O.Sink.faults c.args.text.now c.add_note.new.text c.add.new.self
-    (state_text (option_copied c.args.broken)) line_end (rw c.state_note.ensures at c.add_note.ensures) c.add.ensures
+    _ line_end (rw c.state_note.ensures at c.add_note.ensures) c.add.ensures

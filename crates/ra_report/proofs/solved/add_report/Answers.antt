@@ -6,7 +6,6 @@ use Rattle.ra_report.proofs.solved.add_report.Goals as goal
 pub returns : goal.returns
 unfolding report_lines
 returns g c =
-    let head = head_text c.args.parts.now c.args.bound.now.total c.args.best_at c.args.best.now.items c.args.drawing in
     let entries = entries_text c.args.entries.now.items (length c.args.entries.now.items) in
-    adds_more g.O.Sink.taken g.O.Sink.faults c.args.text.now c.add_head.new.text c.add_entries.new.text head entries
+    adds_more g.O.Sink.taken g.O.Sink.faults c.args.text.now c.add_head.new.text c.add_entries.new.text (head_text c.args.parts.now c.args.bound.now.total c.args.best_at c.args.best.now.items c.args.drawing) entries
     c.add_head.ensures c.add_entries.ensures

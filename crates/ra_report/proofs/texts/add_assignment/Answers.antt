@@ -1,4 +1,4 @@
-use Rattle.std.proofs.Common.{◌++◌, codes}
+use Rattle.std.proofs.Common.{codes}
 use Rattle.ra_report.specs.Texts.{line_end, machines_text, assignment_line}
 use Rattle.ra_report.proofs.GatheringLemmas.{adds_more}
 use Rattle.ra_report.proofs.texts.add_assignment.Goals as goal
@@ -8,7 +8,6 @@ unfolding assignment_line
 returns g c =
     let word = codes "assignment" in
     let machines = machines_text c.args.machines.now in
-    let listed = adds_more g.O.Sink.taken g.O.Sink.faults c.args.text.now c.add_pieces.new.text c.add_machines.new.text
-    word machines c.add_pieces.ensures c.add_machines.ensures in
     adds_more g.O.Sink.taken g.O.Sink.faults c.args.text.now c.add_machines.new.text c.add_pieces-2.new.text
-    (word ++ machines) line_end listed c.add_pieces-2.ensures
+    _ line_end (adds_more g.O.Sink.taken g.O.Sink.faults c.args.text.now c.add_pieces.new.text c.add_machines.new.text
+    word machines c.add_pieces.ensures c.add_machines.ensures) c.add_pieces-2.ensures

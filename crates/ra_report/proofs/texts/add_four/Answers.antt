@@ -11,12 +11,12 @@ returns g c = simp append_assoc
     ((32 ∷ number_text c.args.b) ++ ((32 ∷ number_text c.args.c) ++ (32 ∷ number_text c.args.d))))
     (rw c.as_bytes.ensures.value at c.add.ensures)
     (adds_more g.O.Sink.taken g.O.Sink.faults c.add.new.self c.add_marked.new.text c.add_marked-4.new.text
-    (32 ∷ number_text c.args.a)
+    _
     ((32 ∷ number_text c.args.b) ++ ((32 ∷ number_text c.args.c) ++ (32 ∷ number_text c.args.d)))
     c.add_marked.ensures
     (adds_more g.O.Sink.taken g.O.Sink.faults c.add_marked.new.text c.add_marked-2.new.text c.add_marked-4.new.text
-    (32 ∷ number_text c.args.b) ((32 ∷ number_text c.args.c) ++ (32 ∷ number_text c.args.d))
+    _ ((32 ∷ number_text c.args.c) ++ (32 ∷ number_text c.args.d))
     c.add_marked-2.ensures
     (adds_more g.O.Sink.taken g.O.Sink.faults c.add_marked-2.new.text c.add_marked-3.new.text c.add_marked-4.new.text
-    (32 ∷ number_text c.args.c) (32 ∷ number_text c.args.d) c.add_marked-3.ensures
+    _ _ c.add_marked-3.ensures
     c.add_marked-4.ensures))))

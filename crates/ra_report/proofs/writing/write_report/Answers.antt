@@ -1,7 +1,5 @@
 -- What is written is the report of the journal.
 use Rattle.std.proofs.Common.{ap, rules}
-use Rattle.ra_base.specs.Listed.{Listed}
-use Rattle.ra_journal.specs.declared.entries.Entry.{Entry}
 use Rattle.ra_report.proofs.GatheringLemmas.{writes}
 use Rattle.ra_report.proofs.ReportTexts.{report_told}
 use Rattle.ra_report.proofs.writing.write_report.Goals as goal
@@ -10,7 +8,7 @@ pub returns : goal.returns
 returns g c =
     rw (← report_told c.args.journal.now c.args.best.now.items c.args.parts.now c.args.bound.now _ _ _ _ c.requires.best
     c.requires.parts c.requires.bound c.best_at-best_at.ensures c.drawing-drawing.ensures c.lots.ensures
-    (ap (λ (x : Listed Entry). x.items) c.entries-entries.ensures))
+    (ap (λ x. x.items) c.entries-entries.ensures))
     (writes g.O.Sink.taken g.O.Sink.faults c.make-text.result c.add_report.new.text c.finish.new.self
     c.make-text.ensures.same (search rules) c.make-text.ensures.sound c.make-text.ensures.none c.add_report.ensures
     c.finish.ensures.adds c.finish.ensures.none c.finish.ensures.whole c.finish.ensures.part)

@@ -28,12 +28,12 @@ returns g c =
           (λ told. (
             lots,
             refl,
-            solved held names inst.tables a0 lots (Took out) inst.well_formed
+            solved held names _ (Took out) inst.well_formed
                 c.in_ok-start.ensures.read told,
           )) c.run_from-ended.ensures.printed;
       refused = if_err_then c.run_from-ended.result _ _
           (λ r reason. reason_these held names lots before now (BrokeOff out) r
-          (reason_run held names inst.tables a0 lots before now (BrokeOff out) c.requires.initial inst.well_formed
+          (reason_run held names _ before now (BrokeOff out) c.requires.initial inst.well_formed
           c.in_ok-start.ensures.read r reason)) c.run_from-ended.ensures.refused;
       no_output = if_err_then c.run_from-ended.result _ _ (λ r same first. same (not_write r first))
           c.run_from-ended.ensures.no_output;

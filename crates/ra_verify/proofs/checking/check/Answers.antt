@@ -1,4 +1,5 @@
 use Rattle.std.proofs.Common.{ap, ◌∙◌, le_trans}
+use Rattle.ra_journal.specs.Journals.{opening_in}
 use Rattle.ra_verify.proofs.CheckLemmas.{long_wrong, over_all, rose_since}
 use Rattle.ra_verify.proofs.checking.check.Goals as goal
 
@@ -31,8 +32,8 @@ returns-in-Err g c =
     record {
       none_wrong = over_all _ (λ bytes. tt);
       report = over_all _ (λ bytes. tt);
-      wrong = long_wrong (g.F.Files.held c.args.files.now c.args.reader.now.name) j.inst.now.tables j.a0.now.items
-          j.lots.now c.read_head.result c.in-Err.why c.in-Err.is read.long;
+      wrong = long_wrong (g.F.Files.held c.args.files.now c.args.reader.now.name)
+          (opening_in j) c.read_head.result c.in-Err.why c.in-Err.is read.long;
       fault = λ is. read.fault (c.in-Err.is ∙ is);
       leaves = read.leaves;
     }

@@ -1,11 +1,12 @@
-use Rattle.std.proofs.Common.{◌+◌, Ok, true, List, length, refl, ap, ◌∙◌, le_refl, le_trans, arith}
+use Rattle.std.proofs.Common.{◌+◌, Ok, true, List, length, IfSome, refl, sym, ap, subst, ◌∙◌, le_refl, le_trans, arith}
 use Rattle.std.proofs.lemmas.List.{length_push}
 use Rattle.ra_journal.specs.declared.entries.Entry.{Entry}
+use Rattle.ra_journal.specs.Journals.{opening_in}
+use Rattle.ra_journal.specs.Openings.{Opening}
 use Rattle.ra_verify.specs.Checking.{checker_entries}
 use Rattle.ra_verify.specs.Reading.{AreLines, AreRead}
-use Rattle.ra_verify.proofs.CheckLemmas.{same_journal}
 use Rattle.ra_verify.proofs.EntryLemmas.{told_map, read_head_only}
-use Rattle.ra_verify.proofs.CheckerLemmas.{more_smaller}
+use Rattle.ra_verify.proofs.CheckerLemmas.{same_run, more_smaller}
 use Rattle.ra_verify.proofs.entries.read_entries.Goals as goal
 
 pub loop-smaller : goal.loop-smaller
@@ -27,9 +28,9 @@ loop-init g c =
       same = record { instance = refl; initial = refl; lots = refl };
       read = told_map (g.F.Files.held c.args.files.now c.args.reader.now.name)
           (λ bytes. AreLines bytes c.args.reader.now.place 10)
-          (λ bytes. AreRead j.inst.now.tables j.a0.now.items j.lots.now bytes c.args.reader.now.place
+          (λ bytes. AreRead (opening_in j) bytes c.args.reader.now.place
           j.book.entries.items)
-          (λ bytes given. read_head_only j.inst.now.tables j.a0.now.items j.lots.now bytes c.args.reader.now.place
+          (λ bytes given. read_head_only (opening_in j) bytes c.args.reader.now.place
           j.book.entries.items j.kept.legal c.requires.none given) c.requires.head;
     }
 
@@ -39,7 +40,7 @@ loop-preserved g c =
     let e = c.in_ok-read_entry.ensures.entry in
     let more = e.more (ap Ok c.if-branch.true) in
     let told = ap (g.F.Files.held l.files) l.invariant.name ∙ l.invariant.kept c.args.reader.now.name in
-    let run = same_journal l.checker c.read_entry.new.checker e.same in
+    let run = same_run l.checker c.read_entry.new.checker e.same in
     let j = l.checker.journal in
     record {
       reads = e.reads;
@@ -60,9 +61,11 @@ loop-preserved g c =
         initial = e.same.initial ∙ l.invariant.same.initial;
         lots = e.same.lots ∙ l.invariant.same.lots;
       };
-      read = rw (run.instance, run.initial, run.lots)
+      read = subst (λ (o : Opening). IfSome (g.F.Files.held c.args.files.now c.args.reader.now.name)
+          (λ bytes. AreRead o bytes c.read_entry.new.reader.place (checker_entries c.read_entry.new.checker)))
+          (sym run)
           (told_map (g.F.Files.held c.args.files.now c.args.reader.now.name) _
-          (λ bytes. AreRead j.inst.now.tables j.a0.now.items j.lots.now bytes c.read_entry.new.reader.place
+          (λ bytes. AreRead (opening_in j) bytes c.read_entry.new.reader.place
           (checker_entries c.read_entry.new.checker)) (λ bytes said. said (ap Ok c.if-branch.true))
           (rw told at e.read));
     }

@@ -2,6 +2,7 @@
 use Rattle.std.proofs.Common.{◌≡◌, ℕ, ◌+◌, ◌-◌, ◌*◌, ◌≤◌, List, length, IfSome}
 use Rattle.ra_token.specs.Reading.{Reads}
 use Rattle.ra_journal.specs.Entries.{proposal_count}
+use Rattle.ra_journal.specs.Journals.{opening_in}
 use Rattle.ra_verify.specs.Checking.{checker_entries, IsOpen, IsSameRun}
 use Rattle.ra_verify.specs.Reading.{AreRead}
 use Rattle.ra_verify.proofs.entries.read_entries.Given as goal
@@ -17,7 +18,7 @@ invariant-loop g l = record {
   ready : IsOpen l.checker;
   same : IsSameRun l.fn.checker l.checker;
   read : IfSome (g.F.Files.held l.fn.files l.fn.reader.name)
-      (λ bytes. AreRead l.checker.journal.inst.now.tables l.checker.journal.a0.now.items l.checker.journal.lots.now
+      (λ bytes. AreRead (opening_in l.checker.journal)
       bytes l.reader.place (checker_entries l.checker));
 }
 

@@ -1,6 +1,7 @@
 use Rattle.std.proofs.Common.{◌≡◌, ◌+◌, Ok, Err, true, false, length, IfErr, refl, sym, ap, ◌∙◌, subst, arith}
 use Rattle.ra_journal.specs.declared.entries.Entry.{Entry}
 use Rattle.ra_journal.specs.Legal.{Legal}
+use Rattle.ra_journal.specs.Journals.{opening_in}
 use Rattle.ra_report.specs.JournalTexts.{entry_line}
 use Rattle.ra_verify.specs.Checking.{checker_entries, MayFollow}
 use Rattle.ra_verify.specs.declared.faults.VerifyFault.{VerifyFault}
@@ -17,7 +18,7 @@ next-requires-clause-near g c =
     omega (
       arith,
       c.requires.near,
-      few_entries j.inst.now.tables j.a0.now.items j.lots.now j.book.entries.items
+      few_entries (opening_in j) j.book.entries.items
           j.kept.legal,
     )
 
@@ -33,7 +34,7 @@ returns-in-Line-clause-entry g c =
       reads = e.reads;
       more = λ is. let has = (taken.right (ok_is c.take_entry.result true is)).1 in
           record { entry = has.entry; taken = has.taken };
-      read = told_taken told j.inst.now.tables j.a0.now.items j.lots.now c.args.reader.now.place c.next.new.self.place
+      read = told_taken told (opening_in j) c.args.reader.now.place c.next.new.self.place
           292 j.book.entries.items (checker_entries c.take_entry.new.checker) c.as_slice.result.now c.in_ok-next.field-0
           c.in-Line.is (λ is. e.long (ap Ok is))
           (λ is.
@@ -42,12 +43,12 @@ returns-in-Line-clause-entry g c =
             entry = has.entry;
             text = has.text;
             entries = has.taken.entries;
-            legal = subst (Legal j.inst.now.tables j.a0.now.items j.lots.now) (sym has.taken.entries) has.taken.legal;
+            legal = subst (Legal (opening_in j)) (sym has.taken.entries) has.taken.legal;
           })
           c.requires.read e.next given;
       none = λ is. absurd (not_end c.take_entry.result (λ ok. (taken.right ok).0) is);
       end = over_all told (λ bytes is. absurd (not_end c.take_entry.result (λ ok. (taken.right ok).0) is));
-      wrong = told_wrong told j.inst.now.tables j.a0.now.items j.lots.now c.args.reader.now.place c.next.new.self.place
+      wrong = told_wrong told (opening_in j) c.args.reader.now.place c.next.new.self.place
           292 74 j.book.entries.items c.as_slice.result.now c.in_ok-next.field-0 c.in-Line.is (λ is. e.long (ap Ok is))
           (omega arith)
           (λ n is.
@@ -78,7 +79,7 @@ returns-in-Last-clause-entry g c =
       read = over_all told (λ bytes is. absurd (cc));
       none = λ is. absurd (cc);
       end = over_all told (λ bytes is. absurd (cc));
-      wrong = told_last told j.inst.now.tables j.a0.now.items j.lots.now c.args.reader.now.place c.next.new.self.place
+      wrong = told_last told (opening_in j) c.args.reader.now.place c.next.new.self.place
           292 j.book.entries.items c.in_ok-next.field-0 c.in-Last.is
           (λ n is. sym (same_wrong (11 + length (checker_entries c.args.checker.now)) n
           (sym (ap Err c.wrong_entry.ensures)

@@ -1,4 +1,5 @@
 use Rattle.std.proofs.Common.{arith}
+use Rattle.ra_journal.specs.Journals.{opening_in}
 use Rattle.ra_verify.proofs.FollowLemmas.{few_entries}
 use Rattle.ra_verify.proofs.entries.wrong_entry.Goals as goal
 
@@ -9,7 +10,7 @@ overflow_add-result c =
       fits = omega (
         arith,
         c.len.ensures,
-        few_entries j.inst.now.tables j.a0.now.items j.lots.now j.book.entries.items
+        few_entries (opening_in j) j.book.entries.items
             j.kept.legal,
       );
     }

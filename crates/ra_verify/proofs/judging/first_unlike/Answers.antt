@@ -7,6 +7,7 @@ use Rattle.ra_journal.specs.States.{state}
 use Rattle.ra_report.specs.JournalTexts.{best_state}
 use Rattle.ra_journal.proofs.BestLemmas.{best_within}
 use Rattle.ra_journal.specs.Best.{best_of}
+use Rattle.ra_journal.specs.Journals.{opening_in}
 use Rattle.ra_verify.proofs.judging.first_unlike.Goals as goal
 
 pub replay-requires-clause-within : goal.replay-requires-clause-within
@@ -16,8 +17,7 @@ replay-requires-clause-within g c =
     omega (
       arith,
       c.best_at.ensures,
-      best_within journal.inst.now.tables journal.a0.now.items journal.book.entries.items
-          (length journal.book.entries.items),
+      best_within (opening_in journal) journal.book.entries.items (length journal.book.entries.items),
     )
 
 pub unlike_head-requires-clause-best : goal.unlike_head-requires-clause-best

@@ -1,4 +1,5 @@
 use Rattle.std.proofs.Common.{arith}
+use Rattle.ra_journal.specs.Journals.{opening_in}
 use Rattle.ra_verify.proofs.FollowLemmas.{few_entries}
 use Rattle.ra_verify.proofs.judging.judge.Goals as goal
 
@@ -10,7 +11,7 @@ overflow_add-result c =
         arith,
         c.requires.few,
         c.len-entries.ensures,
-        few_entries j.inst.now.tables j.a0.now.items j.lots.now j.book.entries.items j.kept.legal,
+        few_entries (opening_in j) j.book.entries.items j.kept.legal,
       );
     }
 
@@ -22,6 +23,6 @@ overflow_add-result-then-not-is_whole c =
         arith,
         c.requires.few,
         c.len-entries.ensures,
-        few_entries j.inst.now.tables j.a0.now.items j.lots.now j.book.entries.items j.kept.legal,
+        few_entries (opening_in j) j.book.entries.items j.kept.legal,
       );
     }

@@ -1,5 +1,6 @@
 use Rattle.std.proofs.Common.{arith}
 use Rattle.ra_journal.specs.Entries.{worker_count}
+use Rattle.ra_journal.specs.Openings.{opening}
 use Rattle.ra_worker.proofs.AllLemmas.{first_more, first_all}
 use Rattle.ra_worker.proofs.all.make_replicas.Goals as goal
 
@@ -10,12 +11,12 @@ make-requires-clause-worker c = omega (arith, c.loop-worker-test.true, c.len-wor
 pub loop-worker-preserved : goal.loop-worker-preserved
 loop-worker-preserved c =
     rw c.in_ok-push.ensures.items
-    (first_more c.args.inst.now.tables c.args.a0.now.items c.args.lots.now c.loop-worker.worker
+    (first_more (opening c.args.inst.now.tables c.args.a0.now.items c.args.lots.now) c.loop-worker.worker
     c.loop-worker.replicas.items c.in_ok-replica.replica c.loop-worker.invariant c.in_ok-replica.ensures.worker
     c.in_ok-replica.ensures.at)
 
 pub returns : goal.returns
 unfolding worker_count
-returns c = λ h. first_all c.args.inst.now.tables c.args.a0.now.items c.args.lots.now c.loop-worker.worker
+returns c = λ h. first_all (opening c.args.inst.now.tables c.args.a0.now.items c.args.lots.now) c.loop-worker.worker
     c.loop-worker.replicas.items h c.loop-worker.invariant
     (omega (arith, c.loop-worker-test.false, c.loop-worker.auto.worker-end, c.len-worker-end.ensures.value))

@@ -1,4 +1,5 @@
 use Rattle.std.proofs.Common.{◌≡◌, Result, Ok, Err, IfOk, sym, ◌∙◌, subst}
+use Rattle.ra_journal.specs.Openings.{opening}
 use Rattle.ra_worker.specs.Replicas.{IsAt}
 use Rattle.ra_worker.specs.declared.worker.Worker.{Worker}
 use Rattle.ra_worker.specs.Crews.{HasNotBegun}
@@ -12,12 +13,13 @@ from_both (Err e) p q follows = tt
 
 pub returns-clause-fresh : goal.returns-clause-fresh
 returns-clause-fresh c =
+    let o = opening c.args.inst.now.tables c.args.a0.now.items c.args.lots.now in
     let fresh : (w : Worker) → w.replica ≡ c.in_ok-replica.replica → w.pass ≡ c.args.pass →
-    HasNotBegun c.args.inst.now.tables c.args.a0.now.items c.args.lots.now w = λ w same_replica same_pass. record {
+    HasNotBegun o w = λ w same_replica same_pass. record {
       worker = rw (same_pass, same_replica) (c.in_ok-replica.ensures.worker ∙ c.number.ensures);
-      at = λ h. subst (IsAt c.args.inst.now.tables c.args.a0.now.items c.args.lots.now h) (sym same_replica)
+      at = λ h. subst (IsAt o h) (sym same_replica)
           (c.in_ok-replica.ensures.at h);
     } in
     from_both {P = λ (w : Worker). w.replica ≡ c.in_ok-replica.replica} {Q = λ (w : Worker). w.pass ≡ c.args.pass}
-    {R = HasNotBegun c.args.inst.now.tables c.args.a0.now.items c.args.lots.now} c.make-2.result
+    {R = HasNotBegun o} c.make-2.result
     c.make-2.ensures.replica c.make-2.ensures.pass fresh

@@ -1,5 +1,6 @@
 use Rattle.std.proofs.Common.{◌≡◌, suc, ◌∷◌, [], ◌++◌, map, length, refl, sym, ap, ◌∙◌, append-nil, arith}
 use Rattle.std.proofs.lemmas.List.Elements.{All-push}
+use Rattle.ra_journal.specs.Openings.{opening}
 use Rattle.ra_worker.specs.declared.worker.Worker.{Worker}
 use Rattle.ra_worker.specs.Crews.{HasNotBegun}
 use Rattle.ra_worker.proofs.Runs.{nothing_left, passed_over, first_out}
@@ -37,6 +38,7 @@ passes-smaller c = omega (arith, c.remove-pass.ensures.len)
 pub passes-preserved : goal.passes-preserved
 passes-preserved c =
     let at = c.passes in
+    let o = opening c.args.inst.now.tables c.args.a0.now.items c.args.lots.now in
     let steps : at.passes.items ≡ c.remove-pass.result ∷ c.remove-pass.new.self.items =
     first_out _ _ _ (omega (arith, c.passes-test.true, c.len-in-passes.ensures)) c.remove-pass.ensures.value
     c.remove-pass.ensures.items in
@@ -63,8 +65,7 @@ passes-preserved c =
         c.remove-pass.ensures.capacity,
       );
       fresh = rw c.push_reserved.ensures.items
-          (All-push (HasNotBegun c.args.inst.now.tables c.args.a0.now.items c.args.lots.now) at.workers.items
-          c.in_ok-worker.worker at.invariant.fresh c.in_ok-worker.ensures.fresh);
+          (All-push (HasNotBegun o) at.workers.items c.in_ok-worker.worker at.invariant.fresh c.in_ok-worker.ensures.fresh);
     }
 
 pub returns-clause-passes : goal.returns-clause-passes

@@ -2,6 +2,7 @@ use Rattle.std.proofs.Common.{◌≤◌, length, sym, subst, arith}
 use Rattle.ra_model.specs.declared.numbers.Instance.{Instance}
 use Rattle.ra_model.specs.Assignments.{IsAssignment}
 use Rattle.ra_journal.proofs.EndLemmas.{sound_at}
+use Rattle.ra_journal.specs.Journals.{opening_in}
 use Rattle.ra_worker.proofs.RunLemmas.{within_journal}
 use Rattle.ra_worker.proofs.prepared.bring_to_best.Goals as goal
 
@@ -11,8 +12,7 @@ restore-requires-clause-within c =
     omega (
       arith,
       c.best_at.ensures,
-      within_journal journal.inst.now.tables journal.a0.now.items
-          journal.book.entries.items,
+      within_journal (opening_in journal) journal.book.entries.items,
     )
 
 pub parts-requires-clause-fits : goal.parts-requires-clause-fits
@@ -22,10 +22,9 @@ parts-requires-clause-fits c =
     omega (
       arith,
       c.best_at.ensures,
-      within_journal journal.inst.now.tables journal.a0.now.items
-          journal.book.entries.items,
+      within_journal (opening_in journal) journal.book.entries.items,
     ) in
-    let sound = sound_at journal.inst.now.tables journal.a0.now.items journal.lots.now journal.book.entries.items
+    let sound = sound_at (opening_in journal) journal.book.entries.items
     c.best_at.result journal.start journal.kept.legal within in
     subst (λ (i : Instance). IsAssignment i.tables c.restore.new.best.items) (sym c.instance.ensures)
     (subst (IsAssignment journal.inst.now.tables) (sym c.restore.ensures.items) sound.assignment)

@@ -1,6 +1,7 @@
 use Rattle.std.proofs.Common.{ap, ◌∙◌, List, refl}
 use Rattle.ra_base.specs.declared.ids.Machine.{Machine}
 use Rattle.ra_model.specs.Situations.{Situation}
+use Rattle.ra_journal.specs.Journals.{opening_in}
 use Rattle.ra_worker.proofs.FollowingLemmas.{entry_judged, next_stated}
 use Rattle.ra_worker.proofs.replaying.replay_entry.Goals as goal
 
@@ -8,9 +9,9 @@ pub follow-requires : goal.follow-requires
 follow-requires g c =
     let journal = c.args.journal.now in
     record {
-      judged = rw c.requires.here (entry_judged journal.inst.now.tables journal.a0.now.items _ journal.lots.now
-          journal.book.entries.items c.args.at c.entry-entry.result journal.start.limits journal.start.fits
-          journal.kept.legal c.requires.within c.entry-entry.ensures refl);
+      judged = rw c.requires.here (entry_judged (opening_in journal) journal.book.entries.items c.args.at
+          c.entry-entry.result journal.start.limits journal.start.fits
+          journal.kept.legal c.requires.within c.entry-entry.ensures);
     }
 
 pub returns : goal.returns

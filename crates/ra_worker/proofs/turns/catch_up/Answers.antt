@@ -1,5 +1,6 @@
 use Rattle.std.proofs.Common.{◌-◌, min, length, ap, ◌∙◌, arith}
 use Rattle.ra_journal.specs.Batches.{batch_from}
+use Rattle.ra_journal.specs.Journals.{opening_in}
 use Rattle.ra_worker.proofs.TurnLemmas.{batch_next, taken_at}
 use Rattle.ra_worker.proofs.CoreTurnLemmas.{taken_place}
 use Rattle.ra_worker.proofs.turns.catch_up.Goals as goal
@@ -11,7 +12,7 @@ pub take_in-requires : goal.take_in-requires
 take_in-requires g c = record {
   told = record {
     journal = c.args.journal.now.book.entries.items;
-    next = batch_next c.args.journal.now.inst.now.tables c.args.journal.now.a0.now.items c.args.journal.now.lots.now
+    next = batch_next (opening_in c.args.journal.now)
         c.args.journal.now.book.entries.items c.copy_from-count.new.batch c.args.replica.now c.requires.at
         c.args.journal.now.kept.legal (c.copy_from-count.ensures.entries
         ∙ ap (batch_from c.args.journal.now.book.entries.items) c.place-place.ensures);
@@ -26,7 +27,7 @@ returns-clause-place g c = taken_place c.args.journal.now.book.entries.items c.c
     c.take_in.ensures.taken
 
 pub returns-clause-at : goal.returns-clause-at
-returns-clause-at g c = taken_at c.args.journal.now.inst.now.tables c.args.journal.now.a0.now.items
-    c.args.journal.now.lots.now c.args.journal.now.book.entries.items c.copy_from-count.new.batch c.args.replica.now
+returns-clause-at g c = taken_at (opening_in c.args.journal.now) c.args.journal.now.book.entries.items
+    c.copy_from-count.new.batch c.args.replica.now
     c.take_in.new.self _ c.requires.at c.args.journal.now.kept.legal (c.copy_from-count.ensures.entries
     ∙ ap (batch_from c.args.journal.now.book.entries.items) c.place-place.ensures) c.take_in.ensures.taken

@@ -1,5 +1,6 @@
 use Rattle.std.proofs.Common.{ℕ, sym, ap, ap₂, ◌∙◌, subst}
 use Rattle.ra_journal.specs.Committing.{committed, IsCommit}
+use Rattle.ra_journal.specs.Journals.{opening_in}
 use Rattle.ra_worker.proofs.TurnLemmas.{may_commit}
 use Rattle.ra_worker.specs.declared.events.CoreReply.TheVariants.{Answer}
 use Rattle.ra_worker.specs.Core.{Turn}
@@ -8,7 +9,7 @@ use Rattle.ra_worker.proofs.turns.commit_next.Goals as goal
 
 pub offer-plan-requires : goal.offer-plan-requires
 offer-plan-requires g c = record {
-  left = next_within c.args.journal.now.inst.now.tables c.args.journal.now.a0.now.items c.args.journal.now.lots.now
+  left = next_within (opening_in c.args.journal.now)
       c.args.journal.now.book.entries.items c.args.replica.now c.requires.at c.requires.not_skipped;
 }
 
@@ -16,9 +17,9 @@ pub commit-reply-requires : goal.commit-reply-requires
 commit-reply-requires g c =
     let j = c.args.journal.now in
     record {
-      commit = subst (λ w. IsCommit j.inst.now.tables j.a0.now.items j.lots.now j.book.entries.items w
+      commit = subst (λ w. IsCommit (opening_in j) j.book.entries.items w
           c.offer-plan.result) (sym c.worker.ensures.value)
-          (may_commit j.inst.now.tables j.a0.now.items j.lots.now j.book.entries.items c.args.replica.now
+          (may_commit (opening_in j) j.book.entries.items c.args.replica.now
           c.offer-plan.result c.requires.at c.requires.not_skipped c.offer-plan.ensures.next.place
           c.offer-plan.ensures.next.number c.offer-plan.ensures.next.planned c.offer-plan.ensures.next.weighed);
     }
@@ -29,20 +30,15 @@ returns g c =
     let r = c.args.replica.now in
     let own = c.worker.ensures.value in
     let place = c.offer-plan.ensures.next.place in
-    let done = sym (turn_answered j.inst.now.tables j.a0.now.items j.lots.now j.book.entries.items r.proposals.worker
+    let done = sym (turn_answered (opening_in j) j.book.entries.items r.proposals.worker
     r.place c.requires.not_skipped) in
     record {
       journal = c.commit-reply.ensures.journal
-          ∙ ap₂ (λ (w q : ℕ). (committed j.inst.now.tables j.a0.now.items j.lots.now j.book.entries.items w q).journal)
+          ∙ ap₂ (λ (w q : ℕ). (committed (opening_in j) j.book.entries.items w q).journal)
           own place ∙ ap (λ (t : Turn). t.journal) done;
       reply = ap Answer (c.commit-reply.ensures.reply
           ∙ ap₂ (λ (w q : ℕ).
-          (committed j.inst.now.tables j.a0.now.items j.lots.now j.book.entries.items w q).reply) own place)
+          (committed (opening_in j) j.book.entries.items w q).reply) own place)
           ∙ ap (λ (t : Turn). t.reply) done;
-      over = record {
-        instance = c.commit-reply.ensures.instance;
-        topology = c.commit-reply.ensures.topology;
-        initial = c.commit-reply.ensures.initial;
-        lots = c.commit-reply.ensures.lots;
-      };
+      over = c.commit-reply.ensures.over;
     }

@@ -1,5 +1,6 @@
 use Rattle.std.proofs.Common.{ℕ, ◌+◌, sym, ap, ◌∙◌, arith}
 use Rattle.ra_journal.specs.Entries.{entry_at}
+use Rattle.ra_journal.specs.Journals.{opening_in}
 use Rattle.ra_worker.proofs.ReplicaLemmas.{at_next}
 use Rattle.ra_worker.proofs.UptoLemmas.{here_judged, here_left, here_few}
 use Rattle.ra_worker.proofs.turns.follow_to.Goals as goal
@@ -8,7 +9,7 @@ pub take_entry-requires-clause-judged : goal.take_entry-requires-clause-judged
 take_entry-requires-clause-judged g c =
     let j = c.args.journal.now in
     let r = c.loop-at.replica in
-    here_judged j.inst.now.tables j.a0.now.items j.lots.now j.book.entries.items r c.entry-entry.result j.start.limits
+    here_judged (opening_in j) j.book.entries.items r c.entry-entry.result j.start.limits
     j.start.fits j.kept.legal c.loop-at.invariant.here
     (omega (arith, c.loop-at-test.true, c.requires.within, c.loop-at.invariant.place))
     (c.entry-entry.ensures ∙ ap (entry_at j.book.entries.items) (sym c.loop-at.invariant.place))
@@ -17,14 +18,14 @@ pub take_entry-requires-clause-left : goal.take_entry-requires-clause-left
 take_entry-requires-clause-left g c =
     let j = c.args.journal.now in
     let r = c.loop-at.replica in
-    here_left j.inst.now.tables j.a0.now.items j.lots.now j.book.entries.items r c.entry-entry.result j.kept.legal
+    here_left (opening_in j) j.book.entries.items r c.entry-entry.result j.kept.legal
     c.loop-at.invariant.here (omega (arith, c.loop-at-test.true, c.requires.within, c.loop-at.invariant.place))
     (c.entry-entry.ensures ∙ ap (entry_at j.book.entries.items) (sym c.loop-at.invariant.place))
 
 pub take_entry-requires-clause-few : goal.take_entry-requires-clause-few
 take_entry-requires-clause-few g c =
     let j = c.args.journal.now in
-    here_few j.inst.now.tables j.a0.now.items j.lots.now j.book.entries.items c.loop-at.replica j.kept.legal
+    here_few (opening_in j) j.book.entries.items c.loop-at.replica j.kept.legal
     (omega (arith, c.loop-at-test.true, c.requires.within, c.loop-at.invariant.place))
 
 pub loop-at-preserved : goal.loop-at-preserved
@@ -35,10 +36,9 @@ loop-at-preserved g c =
     record {
       place = followed.place ∙ ap (λ (n : ℕ). n + 1) c.loop-at.invariant.place;
       worker = followed.worker ∙ c.loop-at.invariant.worker;
-      here = at_next j.inst.now.tables j.a0.now.items j.lots.now j.book.entries.items r c.take_entry.new.self
+      here = at_next (opening_in j) j.book.entries.items r c.take_entry.new.self
           c.entry-entry.result c.loop-at.invariant.here
           (omega (arith, c.loop-at-test.true, c.requires.within, c.loop-at.invariant.place))
           (c.entry-entry.ensures ∙ ap (entry_at j.book.entries.items) (sym c.loop-at.invariant.place))
-          followed.assignment followed.instance followed.initial followed.lots followed.worker followed.number
-          followed.place;
+          followed;
     }

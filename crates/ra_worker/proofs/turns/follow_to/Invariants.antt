@@ -1,5 +1,6 @@
 -- The replica is at a state of the journal, and its place is known.
 use Rattle.std.proofs.Common.{◌≡◌}
+use Rattle.ra_journal.specs.Journals.{opening_in}
 use Rattle.ra_worker.specs.Replicas.{IsAt}
 use Rattle.ra_worker.proofs.turns.follow_to.Given as goal
 
@@ -7,6 +8,6 @@ abbrev pub invariant-loop-at : goal.invariant-loop-at
 invariant-loop-at g l = record {
   place : l.replica.place ≡ l.at;
   worker : l.replica.proposals.worker ≡ l.fn.replica.proposals.worker;
-  here : IsAt l.journal.inst.now.tables l.journal.a0.now.items l.journal.lots.now l.journal.book.entries.items
+  here : IsAt (opening_in l.journal) l.journal.book.entries.items
       l.replica;
 }

@@ -1,11 +1,12 @@
-use Rattle.std.proofs.Common.{length, ap, ◌∙◌}
-use Rattle.ra_draws.specs.declared.budgets.Lots.{Lots}
-use Rattle.ra_journal.specs.Entries.{entries_of, budget}
+use Rattle.std.proofs.Common.{◌<◌, length, ap, ◌∙◌, subst}
+use Rattle.ra_journal.specs.Entries.{entries_of, worker_count, budget}
+use Rattle.ra_journal.specs.Openings.{Opening}
 use Rattle.ra_worker.proofs.CoreTurnLemmas.{skipped_used, skipped_unused}
 use Rattle.ra_worker.proofs.turns.skipped.Goals as goal
 
 pub made_by-made-requires : goal.made_by-made-requires
-made_by-made-requires c = rw (← c.requires.at.lots) c.worker.ensures.exists
+made_by-made-requires c =
+    subst (λ (o : Opening). c.worker.result < worker_count o.lots) c.requires.at.opening c.worker.ensures.exists
 
 pub returns-then-budget-made : goal.returns-then-budget-made
 returns-then-budget-made c =
@@ -14,7 +15,7 @@ returns-then-budget-made c =
     skipped_used c.args.journal.now.lots.now h r.proposals.worker r.place c.made_by-made.result c.budget-budget.result
     c.next-next.result
     (c.made_by-made.ensures ∙ ap (entries_of h (length h)) c.worker.ensures.value)
-    (c.budget-budget.ensures ∙ ap (λ (m : Lots). budget m r.proposals.worker) c.requires.at.lots)
+    (c.budget-budget.ensures ∙ ap (λ (o : Opening). budget o.lots r.proposals.worker) c.requires.at.opening)
     (c.next-next.ensures ∙ c.requires.at.number)
     c.if-budget-made.true
 
@@ -25,6 +26,6 @@ returns-else-budget-made c =
     skipped_unused c.args.journal.now.lots.now h r.proposals.worker r.place c.made_by-made.result c.budget-budget.result
     c.next-next.result
     (c.made_by-made.ensures ∙ ap (entries_of h (length h)) c.worker.ensures.value)
-    (c.budget-budget.ensures ∙ ap (λ (m : Lots). budget m r.proposals.worker) c.requires.at.lots)
+    (c.budget-budget.ensures ∙ ap (λ (o : Opening). budget o.lots r.proposals.worker) c.requires.at.opening)
     (c.next-next.ensures ∙ c.requires.at.number)
     c.if-budget-made.false

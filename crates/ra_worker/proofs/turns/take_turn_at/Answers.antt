@@ -1,4 +1,5 @@
 use Rattle.std.proofs.Common.{◌<◌, length, set, sym, ◌∙◌, subst, arith}
+use Rattle.ra_journal.specs.Journals.{opening_in}
 use Rattle.ra_worker.specs.Turns.{TakesTurn}
 use Rattle.ra_worker.proofs.CoreLemmas.{all_set, stand_later, place_there, places_set}
 use Rattle.ra_worker.proofs.turns.take_turn_at.Goals as goal
@@ -48,7 +49,7 @@ returns-clause-at c =
     let s = c.follow_to.new.replica in
     let there : c.args.worker < length c.args.replicas.now.items =
     omega (arith, c.requires.exists, c.requires.at.one_each) in
-    let before = all_set j.inst.now.tables j.a0.now.items j.lots.now j.book.entries.items c.args.worker
+    let before = all_set (opening_in j) j.book.entries.items c.args.worker
     c.args.replicas.now.items s c.requires.at there (record {
       worker = c.follow_to.ensures.worker
           ∙ (c.requires.at.each c.args.worker c.index_mut-replica.result.now there

@@ -1,6 +1,6 @@
 use Rattle.std.proofs.Common.{◌≡◌, ◌<◌, ◌≤◌, length, ap, ◌∙◌, arith}
 use Rattle.ra_journal.specs.Entries.{worker_count}
-use Rattle.ra_worker.specs.Core.{worker_of_event, event_at}
+use Rattle.ra_worker.specs.Core.{worker_of_event}
 use Rattle.test_workers.proofs.PlayLemmas.{named_more}
 use Rattle.test_workers.proofs.playing.are_named.Goals as goal
 

@@ -1,9 +1,6 @@
 use Rattle.std.proofs.Common.{◌≡◌, ◌<◌, length, refl, sym, ap, ◌∙◌, subst, arith}
-use Rattle.ra_worker.specs.declared.events.CoreEvent.{CoreEvent}
-use Rattle.ra_worker.specs.declared.events.CoreEvent.TheVariants.{CatchUp, Commit}
-use Rattle.ra_worker.specs.Core.{step}
-use Rattle.ra_worker.specs.AllReplicas.{IsAtOf}
 use Rattle.ra_worker.proofs.CoreLemmas.{all_set, stand_later, over_itself}
+use Rattle.ra_journal.specs.Journals.{opening_in}
 use Rattle.test_workers.proofs.PlayLemmas.{named_catch_up, named_commit, step_catch_up, step_commit}
 use Rattle.test_workers.proofs.playing.play_event.Goals as goal
 
@@ -53,7 +50,7 @@ returns-in-CatchUp-clause-step g c =
       c.requires.at.one_each,
     ) in
     rw c.in-CatchUp.is
-    (step_catch_up j.inst.now.tables j.a0.now.items j.lots.now j.book.entries.items c.args.replicas.now.items
+    (step_catch_up (opening_in j) j.book.entries.items c.args.replicas.now.items
     c.in-CatchUp.worker c.catch_up-count.result c.index_mut-replica.result.now c.catch_up-count.new.replica
     there (sym c.index_mut-replica.ensures.value) c.catch_up-count.ensures.count c.catch_up-count.ensures.place)
 
@@ -66,7 +63,7 @@ returns-in-CatchUp-clause-at g c =
       named_catch_up c.args.event c.in-CatchUp.worker _ c.requires.named c.in-CatchUp.is,
       c.requires.at.one_each,
     ) in
-    all_set j.inst.now.tables j.a0.now.items j.lots.now j.book.entries.items c.in-CatchUp.worker
+    all_set (opening_in j) j.book.entries.items c.in-CatchUp.worker
     c.args.replicas.now.items c.catch_up-count.new.replica c.requires.at there (record {
       worker = c.catch_up-count.ensures.worker
           ∙ (c.requires.at.each c.in-CatchUp.worker c.index_mut-replica.result.now there
@@ -84,7 +81,7 @@ returns-in-Commit-clause-step g c =
       c.requires.at.one_each,
     ) in
     rw c.in-Commit.is
-    (step_commit j.inst.now.tables j.a0.now.items j.lots.now j.book.entries.items
+    (step_commit (opening_in j) j.book.entries.items
     c.hand_in.new.journal.book.entries.items c.args.replicas.now.items c.in-Commit.worker
     c.index-replica.result.now.proposals.worker c.index-replica.result.now c.hand_in.result there
     (sym c.index-replica.ensures)

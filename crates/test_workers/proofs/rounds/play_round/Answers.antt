@@ -1,6 +1,7 @@
 use Rattle.std.proofs.Common.{◌≡◌, ◌+◌, ◌<◌, length, sym, ap, ◌∙◌, subst, arith}
 use Rattle.ra_draws.specs.declared.budgets.Lots.{Lots}
 use Rattle.ra_journal.specs.Entries.{worker_count}
+use Rattle.ra_journal.specs.Openings.{opening}
 use Rattle.test_workers.specs.Rounds.{HaveMade}
 use Rattle.test_workers.proofs.PlayedLemmas.{plays_nothing, plays_then}
 use Rattle.test_workers.proofs.RoundLemmas.{made_none, made_still, made_more, made_all}
@@ -20,15 +21,13 @@ in_loop : goal.loop-w-preserved
 unfolding worker_count
 in_loop c =
     let k = c.loop-w.journal in
-    let i = k.inst.now.tables in
-    let a0 = k.a0.now.items in
-    let l = k.lots.now in
+    let o = opening k.inst.now.tables k.a0.now.items k.lots.now in
     let h = k.book.entries.items in
     let g = c.take_turn.new.journal.book.entries.items in
     let inv = c.loop-w.invariant in
     let played = c.take_turn.ensures.played in
     let lots = sym played.over.lots in
-    let there : c.loop-w.w < worker_count l =
+    let there : c.loop-w.w < worker_count o.lots =
     omega (
       arith,
       c.loop-w-test.true,
@@ -37,9 +36,9 @@ in_loop c =
     ) in
     record {
       all = λ r made. subst (λ (m : Lots). HaveMade m g (worker_count m) r) lots
-          (made_still i a0 l h g c.loop-w.w (length h) (worker_count l) r c.take_turn.ensures.journal (inv.all r made));
+          (made_still o h g c.loop-w.w (length h) (worker_count o.lots) r c.take_turn.ensures.journal (inv.all r made));
       first = λ r made. subst (λ (m : Lots). HaveMade m g (c.loop-w.w + 1) (r + 1)) lots
-          (made_more i a0 l h g (worker_count l) c.loop-w.w r c.take_turn.ensures.journal there (inv.all r made)
+          (made_more o h g (worker_count o.lots) c.loop-w.w r c.take_turn.ensures.journal there (inv.all r made)
           (inv.first r made));
       played = plays_then c.args.journal.now k c.take_turn.new.journal c.args.replicas.now.items c.loop-w.replicas.items
           c.take_turn.new.replicas.items inv.played played;

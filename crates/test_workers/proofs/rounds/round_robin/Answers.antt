@@ -2,6 +2,7 @@ use Rattle.std.proofs.Common.{◌≡◌, ℕ, ◌<◌, ◌≤◌, sym, ◌∙◌
 use Rattle.ra_draws.specs.declared.budgets.Lots.{Lots}
 use Rattle.ra_journal.specs.Entries.{worker_count, budget}
 use Rattle.ra_journal.specs.Legal.{Whole}
+use Rattle.ra_journal.specs.Journals.{opening_in}
 use Rattle.test_workers.proofs.PlayedLemmas.{plays_nothing, plays_then}
 use Rattle.test_workers.proofs.RoundLemmas.{none_made, whole_by}
 use Rattle.test_workers.proofs.rounds.round_robin.Goals as goal
@@ -29,6 +30,6 @@ returns-clause-whole c =
     let far : (w : ℕ) → w < worker_count k.lots.now → budget k.lots.now w ≤ c.longest-rounds.result =
     subst (λ (m : Lots). (w : ℕ) → w < worker_count m → budget m w ≤ c.longest-rounds.result)
     (c.lots.ensures ∙ sym inv.played.over.lots) c.longest-rounds.ensures in
-    let whole = whole_by k.inst.now.tables k.a0.now.items k.lots.now k.book.entries.items c.loop-round._round
+    let whole = whole_by (opening_in k) k.book.entries.items c.loop-round._round
     k.kept.legal inv.made (λ w there. omega (arith, far w there, c.loop-round-test.false)) in
     subst (λ (m : Lots). Whole m k.book.entries.items) inv.played.over.lots whole

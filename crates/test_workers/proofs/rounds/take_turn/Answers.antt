@@ -1,6 +1,7 @@
 use Rattle.std.proofs.Common.{◌≡◌, ℕ, ◌<◌, length, set, sym, ap₂, ◌∙◌, arith}
 use Rattle.ra_worker.specs.Turns.{turn_in}
 use Rattle.ra_worker.proofs.CoreLemmas.{all_set, stand_later}
+use Rattle.ra_journal.specs.Journals.{opening_in}
 use Rattle.test_workers.proofs.PlayedLemmas.{turn_played}
 use Rattle.test_workers.proofs.rounds.take_turn.Goals as goal
 
@@ -24,10 +25,10 @@ returns-clause-played c =
     omega (arith, c.requires.exists, c.requires.at.one_each) in
     let here = c.requires.at.each c.args.w r there (sym c.index_mut-replica.ensures.value) in
     let own = c.catch_up_whole.ensures.worker ∙ here.worker in
-    let before = all_set j.inst.now.tables j.a0.now.items j.lots.now j.book.entries.items c.args.w
+    let before = all_set (opening_in j) j.book.entries.items c.args.w
     c.args.replicas.now.items s c.requires.at there (record { worker = own; at = c.catch_up_whole.ensures.at }) in
     record {
-      played = turn_played j.inst.now.tables j.a0.now.items j.lots.now j.book.entries.items k.book.entries.items
+      played = turn_played (opening_in j) j.book.entries.items k.book.entries.items
           c.args.replicas.now.items c.args.w s.proposals.worker r s c.requires.exists there
           (sym c.index_mut-replica.ensures.value) here.at.place c.catch_up_whole.ensures.place own
           c.hand_in-reply.ensures.journal;

@@ -5,11 +5,11 @@ use Rattle.plain.proofs.Standing.{can_replay, replay_fits}
 use Rattle.plain.proofs.bench.Bench.plan.Goals as goal
 
 pub replay-requires-clause-can : goal.replay-requires-clause-can
-replay-requires-clause-can c = can_replay _ _ _ _ _ c.args.inst.now.well_formed c.requires.start c.requires.can.before
+replay-requires-clause-can c = can_replay _ _ _ c.args.inst.now.well_formed c.requires.start c.requires.can.before
 
 pub copy_to-requires : goal.copy_to-requires
 copy_to-requires c =
-    let fits = replay_fits _ _ _ _ _ _ c.args.inst.now.well_formed c.requires.start c.requires.can.before
+    let fits = replay_fits _ _ _ _ c.args.inst.now.well_formed c.requires.start c.requires.can.before
     c.replay.ensures.items in
     let room : length c.replay.new.a.items ≤ c.args.self.now.other.room =
     omega (arith, fits.one_each, c.requires.made.other) in
@@ -17,11 +17,11 @@ copy_to-requires c =
 
 pub parts-cost-requires-clause-fits : goal.parts-cost-requires-clause-fits
 parts-cost-requires-clause-fits c =
-    replay_fits _ _ _ _ _ _ c.args.inst.now.well_formed c.requires.start c.requires.can.before c.replay.ensures.items
+    replay_fits _ _ _ _ c.args.inst.now.well_formed c.requires.start c.requires.can.before c.replay.ensures.items
 
 pub plan_plainly-planned-requires-clause-fits : goal.plan_plainly-planned-requires-clause-fits
 plan_plainly-planned-requires-clause-fits c =
-    replay_fits _ _ _ _ _ _ c.args.inst.now.well_formed c.requires.start c.requires.can.before c.replay.ensures.items
+    replay_fits _ _ _ _ c.args.inst.now.well_formed c.requires.start c.requires.can.before c.replay.ensures.items
 
 pub plan_plainly-planned-requires-clause-before : goal.plan_plainly-planned-requires-clause-before
 unfolding parts_of

@@ -1,4 +1,5 @@
 use Rattle.std.proofs.Common.{◌∙◌}
+use Rattle.ra_journal.specs.Journals.{opening_in}
 use Rattle.ra_journal.proofs.EndLemmas.{planned_within}
 use Rattle.ra_journal.proofs.NewerLemmas.{newer_same, newer_read_same}
 use Rattle.ra_journal.proofs.journal.Journal.first_newer.Goals as goal
@@ -6,13 +7,13 @@ use Rattle.ra_journal.proofs.journal.Journal.first_newer.Goals as goal
 pub first_newer_read-requires-clause-within : goal.first_newer_read-requires-clause-within
 first_newer_read-requires-clause-within c =
     let s = c.args.self.now in
-    planned_within s.inst.now.tables s.a0.now.items s.lots.now s.book.entries.items c.args.worker c.args.plan.now
+    planned_within (opening_in s) s.book.entries.items c.args.worker c.args.plan.now
     s.start s.kept.legal c.requires.commit
 
 pub first_newer-requires-clause-within : goal.first_newer-requires-clause-within
 first_newer-requires-clause-within c =
     let s = c.args.self.now in
-    planned_within s.inst.now.tables s.a0.now.items s.lots.now s.book.entries.items c.args.worker c.args.plan.now
+    planned_within (opening_in s) s.book.entries.items c.args.worker c.args.plan.now
     s.start s.kept.legal c.requires.commit
 
 pub returns-in-Some : goal.returns-in-Some

@@ -3,6 +3,7 @@ use Rattle.ra_base.specs.declared.costs.Parts.{Parts}
 use Rattle.ra_model.specs.Costs.{parts_of}
 use Rattle.ra_model.specs.Numbers.{service_count}
 use Rattle.ra_guards.specs.Kept.{AreZero}
+use Rattle.ra_journal.specs.Openings.{opening}
 use Rattle.ra_journal.proofs.StartLemmas.{kept_start}
 use Rattle.ra_journal.proofs.journal.Journal.make.Goals as goal
 
@@ -17,7 +18,7 @@ invariant_of-result c =
     record {
       topology = c.requires.topology;
       start = record { limits = c.args.inst.now.well_formed; fits = c.requires.fits; unbroken = c.requires.unbroken };
-      kept = kept_start i c.args.a0.now.items c.args.lots.now _ c.in_ok-entries.ensures.items
+      kept = kept_start (opening i c.args.a0.now.items c.args.lots.now) _ c.in_ok-entries.ensures.items
           (c.in_ok-entries.ensures.room ∙ c.proposals.ensures.value) zero_versions c.in_ok-greatest.ensures.counts
           c.in_ok-greatest.ensures.limit refl cost refl cost;
     }

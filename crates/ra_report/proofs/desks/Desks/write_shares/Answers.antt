@@ -14,9 +14,8 @@ returns-clause-within g c =
 
 pub returns-clause-lines : goal.returns-clause-lines
 returns-clause-lines g c =
-    let h = c.args.entries.now.items in
     let desks = c.write_beside.new.desks.items in
-    let lines = shares_are_lines h c.args.from desks c.requires
+    let lines = shares_are_lines c.args.entries.now.items c.args.from desks c.requires
     (λ n d below. c.write_beside.ensures.each n d (omega (arith, below, c.write_beside.ensures.count))) in
     let number : c.len.result ≡ length desks = omega (arith, c.len.ensures) in
     rw (c.share_start.ensures, number) lines

@@ -1,11 +1,9 @@
 -- Each write guard is locked before the next one, and unlocked after it.
-use Rattle.std.proofs.Common.{◌≡◌, ◌+◌, ◌-◌, ◌<◌, ◌≤◌, ℕ, List, length, Contains, IfSome, rules, refl, ap, sym, subst, ◌∙◌}
+use Rattle.std.proofs.Common.{◌+◌, ◌-◌, ◌<◌, ◌≤◌, ℕ, length, Contains, IfSome, rules, refl, ap, sym, subst, ◌∙◌}
 use Rattle.std.proofs.Common.{arith}
 use Rattle.std.proofs.lemmas.List.Elements.{All-contains}
 use Rattle.ra_model.specs.declared.numbers.Instance.{Instance}
 use Rattle.ra_guards.specs.Order.{IsKnown, guard_at}
-use Rattle.ra_journal.specs.declared.entries.Entry.{Entry}
-use Rattle.ra_turn.specs.declared.sight.Grip.{Grip}
 use Rattle.ra_turn.specs.Notes.{grip, touching, OnlyBy, IsVersion}
 use Rattle.ra_turn.specs.Passes.{seen_by, notes_made_by, grips_of, news_of}
 use Rattle.ra_shared.specs.Books.{entry_touches, KnowsOwn}
@@ -65,7 +63,7 @@ returns-in_default-clause-none g t c =
         version = c.in_default.field-0;
         written = next.written;
         above = newer.above;
-        told = subst (λ (m : ℕ). Contains (news_of c.hold.new.pass) (grip m c.in_default.field-0)) number newer.news;
+        told = subst (λ m. Contains (news_of c.hold.new.pass) (grip m c.in_default.field-0)) number newer.news;
       };
     }
 
@@ -128,23 +126,16 @@ release-requires-clause-version g t c =
     let next = next_guard s plan guards c.args.k p c.requires.may c.requires.guards c.requires.held _ number inside in
     let holds = holds_next s plan guards c.args.k p c.requires.may c.requires.guards c.requires.held _ v q number inside
     pass.0 pass.1 pass.2 gripped in
-    let has = still_held s plan guards c.args.k p c.number_of-guard.result v q r c.commit_from-reply.result
-    gripped.grips e.some e.none in
-    let own : KnowsOwn q.number (seen_by q) (notes_made_by q) =
-    subst (λ (w : ℕ). KnowsOwn w (seen_by q) (notes_made_by q)) q.numbered q.owned in
-    let before : IsVersion (touching entry_touches o (number_at o.inst.tables guards c.args.k)) (seen_by q) v =
-    subst (λ (m : ℕ). IsVersion (touching entry_touches o m) (seen_by q) v) number (gripped.version holds.reached) in
     let there = version_back s plan p q r r (guard_at guards c.args.k) v
     next.known next.written c.commit_from-reply.result _ e.shut
-    (λ shut. subst (λ (m : ℕ). OnlyBy (touching entry_touches o m) (λ (x : Entry). x.worker) r.number (seen_by r) v)
+    (λ shut. subst (λ m. OnlyBy (touching entry_touches o m) (λ x. x.worker) r.number (seen_by r) v)
     number
-    (All-contains (λ (h : Grip). OnlyBy (touching entry_touches o h.guard) (λ (x : Entry). x.worker) r.number
-    (seen_by r) h.version) (grips_of r) (grip c.number_of-guard.result v) shut has))
-    e.some e.none own holds.may.commit holds.reached before in
-    let now : c.then_version-now.result ≡ then_version c.commit_from-reply.result v (length (seen_by r)) =
-    c.then_version-now.ensures ∙ ap (then_version c.commit_from-reply.result v) c.seen.ensures in
-    subst (λ (m : ℕ). IsVersion (touching entry_touches o m) (seen_by r) c.then_version-now.result) (sym number)
-    (subst (IsVersion (touching entry_touches o (number_at o.inst.tables guards c.args.k)) (seen_by r)) (sym now) there)
+    (All-contains (λ h. OnlyBy (touching entry_touches o h.guard) (λ x. x.worker) r.number
+    (seen_by r) h.version) (grips_of r) (grip c.number_of-guard.result v) shut (still_held s plan guards c.args.k p c.number_of-guard.result v q r c.commit_from-reply.result
+    gripped.grips e.some e.none)))
+    e.some e.none (subst (λ w. KnowsOwn w (seen_by q) (notes_made_by q)) q.numbered q.owned) holds.may.commit holds.reached (subst (λ m. IsVersion (touching entry_touches o m) (seen_by q) v) number (gripped.version holds.reached)) in
+    subst (λ m. IsVersion (touching entry_touches o m) (seen_by r) c.then_version-now.result) (sym number)
+    (subst (IsVersion (touching entry_touches o (number_at o.inst.tables guards c.args.k)) (seen_by r)) (sym (c.then_version-now.ensures ∙ ap (then_version c.commit_from-reply.result v) c.seen.ensures)) there)
 
 pub returns-clause-some : goal.returns-clause-some
 returns-clause-some g t c =
@@ -155,9 +146,8 @@ returns-clause-some g t c =
     let gave = c.release.ensures in
     let inside : c.args.k < length c.args.guards.now =
     omega (arith, c.requires.place, c.len.ensures.value, c.if-k-len.false) in
-    let number = number_found s c.args.guards.now c.args.k c.number_of-guard.result c.guard.result c.guard.ensures
-    c.number_of-guard.ensures in
-    let next = next_guard s plan c.args.guards.now c.args.k p c.requires.may c.requires.guards c.requires.held _ number
+    let next = next_guard s plan c.args.guards.now c.args.k p c.requires.may c.requires.guards c.requires.held _ (number_found s c.args.guards.now c.args.k c.number_of-guard.result c.guard.result c.guard.ensures
+    c.number_of-guard.ensures)
     inside in
     handed_back s plan p c.hold.new.pass c.commit_from-reply.new.pass c.release.new.pass
     c.number_of-guard.result c.in-Held.version pass.1 pass.2
@@ -173,9 +163,8 @@ returns-clause-none g t c =
     let gave = c.release.ensures in
     let inside : c.args.k < length c.args.guards.now =
     omega (arith, c.requires.place, c.len.ensures.value, c.if-k-len.false) in
-    let number = number_found s c.args.guards.now c.args.k c.number_of-guard.result c.guard.result c.guard.ensures
-    c.number_of-guard.ensures in
-    let next = next_guard s plan c.args.guards.now c.args.k p c.requires.may c.requires.guards c.requires.held _ number
+    let next = next_guard s plan c.args.guards.now c.args.k p c.requires.may c.requires.guards c.requires.held _ (number_found s c.args.guards.now c.args.k c.number_of-guard.result c.guard.result c.guard.ensures
+    c.number_of-guard.ensures)
     inside in
     held_back s plan p c.hold.new.pass c.commit_from-reply.new.pass c.release.new.pass
     c.number_of-guard.result c.in-Held.version pass.1 pass.2
@@ -184,6 +173,6 @@ returns-clause-none g t c =
 
 pub returns-clause-copied : goal.returns-clause-copied
 returns-clause-copied g t c =
-    subst (λ (xs : List Entry). IfSome c.commit_from-reply.result
+    subst (λ xs. IfSome c.commit_from-reply.result
     (λ _. g.C.Copying.copied c.commit_from-reply.new.copy xs c.args.plan.now.q))
     (sym c.release.ensures.pass.2.0) c.commit_from-reply.ensures.copied

@@ -1,8 +1,7 @@
 use Rattle.std.proofs.Common.{sym, subst, All}
-use Rattle.ra_journal.specs.declared.journal.Journal.{Journal}
 use Rattle.ra_turn.specs.Passes.{IsPartOf}
 use Rattle.ra_shared.proofs.shared.Shared.close.Goals as goal
 
 pub returns-clause-passes : goal.returns-clause-passes
-returns-clause-passes c = subst (λ (j : Journal). All (IsPartOf j.book.entries.items) c.args.passes.items)
+returns-clause-passes c = subst (λ j. All (IsPartOf j.book.entries.items) c.args.passes.items)
     (sym c.into_inner.ensures) c.close-journal.ensures.passes

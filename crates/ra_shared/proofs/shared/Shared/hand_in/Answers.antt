@@ -1,26 +1,23 @@
 use Rattle.std.proofs.Common.{◌<◌, ℕ, inl, inr, sym, subst}
-use Rattle.ra_draws.specs.declared.budgets.Lots.{Lots}
-use Rattle.ra_model.specs.declared.numbers.Instance.{Instance}
 use Rattle.ra_guards.specs.Guards.{AreWithin}
 use Rattle.ra_journal.proofs.EndLemmas.{planned_within}
 use Rattle.ra_journal.specs.Entries.{worker_count, budget, allowed}
 use Rattle.ra_journal.specs.Refusing.{IsRefused}
-use Rattle.ra_shared.specs.declared.books.Opening.{Opening}
-use Rattle.ra_shared.specs.Books.{KnowsOwn}
+use Rattle.ra_shared.specs.Books.{KnowsOwn, opening_by}
 use Rattle.ra_shared.specs.Shares.{start_of}
 use Rattle.ra_shared.proofs.Back.{may_hand_in, may_still, has_committed, handed_later}
 use Rattle.ra_shared.proofs.shared.Shared.hand_in.Goals as goal
 
 pub is_refused-requires-clause-worker : goal.is_refused-requires-clause-worker
 is_refused-requires-clause-worker g c =
-    subst (λ (l : Lots). c.number.result < worker_count l) (sym c.args.self.now.allotted)
-    (subst (λ (w : ℕ). w < worker_count (start_of c.args.self.now).lots) (sym c.number.ensures)
+    subst (λ l. c.number.result < worker_count l) (sym c.args.self.now.allotted)
+    (subst (λ w. w < worker_count (start_of c.args.self.now).lots) (sym c.number.ensures)
     c.requires.commit.worker)
 
 pub is_refused-requires-clause-left : goal.is_refused-requires-clause-left
 is_refused-requires-clause-left g c =
-    subst (λ (l : Lots). c.args.plan.now.k < budget l c.number.result) (sym c.args.self.now.allotted)
-    (subst (λ (w : ℕ). c.args.plan.now.k < budget (start_of c.args.self.now).lots w) (sym c.number.ensures)
+    subst (λ l. c.args.plan.now.k < budget l c.number.result) (sym c.args.self.now.allotted)
+    (subst (λ w. c.args.plan.now.k < budget (start_of c.args.self.now).lots w) (sym c.number.ensures)
     c.requires.commit.within)
 
 pub commit_once-requires-clause-may : goal.commit_once-requires-clause-may
@@ -31,10 +28,10 @@ pub commit_once-requires-clause-guards : goal.commit_once-requires-clause-guards
 commit_once-requires-clause-guards g c =
     let s = c.args.self.now in
     let plan = c.args.plan.now in
-    inl (subst (λ (x : Instance). IsRefused x.tables (allowed (start_of s).lots c.args.pass.now.number plan.k) plan)
+    inl (subst (λ x. IsRefused x.tables (allowed (start_of s).lots c.args.pass.now.number plan.k) plan)
     s.instance
-    (subst (λ (l : Lots). IsRefused s.inst.now.tables (allowed l c.args.pass.now.number plan.k) plan) s.allotted
-    (subst (λ (w : ℕ). IsRefused s.inst.now.tables (allowed s.lots.now w plan.k) plan) c.number.ensures
+    (subst (λ l. IsRefused s.inst.now.tables (allowed l c.args.pass.now.number plan.k) plan) s.allotted
+    (subst (λ w. IsRefused s.inst.now.tables (allowed s.lots.now w plan.k) plan) c.number.ensures
     (c.is_refused.ensures.0 c.if-is_refused.true))))
 
 pub returns-then-is_refused-clause-done : goal.returns-then-is_refused-clause-done
@@ -47,11 +44,10 @@ returns-then-is_refused-clause-done g c =
 pub writes-guards-requires : goal.writes-guards-requires
 writes-guards-requires g c =
     let s = c.args.self.now in
-    let o : Opening = start_of s in
     let p = c.args.pass.now in
     let plan = c.args.plan.now in
-    subst (λ (x : Instance). AreWithin x.tables plan.mv.steps) (sym s.instance)
-    (planned_within o.inst.tables o.a0.items o.lots p.seat.me.0.own.seen p.number plan s.started c.requires.rest.legal
+    subst (λ x. AreWithin x.tables plan.mv.steps) (sym s.instance)
+    (planned_within (opening_by (start_of s)) p.seat.me.0.own.seen p.number plan s.started c.requires.rest.legal
     c.requires.commit)
 
 pub commit_from-requires-clause-may : goal.commit_from-requires-clause-may

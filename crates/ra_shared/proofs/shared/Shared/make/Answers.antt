@@ -1,24 +1,20 @@
-use Rattle.std.proofs.Common.{◌≡◌, ap, sym, subst, ◌∙◌, arith}
-use Rattle.ra_draws.specs.declared.budgets.Lots.{Lots}
-use Rattle.ra_journal.specs.declared.journal.Journal.{Journal}
+use Rattle.std.proofs.Common.{ap, sym, subst, ◌∙◌, arith}
 use Rattle.ra_journal.specs.Entries.{worker_count}
-use Rattle.ra_turn.specs.Passes.{opening_of}
-use Rattle.ra_shared.specs.Books.{opened_by, opening_of_journal, IsStartOf}
+use Rattle.ra_shared.specs.Books.{opening_of_journal, IsStartOf}
 use Rattle.ra_shared.specs.Numbers.{guard_count}
-use Rattle.ra_shared.specs.declared.books.Opening.{Opening}
 use Rattle.ra_shared.proofs.Resting.{new_pass}
 use Rattle.ra_shared.proofs.shared.Shared.make.Goals as goal
 
 pub invariant_of-result : goal.invariant_of-result
 unfolding guard_count worker_count
 invariant_of-result c =
-    let opened : opening_of opened_by c.in_ok-turn.turn ≡ opening_of_journal c.args.journal =
-    c.in_ok-turn.ensures.turn.0 ∙ ap (λ (j : Journal). opening_of_journal j) c.in_ok-journal.ensures.ok in
-    let lots = ap (λ (l : Lots). worker_count l) c.lots-lots.ensures
-    ∙ ap (λ (o : Opening). worker_count o.lots) (sym opened) in
+    let opened =
+    c.in_ok-turn.ensures.turn.0 ∙ ap (λ j. opening_of_journal j) c.in_ok-journal.ensures.ok in
+    let lots = ap (λ l. worker_count l) c.lots-lots.ensures
+    ∙ ap (λ o. worker_count o.lots) (sym opened) in
     record {
-      instance = c.instance-inst.ensures ∙ ap (λ (o : Opening). o.inst) (sym opened);
-      allotted = c.lots-lots.ensures ∙ ap (λ (o : Opening). o.lots) (sym opened);
+      instance = c.instance-inst.ensures ∙ ap (λ o. o.inst) (sym opened);
+      allotted = c.lots-lots.ensures ∙ ap (λ o. o.lots) (sym opened);
       started = subst IsStartOf (sym opened) c.args.journal.start;
       guards = omega (arith, c.in_ok-turn.ensures.turn.2, c.machines.ensures, c.services.ensures);
       workers = omega (arith, c.in_ok-turn.ensures.turn.1, c.len.ensures.value, lots);

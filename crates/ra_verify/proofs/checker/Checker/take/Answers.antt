@@ -1,4 +1,5 @@
 use Rattle.std.proofs.Common.{sym, ◌∙◌}
+use Rattle.ra_journal.specs.Journals.{opening_in}
 use Rattle.ra_verify.proofs.FollowLemmas.{none_may_follow}
 use Rattle.ra_verify.proofs.CheckerLemmas.{may_stand, taken}
 use Rattle.ra_verify.proofs.checker.Checker.take.Goals as goal
@@ -22,6 +23,6 @@ returns-clause-right c = λ yes. taken c.args.self.now _ c.args.worker c.args.q 
 pub returns-clause-wrong : goal.returns-clause-wrong
 returns-clause-wrong c =
     let j = c.args.self.now.journal in
-    λ no e legal own at. none_may_follow j.inst.now.tables j.a0.now.items j.lots.now j.book.entries.items c.args.worker
+    λ no e legal own at. none_may_follow (opening_in j) j.book.entries.items c.args.worker
     c.args.q c.take_turn_at-reply.result j.start c.take_turn_at-reply.ensures.turn.reply
     (sym c.is_recorded.ensures ∙ no) e legal own at

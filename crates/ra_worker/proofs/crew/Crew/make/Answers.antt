@@ -1,8 +1,9 @@
 use Rattle.std.proofs.Common.{length, sym, ap, ◌∙◌, arith}
 use Rattle.std.proofs.lemmas.List.{length-map}
 use Rattle.ra_journal.specs.Entries.{worker_count}
-use Rattle.ra_shared.specs.declared.books.Opening.{Opening}
+use Rattle.ra_shared.specs.Books.{opening_by}
 use Rattle.ra_worker.specs.declared.worker.Worker.{Worker}
+use Rattle.ra_worker.proofs.OpeningLemmas.{opened_is}
 use Rattle.ra_worker.proofs.Runs.{all_ready}
 use Rattle.ra_worker.proofs.crew.Crew.make.Goals as goal
 
@@ -21,10 +22,8 @@ invariant_of-result c =
     let ws = c.in_ok-workers.workers.items in
     let opened = c.in_ok-shared.ensures.opened in
     record {
-      ready = all_ready c.in_ok-shared.shared c.args.inst.now c.args.a0.now c.args.lots.now ws
-          (ap (λ (o : Opening). o.inst) opened ∙ c.in_ok-journal.ensures.instance)
-          (ap (λ (o : Opening). o.a0) opened ∙ c.in_ok-journal.ensures.initial)
-          (ap (λ (o : Opening). o.lots) opened ∙ c.in_ok-journal.ensures.lots)
+      ready = all_ready c.in_ok-shared.shared _ ws
+          (ap opening_by opened ∙ opened_is _ _ _ _ _ c.in_ok-journal.ensures)
           (sym (length-map ws (λ (w : Worker). w.pass)) ∙ ap length c.in_ok-workers.ensures.passes
           ∙ c.in_ok-shared.ensures.count ∙ ap worker_count c.in_ok-journal.ensures.lots)
           (rw c.in_ok-workers.ensures.passes c.in_ok-shared.ensures.passes)

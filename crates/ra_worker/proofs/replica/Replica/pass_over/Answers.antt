@@ -1,4 +1,5 @@
-use Rattle.std.proofs.Common.{refl}
+use Rattle.std.proofs.Common.{refl, ap}
+use Rattle.ra_journal.specs.Openings.{opening}
 use Rattle.ra_worker.proofs.ReplicaLemmas.{passed_at}
 use Rattle.ra_worker.proofs.replica.Replica.pass_over.Goals as goal
 
@@ -9,10 +10,8 @@ returns c =
     let worker = c.advance.ensures.worker in
     let number = c.advance.ensures.number in
     record {
-      instance = refl;
-      initial = refl;
+      opening = ap (opening r.world.tables r.world.start) lots;
       here = refl;
-      lots = lots;
       worker = worker;
       number = number;
       place = refl;

@@ -1,4 +1,5 @@
-use Rattle.std.proofs.Common.{◌≡◌, ◌<◌, length, arith}
+use Rattle.std.proofs.Common.{◌≡◌, ◌<◌, length, ap, arith}
+use Rattle.ra_journal.specs.Openings.{Opening}
 use Rattle.ra_worker.proofs.ReplicaLemmas.{taken_none, taken_more, reads_more, next_judged, next_left, place_few}
 use Rattle.ra_worker.proofs.replica.Replica.take_in.Goals as goal
 
@@ -27,10 +28,8 @@ pub loop-j-preserved : goal.loop-j-preserved
 loop-j-preserved g c = record {
   taken = taken_more c.args.self.now c.loop-j.self c.take_entry.new.self c.args.batch.now c.loop-j.j
       c.entry-entry.result c.loop-j.invariant.taken (omega (arith, c.loop-j-test.true, c.len-j-end.ensures.value))
-      c.entry-entry.ensures c.take_entry.ensures.followed.assignment c.take_entry.ensures.followed.instance
-      c.take_entry.ensures.followed.initial c.take_entry.ensures.followed.lots c.take_entry.ensures.followed.worker
-      c.take_entry.ensures.followed.number c.take_entry.ensures.followed.place;
-  counted = reads_more c.loop-j.invariant.taken.instance c.loop-j.j _ _ _ c.loop-j.invariant.counted
+      c.entry-entry.ensures c.take_entry.ensures.followed;
+  counted = reads_more (ap (λ (o : Opening). o.tables) c.loop-j.invariant.taken.opening) c.loop-j.j _ _ _ c.loop-j.invariant.counted
       c.take_entry.ensures.counted;
 }
 

@@ -3,6 +3,7 @@ use Rattle.ra_draws.specs.Lots.{lot_at, budget_of}
 use Rattle.ra_draws.specs.declared.budgets.Lots.{Lots}
 use Rattle.ra_draws.specs.declared.sources.Lot.{Lot}
 use Rattle.ra_journal.specs.Entries.{worker_count, budget}
+use Rattle.ra_journal.specs.Openings.{opening}
 use Rattle.test_workers.proofs.FirstLemmas.{first_commit}
 use Rattle.test_workers.proofs.commits.first.hand_in.Goals as goal
 
@@ -22,6 +23,7 @@ commit-requires c =
     let all = ap (λ (x : Lots). (lot_at x.lots.items c.args.worker).budget) c.lots-lots.ensures in
     let some : 0 < budget l c.args.worker = omega (arith, own, all, c.if-lot-eq0.false) in
     record {
-      commit = first_commit j.inst.now.tables j.a0.now.items l j.book.entries.items c.args.worker c.args.plan.now
+      commit = first_commit (opening j.inst.now.tables j.a0.now.items l) j.book.entries.items c.args.worker
+          c.args.plan.now
           c.requires exists some (omega (arith, c.if-made_by-gt0.false, c.made_by.ensures));
     }

@@ -1,3 +1,4 @@
+use Rattle.ra_worker.proofs.OpeningLemmas.{opened_is}
 use Rattle.test_workers.proofs.TurnLemmas.{are_at_journal}
 use Rattle.test_workers.proofs.commits.turns.entries_of_both.Goals as goal
 
@@ -5,6 +6,6 @@ pub round_robin-requires : goal.round_robin-requires
 round_robin-requires g c =
     let made = rw c.expect-journal.ensures at c.make-2.ensures in
     record {
-      at = are_at_journal _ _ _ c.expect-journal.result c.expect-replicas.result.items made.instance made.initial
-          made.lots (rw c.expect-replicas.ensures at c.make_replicas.ensures);
+      at = are_at_journal _ c.expect-journal.result c.expect-replicas.result.items
+          (opened_is _ _ _ _ _ made) (rw c.expect-replicas.ensures at c.make_replicas.ensures);
     }

@@ -10,7 +10,7 @@ use ra_topology::Topology;
 
 /// A start from which workers may begin: it breaks no constraint of its instance, and its cost has these parts.
 #[derive(Drop)]
-pub(crate) struct Opening<'a> {
+pub(crate) struct Beginning<'a> {
     pub(crate) inst: &'a Instance,
     pub(crate) topo: &'a Topology,
     pub(crate) initial: &'a Assignment,
