@@ -1,6 +1,6 @@
 -- The first machine with two processes of a service, and the first conflict.
-use Rattle.std.proofs.Common.{◌≡◌, ℕ, ◌+◌, ◌<◌, ◌≤◌, ◌≢◌, true, false, Bool, cond, eqb, ltb, List, length, get_or}
-use Rattle.std.proofs.Common.{Option, Some, None, option_map, sym, refl, ap, ◌∙◌, ⊎_elim, arith, eq-eqb, ne_eqb}
+use Rattle.std.proofs.Common.{inl, inr, ◌≡◌, ℕ, ◌+◌, ◌<◌, ◌≤◌, ◌≢◌, true, false, Bool, cond, eqb, ltb, List, length}
+use Rattle.std.proofs.Common.{get_or, Option, Some, None, option_map, sym, refl, ap, ◌∙◌, ⊎_elim, arith, eq-eqb, ne_eqb}
 use Rattle.std.proofs.lemmas.Bool.{cases_lt, cases_eq, cond-true, cond-false, lt-ltb, le-ltb, ltb-true, ltb-false}
 use Rattle.ra_base.specs.Sums.{count}
 use Rattle.ra_base.specs.Searches.{first}
@@ -31,10 +31,11 @@ crowd_no e n m few = cond-false (ltb 1 (count n (λ k. eqb (e k) m))) (Some (rec
     (le-ltb 1 (count n (λ k. eqb (e k) m)) few)
 
 crowd_means : (e : ℕ → ℕ) (n m : ℕ) (p : Machine) → crowd_test e n m ≡ Some p → p ≡ record { 0 = m }
-crowd_means e n m p is = ⊎_elim
-    (λ (many : 1 < count n (λ k. eqb (e k) m)). let found = crowd_yes e n m many in cc)
-    (λ (few : count n (λ k. eqb (e k) m) ≤ 1). let none = crowd_no e n m few in cc)
-    (cases_lt 1 (count n (λ k. eqb (e k) m)))
+crowd_means e n m p is = elim (cases_lt 1 (count n (λ k. eqb (e k) m))) [
+  | inl many ↦ let found =
+      crowd_yes e n m many in cc
+  | inr few ↦ let none = crowd_no e n m few in cc
+]
 
 crowd_same : (e : ℕ → ℕ) (n m : ℕ) → m ≢ e n → crowd_test e (n + 1) m ≡ crowd_test e n m
 unfolding crowd_test
@@ -51,7 +52,7 @@ first_again n f g m None within here same means none =
     (first_none_from m.0 g (λ x h. same x (omega arith) ∙ first_none_at x n f (omega arith) none)) here)
 first_again n f g m (Some p) within here same means found =
     let at = first_some_at n f p found in
-    let is : p.0 ≡ at.0 = ap (λ (q : Machine). q.0) (means at.0 p at.2) in
+    let is : p.0 ≡ at.0 = cc (means at.0 p at.2) in
     let nones = λ (x : ℕ) (before : x < at.0). first_none_at x at.0 f before at.3 in
     ⊎_elim
     (λ (earlier : m.0 < p.0). cond-true (ltb m.0 p.0) (Some m) (Some p) (lt-ltb m.0 p.0 earlier)
@@ -73,18 +74,18 @@ pub crowd_none : (size : ℕ) (e : ℕ → ℕ) → first size (crowd_test e 0) 
 crowd_none size e =
     first_none_from size (crowd_test e 0) (λ m h. crowd_no e 0 m (omega (arith, count_none (λ k. eqb (e k) m))))
 
-more_by : (size n : ℕ) (e : ℕ → ℕ) (m : Machine) (again : Bool) → m.0 ≡ e n → m.0 < size →
+more_by : {again : Bool} (size n : ℕ) (e : ℕ → ℕ) (m : Machine) → m.0 ≡ e n → m.0 < size →
     again ≡ ltb 0 (count n (λ k. eqb (e k) m.0)) → least_with (first size (crowd_test e n)) again m ≡
     first size (crowd_test e (n + 1))
 unfolding least_with
-more_by size n e m true is within before =
+more_by {again = true} size n e m is within before =
     let many : 0 < count n (λ k. eqb (e k) m.0) = ltb-true 0 (count n (λ k. eqb (e k) m.0)) (sym before) in
     first_again size (crowd_test e n) (crowd_test e (n + 1)) m (first size (crowd_test e n)) within
     (crowd_yes e (n + 1) m.0 (omega (arith, many, count_yes n (λ k. eqb (e k) m.0) (eq-eqb (e n) m.0 (sym is)))))
     (λ x apart. crowd_same e n x (λ s. apart (s ∙ sym is)))
     (crowd_means e n)
     refl
-more_by size n e m false is within before =
+more_by {again = false} size n e m is within before =
     let none : count n (λ k. eqb (e k) m.0) ≤ 0 = ltb-false 0 (count n (λ k. eqb (e k) m.0)) (sym before) in
     first_same size (crowd_test e n) (crowd_test e (n + 1)) (λ x h. ⊎_elim
     (λ (here : x ≡ m.0).
@@ -99,8 +100,7 @@ pub crowd_more : (marks : List ℕ) (size stamp n : ℕ) (e : ℕ → ℕ) (m : 
     AreStamped marks size stamp n e → m.0 ≡ e n → m.0 < size → again ≡ eqb (get_or marks m.0 0) stamp →
     least ≡ first size (crowd_test e n) → least_with least again m ≡ first size (crowd_test e (n + 1))
 crowd_more marks size stamp n e m again least stamped is within before so_far =
-    ap (λ o. least_with o again m) so_far
-    ∙ more_by size n e m again is within (before ∙ stamped.exactly m.0 within ∙ sym (is_named_count n e m.0))
+    cc (more_by size n e m is within (before ∙ stamped.exactly m.0 within ∙ sym (is_named_count n e m.0)))
 
 pub ruleset crowds = (crowd_none, crowd_more, stamped_none, stamped_more, below_grows, below_set)
 
@@ -110,24 +110,17 @@ unfolding cause_if
 mapped true s m = refl
 mapped false s m = refl
 
-test_is : (i : Tables) (a : List Machine) (s : ℕ) (processes : List Process) (m : ℕ) → AreProcessesOf i s processes →
-    conflict_test i a s m ≡ option_map (λ n. Conflict (record { 0 = s }) n)
-    (crowd_test (seat_of a processes) (length processes) m)
-unfolding conflict_test on_machine crowd_test seat_of
-test_is i a s processes m h =
-    ap (λ v. cause_if (ltb 1 v) (Conflict (record { 0 = s }) (record { 0 = m })))
-    (members_at_is i a s processes (λ p at. eqb at m) h)
-    ∙ mapped (ltb 1 (count (length processes) (λ k. eqb (machine_at a (member_at processes k)) m))) s m
-
 -- the conflict of a service is its first machine with two of its processes
-conflict_is : (i : Tables) (a : List Machine) (s : ℕ) (processes : List Process) → AreProcessesOf i s processes →
+conflict_is : {i : Tables} {s : ℕ} {processes : List Process} (a : List Machine) → AreProcessesOf i s processes →
     service_conflict i a s ≡ option_map (λ m. Conflict (record { 0 = s }) m)
     (first (machine_count i) (crowd_test (seat_of a processes) (length processes)))
-unfolding service_conflict
-conflict_is i a s processes h =
+unfolding service_conflict conflict_test on_machine crowd_test seat_of
+conflict_is {i} {s} {processes} a h =
     first_same (machine_count i) (conflict_test i a s)
     (λ m. option_map (λ n. Conflict (record { 0 = s }) n) (crowd_test (seat_of a processes) (length processes) m))
-    (λ m within. test_is i a s processes m h)
+    (λ m within. ap (λ v. cause_if (ltb 1 v) (Conflict (record { 0 = s }) (record { 0 = m })))
+    (members_at_is i a s processes (λ p at. eqb at m) h)
+    ∙ mapped (ltb 1 (count (length processes) (λ k. eqb (machine_at a (member_at processes k)) m))) s m)
     ∙ first_map (machine_count i) (λ m. Conflict (record { 0 = s }) m)
     (crowd_test (seat_of a processes) (length processes))
 
@@ -136,19 +129,13 @@ pub conflict_some : (i : Tables) (a : List Machine) (s size : ℕ) (members : Li
     Some m ≡ first size (crowd_test (seat_of a (members_of members s)) (length (members_of members s))) →
     service_conflict i a s ≡ Some (Conflict (record { 0 = s }) m)
 conflict_some i a s size members m are within same found =
-    conflict_is i a s (members_of members s) (are.each s within)
-    ∙ ap (λ o. option_map (λ n. Conflict (record { 0 = s }) n) o)
-    (ap (λ n. first n (crowd_test (seat_of a (members_of members s)) (length (members_of members s)))) (sym same)
-    ∙ sym found)
+    cc (conflict_is a (are.each s within))
 
 pub conflict_none : (i : Tables) (a : List Machine) (s size : ℕ) (members : List (List Process)) →
     AreMembers members i → s < service_count i → size ≡ machine_count i →
     None ≡ first size (crowd_test (seat_of a (members_of members s)) (length (members_of members s))) →
     service_conflict i a s ≡ None
 conflict_none i a s size members are within same none =
-    conflict_is i a s (members_of members s) (are.each s within)
-    ∙ ap (λ o. option_map (λ n. Conflict (record { 0 = s }) n) o)
-    (ap (λ n. first n (crowd_test (seat_of a (members_of members s)) (length (members_of members s)))) (sym same)
-    ∙ sym none)
+    cc (conflict_is a (are.each s within))
 
 pub ruleset conflicts = (conflict_some, conflict_none, seated)

@@ -1,7 +1,7 @@
 -- Marks of the neighbourhoods of services, and the first broken dependency.
-use Rattle.std.proofs.Common.{◌≡◌, ℕ, zero, suc, ◌+◌, ◌<◌, ◌≢◌, true, false, Bool, not, cond, eqb, ltb, ◌||◌, List}
-use Rattle.std.proofs.Common.{length, get_or, set, Some, None, option_map, sym, refl, ap, ◌∙◌, ⊎_elim, add-one, arith}
-use Rattle.std.proofs.Common.{length-set, get_or-set_other, get_or-set_same, eq-eqb, ne_eqb}
+use Rattle.std.proofs.Common.{inl, inr, ◌≡◌, ℕ, zero, suc, ◌+◌, ◌<◌, ◌≢◌, true, false, Bool, not, cond, eqb, ltb, ◌||◌}
+use Rattle.std.proofs.Common.{List, Option, length, get_or, set, Some, None, option_map, sym, refl, ap, ◌∙◌, ⊎_elim}
+use Rattle.std.proofs.Common.{add-one, arith, length-set, get_or-set_other, get_or-set_same, eq-eqb, ne_eqb}
 use Rattle.std.proofs.lemmas.Bool.{cases_eq, cases_Bool, cond-true, cond-false, or_right, lt-ltb, both_ways}
 use Rattle.ra_base.specs.Sums.{is_named}
 use Rattle.ra_base.specs.Searches.{first}
@@ -25,8 +25,7 @@ use Rattle.ra_model.specs.Places.{AreFirst, ArePlaces}
 use Rattle.ra_model.proofs.MemberLemmas.{members_at_is, members_first}
 use Rattle.ra_model.proofs.PlaceLemmas.{place_test}
 use Rattle.ra_check.specs.Stamps.{seat_of, site_of, holds_site, AreSeated, ArePlacesBelow, AreMarksBelow, AreSet}
-use Rattle.ra_check.specs.Stamps.{TellTrue}
-use Rattle.ra_check.specs.Stamps.{far_seat}
+use Rattle.ra_check.specs.Stamps.{TellTrue, far_seat}
 use Rattle.ra_check.proofs.StampLemmas.{seated, placed, site_within}
 use Rattle.ra_check.proofs.SpreadLemmas.{named_like}
 
@@ -36,9 +35,6 @@ set_none marks stamp e = record {
   one_each = refl;
   each = λ x within. sym (cond-false (is_named 0 e x) stamp (get_or marks x 0) (is_named_none e x));
 }
-
-named_here : (n : ℕ) (e : ℕ → ℕ) (x : ℕ) → e n ≡ x → is_named (n + 1) e x ≡ true
-named_here n e x here = is_named_more n e x ∙ or_right (is_named n e x) (eqb (e n) x) (eq-eqb (e n) x here)
 
 named_other : (n : ℕ) (e : ℕ → ℕ) (x : ℕ) → e n ≢ x → is_named (n + 1) e x ≡ is_named n e x
 named_other n e x apart = is_named_more n e x ∙ or_no (is_named n e x) (eqb (e n) x) (ne_eqb (e n) x apart)
@@ -54,7 +50,8 @@ set_more old marks stamp n x e h within is = record {
   each = λ y inside. ⊎_elim
       (λ (here : y ≡ x). ap (λ k. get_or (set marks x stamp) k 0) here
       ∙ get_or-set_same marks x stamp 0 (omega (arith, h.one_each))
-      ∙ sym (cond-true (is_named (n + 1) e y) stamp (get_or old y 0) (named_here n e y (sym (here ∙ is)))))
+      ∙ sym (cond-true (is_named (n + 1) e y) stamp (get_or old y 0) (is_named_more n e y
+      ∙ or_right (is_named n e y) (eqb (e n) y) (eq-eqb (e n) y (sym (here ∙ is))))))
       (λ (apart : y ≢ x). get_or-set_other marks x y stamp 0 apart ∙ h.each y inside
       ∙ ap (λ t. cond t stamp (get_or old y 0)) (sym (named_other n e y (λ s. apart (sym s ∙ sym is)))))
       (cases_eq y x);
@@ -77,38 +74,37 @@ pub true_set : (members : List (List Process)) (places a : List Machine) (size l
     AreSet old new stamp (holds_site places a (members_of members u)) → TellTrue members places a size new stamp
 true_set members places a size last old new u stamp h is_stamp h_set = record {
   one_each = h_set.one_each ∙ h.one_each;
-  sound = λ x w within is. ⊎_elim
-      (λ (here : holds_site places a (members_of members u) x ≡ true).
-      let value : get_or new x 0 ≡ stamp = h_set.each x (omega (arith, h.one_each))
-      ∙ cond-true (holds_site places a (members_of members u) x) stamp (get_or old x 0) here in
-      let same : u ≡ w = omega arith in
-      ap (λ v. holds_site places a (members_of members v) x) (sym same) ∙ here)
-      (λ (none : holds_site places a (members_of members u) x ≡ false).
-      let value : get_or new x 0 ≡ get_or old x 0 = h_set.each x (omega (arith, h.one_each))
-      ∙ cond-false (holds_site places a (members_of members u) x) stamp (get_or old x 0) none in
-      h.sound x w within (sym value ∙ is))
-      (cases_Bool (holds_site places a (members_of members u) x));
+  sound = λ x w within is. elim (cases_Bool (holds_site places a (members_of members u) x)) [
+    | inl here ↦
+        let value : get_or new x 0 ≡ stamp = h_set.each x (omega (arith, h.one_each))
+        ∙ cond-true (holds_site places a (members_of members u) x) stamp (get_or old x 0) here in
+        let same : u ≡ w = omega arith in
+        cc
+    | inr none ↦ let value : get_or new x 0 ≡ get_or old x 0 = h_set.each x (omega (arith, h.one_each))
+        ∙ cond-false (holds_site places a (members_of members u) x) stamp (get_or old x 0) none in
+        h.sound x w within (sym value ∙ is)
+  ];
   whole = λ x w within is held.
       let same : w ≡ u = omega arith in
       let here : holds_site places a (members_of members u) x ≡ true =
-      ap (λ v. holds_site places a (members_of members v) x) (sym same) ∙ held in
+      cc in
       h_set.each x (omega (arith, h.one_each)) ∙ cond-true (holds_site places a (members_of members u) x) stamp
       (get_or old x 0) here ∙ is;
 }
 
 -- the mark of the service that was stamped last is exactly at its places
-stamp_test : (members : List (List Process)) (places a : List Machine) (size last u x : ℕ) (marks : List ℕ) →
+stamp_test : {members : List (List Process)} {places a : List Machine} {size last : ℕ} {marks : List ℕ} (u x : ℕ) →
     TellTrue members places a size marks last → last ≡ u + 1 → x < size →
     eqb (get_or marks x 0) (u + 1) ≡ holds_site places a (members_of members u) x
-stamp_test members places a size last u x marks h is_last within = ⊎_elim
-    (λ (here : holds_site places a (members_of members u) x ≡ true).
-    eq-eqb (get_or marks x 0) (u + 1) (h.whole x u within (is_last ∙ add-one u) here ∙ sym (add-one u))
-    ∙ sym here)
-    (λ (none : holds_site places a (members_of members u) x ≡ false).
-    ne_eqb (get_or marks x 0) (u + 1)
-    (λ same. both_ways (holds_site places a (members_of members u) x) none
-    (h.sound x u within (same ∙ add-one u))) ∙ sym none)
-    (cases_Bool (holds_site places a (members_of members u) x))
+stamp_test {members} {places} {a} {marks} u x h is_last within =
+    elim (cases_Bool (holds_site places a (members_of members u) x)) [
+      | inl here ↦
+          eq-eqb (get_or marks x 0) (u + 1) (h.whole x u within (is_last ∙ add-one u) here ∙ sym (add-one u))
+          ∙ sym here
+      | inr none ↦ ne_eqb (get_or marks x 0) (u + 1)
+          (λ same. both_ways (holds_site places a (members_of members u) x) none
+          (h.sound x u within (same ∙ add-one u))) ∙ sym none
+    ]
 
 -- the machine of a process that is found far, and none if all are near
 pub far_yes : (marks : List ℕ) (stamp : ℕ) (places a : List Machine) (processes : List Process) (k : ℕ) (m : Machine)
@@ -117,7 +113,7 @@ pub far_yes : (marks : List ℕ) (stamp : ℕ) (places a : List Machine) (proces
 unfolding far_seat
 far_yes marks stamp places a processes k m place is_place is_seat apart =
     cond-false (eqb (get_or marks (site_of places a processes k) 0) stamp) None
-    (Some (record { 0 = seat_of a processes k })) (ap (λ x. eqb (get_or marks x 0) stamp) (sym is_place) ∙ apart)
+    (Some (record { 0 = seat_of a processes k })) (cc)
     ∙ ap (λ n. Some (record { 0 = n })) (sym is_seat)
 
 pub far_no : (marks : List ℕ) (stamp : ℕ) (places a : List Machine) (processes : List Process) (k place : ℕ) →
@@ -126,7 +122,7 @@ pub far_no : (marks : List ℕ) (stamp : ℕ) (places a : List Machine) (process
 unfolding far_seat
 far_no marks stamp places a processes k place is_place same =
     cond-true (eqb (get_or marks (site_of places a processes k) 0) stamp) None
-    (Some (record { 0 = seat_of a processes k })) (ap (λ x. eqb (get_or marks x 0) stamp) (sym is_place) ∙ same)
+    (Some (record { 0 = seat_of a processes k })) (cc)
 
 far_means : (marks : List ℕ) (stamp : ℕ) (places a : List Machine) (processes : List Process) (k : ℕ) (m : Machine) →
     far_seat marks stamp places a processes k ≡ Some m → m.0 ≡ seat_of a processes k
@@ -136,31 +132,32 @@ far_means marks stamp places a processes k m found =
   where
     chosen : (t : Bool) (n m : Machine) → cond t None (Some n) ≡ Some m → m.0 ≡ n.0
     chosen true n m found = cc
-    chosen false n m found = let same : n ≡ m = cc in ap (λ (k : Machine). k.0) (sym same)
+    chosen false n m found = let same : n ≡ m = cc in cc
 
 pub ruleset far_seats = (far_yes, far_no, site_within)
 
 -- a needed service has a process near exactly if its mark is there
-near_named : (i : Tables) (a : List Machine) (u label : ℕ) (processes : List Process) → AreProcessesOf i u processes →
+near_named : {i : Tables} {u : ℕ} {processes : List Process} (a : List Machine) (label : ℕ) →
+    AreProcessesOf i u processes →
     ltb 0 (in_neighbourhood i a u label) ≡ is_named (length processes) (λ k. neighbourhood_of i (seat_of a processes k))
     label
 unfolding in_neighbourhood seat_of
-near_named i a u label processes h =
+near_named {i} {u} {processes} a label h =
     ap (λ n. ltb 0 n) (members_at_is i a u processes (λ p at. eqb (neighbourhood_of i at) label) h)
     ∙ is_named_count (length processes) (λ k. neighbourhood_of i (machine_at a (member_at processes k))) label
 
-site_near : (i : Tables) (a places : List Machine) (u size j : ℕ) (processes own : List Process) →
+site_near : {i : Tables} {a places : List Machine} {u size : ℕ} {processes own : List Process} (j : ℕ) →
     AreProcessesOf i u processes → AreSeated a processes size → AreSeated a own size →
     AreFirst (neighbourhood_of i) size places → j < length own →
     holds_site places a processes (site_of places a own j) ≡
     ltb 0 (in_neighbourhood i a u (neighbourhood_of i (seat_of a own j)))
 unfolding holds_site site_of
-site_near i a places u size j processes own h seats own_seats first within =
+site_near {i} {a} {places} {size} {processes} {own} j h seats own_seats first within =
     named_like (length processes) (site_of places a processes) (λ k. neighbourhood_of i (seat_of a processes k))
     (site_of places a own j) (neighbourhood_of i (seat_of a own j))
     (λ k below. place_test (neighbourhood_of i) size (seat_of a processes k) (seat_of a own j) places first
     (seats.within k below) (own_seats.within j within))
-    ∙ sym (near_named i a u (neighbourhood_of i (seat_of a own j)) processes h)
+    ∙ sym (near_named a (neighbourhood_of i (seat_of a own j)) h)
 
 zero_test : (n : ℕ) → eqb n 0 ≡ not (ltb 0 n)
 zero_test zero = refl
@@ -176,86 +173,71 @@ unfolding cause_if
 far_mapped i s u m true = refl
 far_mapped i s u m false = refl
 
-far_is : (i : Tables) (a : List Machine) (places : PlaceLists) (members : List (List Process)) (marks : List ℕ)
-    (size last s k j : ℕ) → IsAssignment i a → AreMembers members i → ArePlaces places i → s < service_count i →
+far_is : {i : Tables} {a : List Machine} {places : PlaceLists} {members : List
+    (List Process)} {marks : List ℕ} {size last : ℕ} (s k j : ℕ) → IsAssignment i a → AreMembers members i →
+    ArePlaces places i → s < service_count i →
     need_of i s k < service_count i → size ≡ machine_count i →
     TellTrue members places.neighbourhoods a size marks last → last ≡ need_of i s k + 1 →
     j < length (members_of members s) → far_test i a s k (member_at (members_of members s) j) ≡
     option_map (cause_at i s (need_of i s k))
     (far_seat marks (need_of i s k + 1) places.neighbourhoods a (members_of members s) j)
 unfolding far_test near_of far_seat cause_at seat_of
-far_is i a places members marks size last s k j assigned are placed_all within need_in same truth is_last below =
+far_is {i} {a} {places} {members} {marks} {size} s k j assigned are placed_all within need_in same truth is_last
+    below =
     let u = need_of i s k in
     let own = members_of members s in
     let m : Machine = record { 0 = seat_of a own j } in
     let own_seats = seated i a members s size assigned are within same in
-    let seats = seated i a members u size assigned are need_in same in
     let firsts : AreFirst (neighbourhood_of i) size places.neighbourhoods = rw same placed_all.neighbourhoods in
-    let inside : site_of places.neighbourhoods a own j < size = site_within places.neighbourhoods a own size j own_seats
-    (placed (neighbourhood_of i) size places.neighbourhoods firsts) below in
     let test : eqb (get_or marks (site_of places.neighbourhoods a own j) 0) (u + 1) ≡
     ltb 0 (in_neighbourhood i a u (neighbourhood_of i (seat_of a own j))) =
-    stamp_test members places.neighbourhoods a size last u (site_of places.neighbourhoods a own j) marks truth is_last
-    inside
-    ∙ site_near i a places.neighbourhoods u size j (members_of members u) own (are.each u need_in) seats own_seats
+    stamp_test u (site_of places.neighbourhoods a own j) truth is_last
+    (site_within places.neighbourhoods a own size j own_seats
+    (placed (neighbourhood_of i) size places.neighbourhoods firsts) below)
+    ∙ site_near j (are.each u need_in) (seated i a members u size assigned are need_in same) own_seats
     firsts below in
-    ap (λ t. cause_if t (cause_at i s u m)) (zero_test (in_neighbourhood i a u (neighbourhood_of i (seat_of a own j)))
-    ∙ ap not (sym test))
-    ∙ far_mapped i s u m (eqb (get_or marks (site_of places.neighbourhoods a own j) 0) (u + 1))
+    cc (
+      zero_test (in_neighbourhood i a u (neighbourhood_of i (seat_of a own j))),
+      far_mapped i s u m (eqb
+          (get_or marks (site_of places.neighbourhoods a own j) 0) (u + 1)),
+    )
 
-pair_is : (i : Tables) (a : List Machine) (places : PlaceLists) (members : List (List Process)) (marks : List ℕ)
-    (size last s k : ℕ) → IsAssignment i a → AreMembers members i → ArePlaces places i → s < service_count i →
+pair_is : {i : Tables} {a : List Machine} {places : PlaceLists} {members : List
+    (List Process)} {marks : List ℕ} {size last : ℕ} (s k : ℕ) → IsAssignment i a → AreMembers members i →
+    ArePlaces places i → s < service_count i →
     need_of i s k < service_count i → size ≡ machine_count i →
     TellTrue members places.neighbourhoods a size marks last → last ≡ need_of i s k + 1 →
     pair_dependency i a s k ≡ option_map (cause_at i s (need_of i s k))
     (first (length (members_of members s))
     (far_seat marks (need_of i s k + 1) places.neighbourhoods a (members_of members s)))
 unfolding pair_dependency dependency_test
-pair_is i a places members marks size last s k assigned are placed_all within need_in same truth is_last =
+pair_is {i} {a} {places} {members} {marks} s k assigned are placed_all within need_in same truth is_last =
     let own = members_of members s in
     let far = far_seat marks (need_of i s k + 1) places.neighbourhoods a own in
     sym (members_first i s own (far_test i a s k) (are.each s within))
     ∙ first_same (length own) (λ j. far_test i a s k (member_at own j))
     (λ j. option_map (cause_at i s (need_of i s k)) (far j))
-    (λ j below. far_is i a places members marks size last s k j assigned are placed_all within need_in same truth
+    (λ j below. far_is s k j assigned are placed_all within need_in same truth
     is_last below)
     ∙ first_map (length own) (cause_at i s (need_of i s k)) far
 
 -- what the search over the processes of a service found, or that it found none
-pub pair_some : (i : Tables) (a : List Machine) (places : PlaceLists) (members : List (List Process)) (marks : List ℕ)
-    (size last s k label : ℕ) (needs : Service) (m : Machine) → IsAssignment i a → AreMembers members i →
+pub pair_found : {i : Tables} {a : List Machine} {places : PlaceLists} {members : List (List Process)} {marks : List ℕ}
+    {size last : ℕ} {found : Option Machine} (s k : ℕ) (needs : Service) → IsAssignment i a → AreMembers members i →
     ArePlaces places i → s < service_count i → needs.0 ≡ need_of i s k → need_of i s k < service_count i →
     size ≡ machine_count i → TellTrue members places.neighbourhoods a size marks last → last ≡ needs.0 + 1 →
-    label ≡ neighbourhood_of i m.0 →
-    Some m ≡ first (length (members_of members s))
+    found ≡ first (length (members_of members s))
     (far_seat marks (needs.0 + 1) places.neighbourhoods a (members_of members s)) →
-    pair_dependency i a s k ≡ Some (Dependency (record { 0 = s }) needs label)
+    pair_dependency i a s k ≡ option_map (λ (m : Machine). Dependency (record { 0 = s }) needs (neighbourhood_of i m.0))
+    found
 unfolding cause_at
-pair_some i a places members marks size last s k label needs m assigned are placed_all within is need_in same truth
-    is_last is_label found =
-    pair_is i a places members marks size last s k assigned are placed_all within need_in same truth
-    (is_last ∙ ap (λ u. u + 1) is)
+pair_found {i} {a} {places} {members} {marks} s k needs assigned are placed_all within is need_in same truth is_last
+    found =
+    pair_is s k assigned are placed_all within need_in same truth (cc)
     ∙ ap (λ u. option_map (λ (n : Machine). Dependency (record { 0 = s }) (record { 0 = u }) (neighbourhood_of i n.0))
     (first (length (members_of members s))
     (far_seat marks (u + 1) places.neighbourhoods a (members_of members s)))) (sym is)
     ∙ ap (λ o. option_map (λ (n : Machine). Dependency (record { 0 = s }) needs (neighbourhood_of i n.0)) o) (sym found)
-    ∙ ap (λ l. Some (Dependency (record { 0 = s }) needs l)) (sym is_label)
-
-pub pair_none : (i : Tables) (a : List Machine) (places : PlaceLists) (members : List (List Process)) (marks : List ℕ)
-    (size last s k : ℕ) (needs : Service) → IsAssignment i a → AreMembers members i → ArePlaces places i →
-    s < service_count i → needs.0 ≡ need_of i s k → need_of i s k < service_count i → size ≡ machine_count i →
-    TellTrue members places.neighbourhoods a size marks last → last ≡ needs.0 + 1 →
-    None ≡ first (length (members_of members s))
-    (far_seat marks (needs.0 + 1) places.neighbourhoods a (members_of members s)) → pair_dependency i a s k ≡ None
-unfolding cause_at
-pair_none i a places members marks size last s k needs assigned are placed_all within is need_in same truth is_last
-    none =
-    pair_is i a places members marks size last s k assigned are placed_all within need_in same truth
-    (is_last ∙ ap (λ u. u + 1) is)
-    ∙ ap (λ u. option_map (λ (n : Machine). Dependency (record { 0 = s }) (record { 0 = u }) (neighbourhood_of i n.0))
-    (first (length (members_of members s))
-    (far_seat marks (u + 1) places.neighbourhoods a (members_of members s)))) (sym is)
-    ∙ ap (λ o. option_map (λ (n : Machine). Dependency (record { 0 = s }) needs (neighbourhood_of i n.0)) o) (sym none)
 
 -- a needed service is one of the instance
 pub need_within : (i : Tables) (s k : ℕ) → WellFormed i → s < service_count i → k < dependency_count i s →

@@ -7,8 +7,8 @@ use Rattle.ra_base.specs.declared.ids.Machine.{Machine}
 use Rattle.ra_base.specs.declared.ids.Process.{Process}
 use Rattle.ra_base.specs.declared.causes.Cause.TheVariants.{Spread}
 use Rattle.ra_base.proofs.Sums.{total_same}
-use Rattle.ra_base.proofs.Counts.{count_le, count_zero}
-use Rattle.ra_base.proofs.Named.{is_named_none, is_named_count, count_named, count_named_more}
+use Rattle.ra_base.proofs.Counts.{count_le}
+use Rattle.ra_base.proofs.Named.{is_named_none, is_named_count, count_named, count_named_more, count_named_none}
 use Rattle.ra_model.specs.declared.raw.Tables.{Tables}
 use Rattle.ra_model.specs.Limits.{WellFormed, Small}
 use Rattle.ra_model.specs.Numbers.{machine_count, service_count, process_count, location_of, spread_of}
@@ -42,37 +42,34 @@ count_like size many n e f e_in f_in alike =
     ∙ sym (count_named many n f f_in)
 
 -- the first place, and one more
-pub sites_none : (size : ℕ) (e : ℕ → ℕ) → count size (is_named 0 e) ≡ 0
-sites_none size e = count_zero size (is_named 0 e) (λ x h. is_named_none e x)
-
 pub sites_new : (marks : List ℕ) (size stamp n x : ℕ) (e : ℕ → ℕ) → AreStamped marks size stamp n e → x < size →
     x ≡ e n → eqb (get_or marks x 0) stamp ≡ false → count size (is_named (n + 1) e) ≡ count size (is_named n e) + 1
 sites_new marks size stamp n x e stamped within is new =
-    let not_yet : is_named n e (e n) ≡ false = ap (is_named n e) (sym is) ∙ sym (stamped.exactly x within) ∙ new in
+    let not_yet : is_named n e (e n) ≡ false = cc (stamped.exactly x within) in
     count_named_more size n e (omega arith) ∙ ap (λ t. count size (is_named n e) + one_if (not t)) not_yet
 
 pub sites_old : (marks : List ℕ) (size stamp n x : ℕ) (e : ℕ → ℕ) → AreStamped marks size stamp n e → x < size →
     x ≡ e n → eqb (get_or marks x 0) stamp ≡ true → count size (is_named (n + 1) e) ≡ count size (is_named n e)
 sites_old marks size stamp n x e stamped within is old =
-    let already : is_named n e (e n) ≡ true = ap (is_named n e) (sym is) ∙ sym (stamped.exactly x within) ∙ old in
+    let already : is_named n e (e n) ≡ true = cc (stamped.exactly x within) in
     omega (arith, count_named_more size n e (omega arith), ap (λ t. one_if (not t)) already)
 
-pub ruleset spreading = (sites_none, sites_new, sites_old, stamped_none, stamped_more, below_grows, below_set)
+pub ruleset spreading = (count_named_none, sites_new, sites_old, stamped_none, stamped_more, below_grows, below_set)
 
 -- the processes of a service are in as many locations as their places are different
-named_in_location : (i : Tables) (a : List Machine) (s label : ℕ) (processes : List Process) →
+named_in_location : {i : Tables} {s : ℕ} {processes : List Process} (a : List Machine) (label : ℕ) →
     AreProcessesOf i s processes → ltb 0 (in_location i a s label) ≡ is_named (length processes)
     (λ k. location_of i (seat_of a processes k)) label
 unfolding in_location seat_of
-named_in_location i a s label processes h =
+named_in_location {i} {s} {processes} a label h =
     ap (λ n. ltb 0 n) (members_at_is i a s processes (λ p at. eqb (location_of i at) label) h)
     ∙ is_named_count (length processes) (λ k. location_of i (machine_at a (member_at processes k))) label
 
-locations_are : (i : Tables) (a : List Machine) (s size : ℕ) (processes : List Process) (places : List Machine) →
+locations_are : {i : Tables} {a : List Machine} {s size : ℕ} {processes : List Process} {places : List Machine} →
     Small i → AreProcessesOf i s processes → AreSeated a processes size → AreFirst (location_of i) size places →
     count size (holds_site places a processes) ≡ locations_of i a s
 unfolding locations_of holds_site site_of
-locations_are i a s size processes places small h seated first =
+locations_are {i} {a} {s} {size} {processes} {places} small h seated first =
     count_like size (2 ^ 32) (length processes) (site_of places a processes)
     (λ k. location_of i (seat_of a processes k))
     (λ k within. (placed (location_of i) size places first).within (seat_of a processes k) (seated.within k within))
@@ -81,7 +78,7 @@ locations_are i a s size processes places small h seated first =
     (seated.within j j_in) (seated.within k k_in))
     ∙ total_same (2 ^ 32) (λ x. one_if (is_named (length processes) (λ k. location_of i (seat_of a processes k)) x))
     (λ x. one_if (ltb 0 (in_location i a s x)))
-    (λ x within. ap one_if (sym (named_in_location i a s x processes h)))
+    (λ x within. ap one_if (sym (named_in_location a x h)))
 
 -- a service has no more processes than there are
 pub few_members : (i : Tables) (members : List (List Process)) (s : ℕ) → WellFormed i → AreMembers members i →
@@ -99,24 +96,18 @@ counted : (i : Tables) (a : List Machine) (s size has : ℕ) (members : List (Li
     size ≡ machine_count i → has ≡ count size (holds_site places.locations a (members_of members s)) →
     has ≡ locations_of i a s
 counted i a s size has members places small assigned are placed within same is =
-    is ∙ ap (λ n. count n (holds_site places.locations a (members_of members s))) same
-    ∙ locations_are i a s (machine_count i) (members_of members s) places.locations small (are.each s within)
-    (seated i a members s (machine_count i) assigned are within refl) placed.locations
-
-test_at : (i : Tables) (a : List Machine) (s has wants : ℕ) → has ≡ locations_of i a s → wants ≡ spread_of i s →
-    spread_test i a s ≡ cause_if (ltb has wants) (Spread (record { 0 = s }) has wants)
-unfolding spread_test
-test_at i a s has wants is wanted =
-    ap₂ (λ h w. cause_if (ltb h w) (Spread (record { 0 = s }) h w)) (sym is) (sym wanted)
+    cc (locations_are small (are.each s within) (seated i a members s
+    (machine_count i) assigned are within refl) placed.locations)
 
 pub spread_some : (i : Tables) (a : List Machine) (s size has wants : ℕ) (members : List (List Process))
     (places : PlaceLists) → Small i → IsAssignment i a → AreMembers members i → ArePlaces places i →
     s < service_count i → size ≡ machine_count i →
     has ≡ count size (holds_site places.locations a (members_of members s)) → wants ≡ spread_of i s → has < wants →
     spread_test i a s ≡ Some (Spread (record { 0 = s }) has wants)
-unfolding cause_if
+unfolding cause_if spread_test
 spread_some i a s size has wants members places small assigned are placed within same is wanted fewer =
-    test_at i a s has wants (counted i a s size has members places small assigned are placed within same is) wanted
+    (ap₂ (λ h w. cause_if (ltb h w) (Spread (record { 0 = s }) h w)) (sym
+    (counted i a s size has members places small assigned are placed within same is)) (sym wanted))
     ∙ cond-true (ltb has wants) (Some (Spread (record { 0 = s }) has wants)) None (lt-ltb has wants fewer)
 
 pub spread_none : (i : Tables) (a : List Machine) (s size has wants : ℕ) (members : List (List Process))
@@ -124,9 +115,10 @@ pub spread_none : (i : Tables) (a : List Machine) (s size has wants : ℕ) (memb
     s < service_count i → size ≡ machine_count i →
     has ≡ count size (holds_site places.locations a (members_of members s)) → wants ≡ spread_of i s → wants ≤ has →
     spread_test i a s ≡ None
-unfolding cause_if
+unfolding cause_if spread_test
 spread_none i a s size has wants members places small assigned are placed within same is wanted enough =
-    test_at i a s has wants (counted i a s size has members places small assigned are placed within same is) wanted
+    (ap₂ (λ h w. cause_if (ltb h w) (Spread (record { 0 = s }) h w)) (sym
+    (counted i a s size has members places small assigned are placed within same is)) (sym wanted))
     ∙ cond-false (ltb has wants) (Some (Spread (record { 0 = s }) has wants)) None (le-ltb has wants enough)
 
 -- the places of an instance are below its number of machines

@@ -1,5 +1,5 @@
 -- Laws of tables of sums by machine and resource.
-use Rattle.std.proofs.Common.{◌≡◌, ◌≢◌, ℕ, ◌+◌, ◌*◌, ◌^◌, ◌<◌, ◌≤◌, ◌⊎◌, inl, inr, ⊎_elim, List, length, replicate}
+use Rattle.std.proofs.Common.{◌≡◌, ◌≢◌, ℕ, ◌+◌, ◌*◌, ◌^◌, ◌<◌, ◌≤◌, inl, inr, ⊎_elim, List, length, replicate}
 use Rattle.std.proofs.Common.{get_or, set, refl, sym, ◌∙◌, arith, le_refl, eq-eqb, ne_eqb, eqb, ◌||◌, length-set}
 use Rattle.std.proofs.lemmas.Bool.{cases_eq, cases_lt, cond-true, cond-false, or_left, or_right, or_from, cond_both}
 use Rattle.std.proofs.lemmas.List.{get_or-replicate, get_or_past, length-replicate}
@@ -21,9 +21,6 @@ zeros_at n k =
     ⊎_elim (λ within. get_or-replicate n k 0 0 within)
     (λ past. get_or_past (replicate n 0) k 0 (omega (arith, length-replicate {A = ℕ} n 0))) (cases_lt k n)
 
-pub cell_of_zeros : (width n m r : ℕ) → cell width (replicate n 0) m r ≡ 0
-cell_of_zeros width n m r = cell_is width (replicate n 0) m r ∙ zeros_at n (m * width + r)
-
 -- shares
 
 pub use_share_here : (i : Tables) (m r p at : ℕ) → at ≡ m → use_share i m r p at ≡ requirement_of i p r
@@ -38,46 +35,46 @@ use_share_elsewhere i m r p at e = cond-false _ _ _ (ne_eqb at m e)
 pub transient_share_stays : (i : Tables) (a0 : List Machine) (m r p at : ℕ) → machine_at a0 p ≡ at →
     transient_share i a0 m r p at ≡ use_share i m r p (machine_at a0 p)
 unfolding transient_share
-transient_share_stays i a0 m r p at e = ⊎_elim
-    (λ (here : machine_at a0 p ≡ m). cond-true _ _ _ (or_left _ _ (eq-eqb (machine_at a0 p) m here))
-    ∙ sym (use_share_here i m r p (machine_at a0 p) here))
-    (λ (apart : machine_at a0 p ≢ m).
-    cond-false _ _ _ (or_from _ _ (ne_eqb (machine_at a0 p) m apart) (ne_eqb at m (λ d. apart (e ∙ d))))
-    ∙ sym (use_share_elsewhere i m r p (machine_at a0 p) apart))
-    (cases_eq (machine_at a0 p) m)
+transient_share_stays i a0 m r p at e = elim (cases_eq (machine_at a0 p) m) [
+  | inl here ↦
+      cond-true _ _ _ (or_left _ _ (eq-eqb (machine_at a0 p) m here))
+      ∙ sym (use_share_here i m r p (machine_at a0 p) here)
+  | inr apart ↦
+      cond-false _ _ _ (or_from _ _ (ne_eqb (machine_at a0 p) m apart) (ne_eqb at m (λ d. apart (e ∙ d))))
+      ∙ sym (use_share_elsewhere i m r p (machine_at a0 p) apart)
+]
 
 -- a process that has moved has a share on each of its two machines
 pub transient_share_moves : (i : Tables) (a0 : List Machine) (m r p at : ℕ) → machine_at a0 p ≢ at →
     transient_share i a0 m r p at ≡ use_share i m r p (machine_at a0 p) + use_share i m r p at
 unfolding transient_share
-transient_share_moves i a0 m r p at moves = ⊎_elim
-    (λ (here : machine_at a0 p ≡ m).
-    omega (
-      arith,
-      cond-true (eqb (machine_at a0 p) m || eqb at m) (requirement_of i p r) 0
-          (or_left (eqb (machine_at a0 p) m) (eqb at m) (eq-eqb (machine_at a0 p) m here)),
-      use_share_here i m r p (machine_at a0 p) here,
-      use_share_elsewhere i m r p at (λ d. moves (here ∙ sym d)),
-    ))
-    (λ (apart : machine_at a0 p ≢ m). ⊎_elim
-    (λ (there : at ≡ m).
-    omega (
-      arith,
-      cond-true (eqb (machine_at a0 p) m || eqb at m) (requirement_of i p r) 0
-          (or_right (eqb (machine_at a0 p) m) (eqb at m) (eq-eqb at m there)),
-      use_share_elsewhere i m r p (machine_at a0 p) apart,
-      use_share_here i m r p at there,
-    ))
-    (λ (gone : at ≢ m).
-    omega (
-      arith,
-      cond-false (eqb (machine_at a0 p) m || eqb at m) (requirement_of i p r) 0
-          (or_from (eqb (machine_at a0 p) m) (eqb at m) (ne_eqb (machine_at a0 p) m apart) (ne_eqb at m gone)),
-      use_share_elsewhere i m r p (machine_at a0 p) apart,
-      use_share_elsewhere i m r p at gone,
-    ))
-    (cases_eq at m))
-    (cases_eq (machine_at a0 p) m)
+transient_share_moves i a0 m r p at moves = elim (cases_eq (machine_at a0 p) m) [
+  | inl here ↦ omega (
+    arith,
+    cond-true (eqb (machine_at a0 p) m || eqb at m) (requirement_of i p r) 0
+        (or_left (eqb (machine_at a0 p) m) (eqb at m) (eq-eqb (machine_at a0 p) m here)),
+    use_share_here i m r p (machine_at a0 p) here,
+    use_share_elsewhere i m r p at (λ d. moves (here ∙ sym d)),
+  )
+  | inr apart ↦ ⊎_elim
+      (λ (there : at ≡ m).
+      omega (
+        arith,
+        cond-true (eqb (machine_at a0 p) m || eqb at m) (requirement_of i p r) 0
+            (or_right (eqb (machine_at a0 p) m) (eqb at m) (eq-eqb at m there)),
+        use_share_elsewhere i m r p (machine_at a0 p) apart,
+        use_share_here i m r p at there,
+      ))
+      (λ (gone : at ≢ m).
+      omega (
+        arith,
+        cond-false (eqb (machine_at a0 p) m || eqb at m) (requirement_of i p r) 0
+            (or_from (eqb (machine_at a0 p) m) (eqb at m) (ne_eqb (machine_at a0 p) m apart) (ne_eqb at m gone)),
+        use_share_elsewhere i m r p (machine_at a0 p) apart,
+        use_share_elsewhere i m r p at gone,
+      ))
+      (cases_eq at m)
+]
 
 -- no share is above 2^32
 pub record IsSmallShare (share : ℕ → ℕ → ℕ → ℕ → ℕ) : Type 0 where
@@ -155,13 +152,14 @@ adds_more i p at n old mid column within part =
 pub tally_none : (width n : ℕ) (share : ℕ → ℕ → ℕ → ℕ → ℕ) (a : List Machine) → IsTally width 0 share a (replicate n 0)
 unfolding tally
 tally_none width n share a = record {
-  each = λ m r w. cell_of_zeros width n m r ∙ sym (total_none (λ q. share m r q (machine_at a q)));
+  each = λ m r w. (cell_is width (replicate n 0) m r ∙ zeros_at n (m * width + r))
+      ∙ sym (total_none (λ q. share m r q (machine_at a q)));
 }
 
-pub tally_step : (width p : ℕ) (share : ℕ → ℕ → ℕ → ℕ → ℕ) (a : List Machine) (old new : List ℕ) →
+pub tally_step : {width p : ℕ} {share : ℕ → ℕ → ℕ → ℕ → ℕ} {a : List Machine} {old new : List ℕ} →
     IsTally width p share a old → AddsShare width share p (machine_at a p) old new → IsTally width (p + 1) share a new
 unfolding tally
-tally_step width p share a old new before adds = record {
+tally_step {p} {share} {a} before adds = record {
   each = λ m r w. omega (arith, total_more p (λ q. share m r q (machine_at a q)), before.each m r w, adds.each m r w);
 }
 
@@ -196,24 +194,14 @@ transient_moves i a0 p at old mid new moves leaves enters = record {
 }
 
 -- one row more leaves the table below twice its bound
-pub below_after : (i : Tables) (p at : ℕ) (old new : List ℕ) → Small i → IsBelow (resource_count i) (2 ^ 62) old →
+pub below_after : {i : Tables} {old new : List ℕ} (p at : ℕ) → Small i → IsBelow (resource_count i) (2 ^ 62) old →
     AddsShare (resource_count i) (use_share i) p at old new → IsBelow (resource_count i) (2 ^ 63) new
-below_after i p at old new small below adds = record {
+below_after {i} p at small below adds = record {
   each = λ m r w. omega (arith, below.each m r w, adds.each m r w, (use_share_small i small).each m r p at);
 }
 
 pub below_grows : (width : ℕ) (table : List ℕ) → IsBelow width (2 ^ 62) table → IsBelow width (2 ^ 63) table
 below_grows width table below = record { each = λ m r w. omega (arith, below.each m r w) }
-
--- as a loop writes it: the width and the amount are what calls have given
-pub adds_write : (i : Tables) (p at n width amount : ℕ) (old mid new : List ℕ) → width ≡ resource_count i →
-    amount ≡ requirement_of i p n → n < resource_count i → at * resource_count i + n < length mid →
-    new ≡ set mid (at * width + n) (cell width mid at n + amount) → AddsPart i p at n old mid →
-    AddsPart i p at (n + 1) old new
-adds_write i p at n width amount old mid new wide read column within written part =
-    let all : new ≡ set mid (at * resource_count i + n) (cell (resource_count i) mid at n + requirement_of i p n) =
-    rw (← wide, ← read) written in
-    rw all (adds_more i p at n old mid column within part)
 
 -- what a loop has filled with zeros is the sum over no process
 pub tally_start : (width n : ℕ) (share : ℕ → ℕ → ℕ → ℕ → ℕ) (a : List Machine) (table : List ℕ) →
@@ -224,7 +212,7 @@ tally_start width n share a table zeros = rw zeros (tally_none width n share a)
 pub tally_next : (width p at : ℕ) (share : ℕ → ℕ → ℕ → ℕ → ℕ) (a : List Machine) (old new : List ℕ) →
     at ≡ machine_at a p → IsTally width p share a old → AddsShare width share p at old new →
     IsTally width (p + 1) share a new
-tally_next width p at share a old new is before adds = tally_step width p share a old new before (rw is at adds)
+tally_next width p at share a old new is before adds = tally_step before (rw is at adds)
 
 -- one more place within a grid
 pub grid_place : (at n height width count : ℕ) → count ≡ height * width → at < height → n < width →

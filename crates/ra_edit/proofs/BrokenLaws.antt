@@ -1,5 +1,5 @@
 -- What an edit leaves alone of the constraints: searches with one answer, and numbers that stay.
-use Rattle.std.proofs.Common.{◌≡◌, ◌≢◌, ℕ, zero, suc, ◌+◌, ◌<◌, ◌≤◌, true, false, ltb, List, length, Option, Some, None}
+use Rattle.std.proofs.Common.{inl, inr, ◌≡◌, ◌≢◌, ℕ, zero, suc, ◌+◌, ◌<◌, ◌≤◌, ltb, List, length, Option, Some, None}
 use Rattle.std.proofs.Common.{IsTrue, refl, sym, ap, ◌∙◌, ⊎_elim, arith, ne_eqb}
 use Rattle.std.proofs.lemmas.Bool.{cases_lt, cases_eq, cases_Bool, cond-true, cond-false, lt-ltb, le-ltb}
 use Rattle.ra_base.specs.Searches.{or_else, first}
@@ -73,10 +73,10 @@ pub transient_free : (i : Tables) (a0 a : List Machine) (m : ℕ) →
     ((r : ℕ) → r < resource_count i → IsTrue (transient_at i r) → transient_of i a0 a m r ≤ capacity_of i m r) →
     row_transient i a0 a m ≡ None
 unfolding row_transient transient_test
-transient_free i a0 a m met = first_none_from _ _ (λ r r_in. cause_free _ _ (⊎_elim
-    (λ (twice : transient_at i r ≡ true). rw twice (le-ltb _ _ (met r r_in twice)))
-    (λ (once : transient_at i r ≡ false). rw once refl)
-    (cases_Bool (transient_at i r))))
+transient_free i a0 a m met = first_none_from _ _ (λ r r_in. cause_free _ _ (elim (cases_Bool (transient_at i r)) [
+  | inl twice ↦ rw twice (le-ltb _ _ (met r r_in twice))
+  | inr once ↦ rw once refl
+]))
 
 -- numbers that edits leave alone
 
@@ -96,11 +96,11 @@ pub processes_with : (d : Drafted) → process_count (instance_of d) ≡ length 
 unfolding with_process_rows process_count
 processes_with d = refl
 
-capacity_with : (d : Drafted) (m r : ℕ) → capacity_of (instance_of d) m r ≡ capacity_of d.origin m r
+pub capacity_with : (d : Drafted) (m r : ℕ) → capacity_of (instance_of d) m r ≡ capacity_of d.origin m r
 unfolding with_process_rows capacity_of resource_count
 capacity_with d m r = refl
 
-transient_with : (d : Drafted) (r : ℕ) → transient_at (instance_of d) r ≡ transient_at d.origin r
+pub transient_with : (d : Drafted) (r : ℕ) → transient_at (instance_of d) r ≡ transient_at d.origin r
 unfolding with_process_rows transient_at resource_row
 transient_with d r = refl
 
@@ -125,7 +125,7 @@ closed_with d m = refl
 -- a number that edits leave alone, in two drafts of one instance
 pub with_both : (d e : Drafted) (f : Tables → ℕ) → e.origin ≡ d.origin →
     ((g : Drafted) → f (instance_of g) ≡ f g.origin) → f (instance_of e) ≡ f (instance_of d)
-with_both d e f origin same = same e ∙ ap f origin ∙ sym (same d)
+with_both d e f origin same = cc (same e, same d)
 
 pub capacity_both : (d e : Drafted) (m r : ℕ) → e.origin ≡ d.origin →
     capacity_of (instance_of e) m r ≡ capacity_of (instance_of d) m r
@@ -134,31 +134,27 @@ capacity_both d e m r origin = with_both d e (λ i. capacity_of i m r) origin (�
 pub transient_both : (d e : Drafted) (r : ℕ) → e.origin ≡ d.origin →
     transient_at (instance_of e) r ≡ transient_at (instance_of d) r
 transient_both d e r origin =
-    transient_with e r ∙ ap (λ (i : Tables). transient_at i r) origin ∙ sym (transient_with d r)
-
--- a process less uses less
-
-pub use_less : (d e : Drafted) (p m r : ℕ) → OneMore d e p → r < resource_count d.origin →
-    use_of (instance_of d) d.current m r ≤ use_of (instance_of e) e.current m r
-use_less d e p m r more column = omega (arith, use_more d e p m r more column)
-
-pub transient_less : (d e : Drafted) (p m r : ℕ) → OneMore d e p → r < resource_count d.origin →
-    transient_of (instance_of d) d.initial d.current m r ≤ transient_of (instance_of e) e.initial e.current m r
-transient_less d e p m r more column = omega (arith, transient_more d e p m r more column)
+    cc (transient_with e r, transient_with d r)
 
 -- a process more uses its machine alone
 
-pub use_elsewhere : (d e : Drafted) (p m r : ℕ) → OneMore d e p → r < resource_count d.origin →
+pub use_elsewhere : {d e : Drafted} {p : ℕ} (m r : ℕ) → OneMore d e p → r < resource_count d.origin →
     machine_at e.current p ≢ m → use_of (instance_of e) e.current m r ≡ use_of (instance_of d) d.current m r
-use_elsewhere d e p m r more column apart = let h = use_more d e p m r more column in
-    let n = ne_eqb (machine_at e.current p) m apart in let g = rw n at h in omega (arith, g)
+use_elsewhere {e} {p} m r more column apart = omega (
+  arith,
+  rw (ne_eqb (machine_at e.current p) m apart) at
+      (use_more m r more column),
+)
 
-pub transient_elsewhere : (d e : Drafted) (p m r : ℕ) → OneMore d e p → r < resource_count d.origin →
+pub transient_elsewhere : {d e : Drafted} {p : ℕ} (m r : ℕ) → OneMore d e p → r < resource_count d.origin →
     machine_at e.initial p ≢ m → machine_at e.current p ≢ m → transient_of (instance_of e) e.initial e.current m r ≡
     transient_of (instance_of d) d.initial d.current m r
-transient_elsewhere d e p m r more column home here = let h = transient_more d e p m r more column in
-    let a = ne_eqb (machine_at e.initial p) m home in let b = ne_eqb (machine_at e.current p) m here in
-    let g = rw (a, b) at h in omega (arith, g)
+transient_elsewhere {e} {p} m r more column home here =
+    omega (
+      arith,
+      rw (ne_eqb (machine_at e.initial p) m home, ne_eqb (machine_at e.current p) m here) at
+          (transient_more m r more column),
+    )
 
 -- capacity and transient use of a draft before its edit, which share all processes but one with it
 
@@ -169,7 +165,7 @@ pub capacity_only : (d e : Drafted) (m : ℕ) → e.origin ≡ d.origin → brok
     row_capacity (instance_of e) e.current m
 unfolding broken_capacity
 capacity_only d e m origin fine within less =
-    let count : machine_count (instance_of e) ≡ machine_count d.origin = machines_with e ∙ ap machine_count origin in
+    let count : machine_count (instance_of e) ≡ machine_count d.origin = cc (machines_with e) in
     first_only (machine_count (instance_of e)) m (row_capacity (instance_of e) e.current) (omega (arith, count))
     (λ k k_in apart.
     capacity_free (instance_of e) e.current k (λ r column.
@@ -190,7 +186,7 @@ pub transient_only : (d e : Drafted) (m n : ℕ) → e.origin ≡ d.origin →
     first_of_two m n (row_transient (instance_of e) e.initial e.current)
 unfolding broken_transient
 transient_only d e m n origin fine m_in n_in less =
-    let count : machine_count (instance_of e) ≡ machine_count d.origin = machines_with e ∙ ap machine_count origin in
+    let count : machine_count (instance_of e) ≡ machine_count d.origin = cc (machines_with e) in
     first_two (machine_count (instance_of e)) m n (row_transient (instance_of e) e.initial e.current)
     (omega (arith, count, m_in)) (omega (arith, count, n_in)) (λ k k_in first second.
     transient_free (instance_of e) e.initial e.current k (λ r column twice.
@@ -208,9 +204,12 @@ unfolding first_of_two
 first_same_two m f =
     cond-false (ltb m m) (or_else (f m) (f m)) (or_else (f m) (f m)) (le-ltb m m (omega arith)) ∙ or_else_same (f m)
 
-pub label_both : (d e : Drafted) (k q : ℕ) → e.origin ≡ d.origin → IsSame d k e q →
+pub label_both : {d e : Drafted} {k q : ℕ} → e.origin ≡ d.origin → IsSame d k e q →
     neighbourhood_of (instance_of d) (machine_at d.current k) ≡ neighbourhood_of (instance_of e)
     (machine_at e.current q)
-label_both d e k q origin same = neighbourhood_with d.origin d.rows d.requirements (machine_at d.current k)
-    ∙ ap (neighbourhood_of d.origin) same.here ∙ ap (λ (i : Tables). neighbourhood_of i (machine_at e.current q))
-    (sym origin) ∙ sym (neighbourhood_with e.origin e.rows e.requirements (machine_at e.current q))
+label_both {d} {e} {k} {q} origin same = cc (
+  neighbourhood_with d.origin d.rows d.requirements
+      (machine_at d.current k),
+  same.here,
+  neighbourhood_with e.origin e.rows e.requirements (machine_at e.current q),
+)

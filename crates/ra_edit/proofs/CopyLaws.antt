@@ -1,5 +1,5 @@
 -- The processes of an instance, read item by item.
-use Rattle.std.proofs.Common.{◌≡◌, ℕ, ◌+◌, ◌*◌, ◌/◌, ◌%◌, ◌<◌, List, [], ◌∷◌, ◌++◌, length, take, get_or, sym, ap, ◌∙◌}
+use Rattle.std.proofs.Common.{◌≡◌, ℕ, ◌+◌, ◌*◌, ◌/◌, ◌%◌, ◌<◌, List, [], ◌∷◌, ◌++◌, length, take, get_or, sym, ◌∙◌}
 use Rattle.std.proofs.Common.{arith}
 use Rattle.std.proofs.Math.Nat.{div-lt_iff_lt-mul, div-add-mod}
 use Rattle.std.proofs.lemmas.Nat.{mod_below}
@@ -45,18 +45,18 @@ rest_below k width some = mod_below k width some
 pub some_width : (k n width : ℕ) → k < n * width → 0 < width
 some_width k n width below = grind arith
 
-pub row_below : (k n width all : ℕ) → k < n * width → n ≡ all → k / width < all
-row_below k n width all below same = rw (← same) (quotient_below k width n below (some_width k n width below))
+pub row_below : {n all : ℕ} (k width : ℕ) → k < n * width → n ≡ all → k / width < all
+row_below {n} k width below same = rw (← same) (quotient_below k width n below (some_width k n width below))
 
-pub column_below : (k n width all : ℕ) → k < n * width → width ≡ all → k % width < all
-column_below k n width all below same = omega (arith, same, rest_below k width (some_width k n width below))
+pub column_below : {width all : ℕ} (k n : ℕ) → k < n * width → width ≡ all → k % width < all
+column_below {width} k n below same = omega (arith, same, rest_below k width (some_width k n width below))
 
 place_of : (k width : ℕ) → k / width * width + k % width ≡ k
 place_of k width = grind (arith, div-add-mod k width)
 
 cell_here : (table : List ℕ) (k width : ℕ) → cell width table (k / width) (k % width) ≡ get_or table k 0
 unfolding cell
-cell_here table k width = ap (λ n. get_or table n 0) (place_of k width)
+cell_here table k width = cc (place_of k width)
 
 pub requirement_more : (i : Tables) (k v : ℕ) (table : List ℕ) → WellFormed i →
     table ≡ take k i.raw.requirements.items → k < process_count i * resource_count i →

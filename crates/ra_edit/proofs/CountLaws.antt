@@ -22,8 +22,7 @@ number_test : (x y : ℕ) → is_eq (nat_cmp x y) ≡ eqb x y
 number_test x y = grind (arith, nat_tests)
 
 pub key_test : (s x t y : ℕ) → is_at (key_cmp (s, x)) (t, y) ≡ (eqb s t && eqb x y)
-key_test s x t y = both_equal (nat_cmp s t) (nat_cmp x y) ∙ ap (λ b. b && is_eq (nat_cmp x y)) (number_test s t)
-    ∙ ap (λ b. eqb s t && b) (number_test x y)
+key_test s x t y = cc (both_equal (nat_cmp s t) (nat_cmp x y), number_test s t, number_test x y)
 
 cond_at : (b : Bool) (v w : Option ℕ) → unwrap_or (cond b v w) 0 ≡ cond b (unwrap_or v 0) (unwrap_or w 0)
 cond_at true v w = refl
@@ -33,9 +32,7 @@ cond_at false v w = refl
 pub count_written : (f g : ℕ × ℕ → Option ℕ) (s x : ℕ) (w : Option ℕ) →
     ((q : ℕ × ℕ) → g q ≡ cond (is_at (key_cmp (s, x)) q) w (f q)) → (t y : ℕ) →
     count_at g (t, y) ≡ cond (eqb s t && eqb x y) (unwrap_or w 0) (count_at f (t, y))
-count_written f g s x w writes t y = ap (λ o. unwrap_or o 0)
-    (writes (t, y) ∙ ap (λ b. cond b w (f (t, y))) (key_test s x t y))
-    ∙ cond_at (eqb s t && eqb x y) w (f (t, y))
+count_written f g s x w writes t y = cc (writes (t, y), key_test s x t y, cond_at (eqb s t && eqb x y) w (f (t, y)))
 
 -- what holds of each key if it holds of this one, and of the others, where nothing is written
 by_key : (P : ℕ → ℕ → Bool → Type 0) (s x : ℕ) → P s x true → ((t y : ℕ) → P t y false) → (t y : ℕ) →

@@ -1,5 +1,5 @@
 -- What the answer to an edit is, and what is left after it.
-use Rattle.std.proofs.Common.{◌≡◌, ◌≢◌, ℕ, ◌<◌, ◌≤◌, List, length, Some, None, refl, sym, ap, ◌∙◌, subst, ⊎_elim}
+use Rattle.std.proofs.Common.{◌≡◌, ◌≢◌, ℕ, ◌<◌, ◌≤◌, List, length, Some, None, refl, sym, ◌∙◌, subst, ⊎_elim}
 use Rattle.std.proofs.Common.{eq-eqb, ne_eqb}
 use Rattle.std.proofs.Math.Nat.{mod-eq_of_lt}
 use Rattle.std.proofs.lemmas.Bool.{cases_lt, cases_eq, lt-ltb, le-ltb}
@@ -37,26 +37,26 @@ unfolding process_of
 row_is row = process_same row (process_of row.service row.move_cost) refl (sym (mod-eq_of_lt row.small))
 
 -- a new draft
-new_kept : (i : Tables) (a0 a : List Machine) (parts : Parts) → WellFormed i → IsAssignment i a0 → IsAssignment i a →
+new_kept : {i : Tables} {a0 a : List Machine} {parts : Parts} → WellFormed i → IsAssignment i a0 → IsAssignment i a →
     first_broken i a0 a ≡ None → parts ≡ parts_of i a0 a → IsKeptDraft (draft_of i a0 a) parts
 unfolding with_process_rows broken_in
-new_kept i a0 a parts well fits0 fits unbroken cost = record {
+new_kept well fits0 fits unbroken cost = record {
   sound = record { well_formed = well; initial = fits0; current = fits };
   unbroken = unbroken;
   parts_are = cost;
 }
 
-pub made_kept : (d : Drafted) (i : Tables) (a0 a : List Machine) (parts : Parts) → d ≡ draft_of i a0 a → WellFormed i →
+pub made_kept : {d : Drafted} {i : Tables} {a0 a : List Machine} {parts : Parts} → d ≡ draft_of i a0 a → WellFormed i →
     IsAssignment i a0 → IsAssignment i a → first_broken i a0 a ≡ None → parts ≡ parts_of i a0 a → IsKeptDraft d parts
-made_kept d i a0 a parts same well fits0 fits unbroken cost =
-    subst (λ (e : Drafted). IsKeptDraft e parts) (sym same) (new_kept i a0 a parts well fits0 fits unbroken cost)
+made_kept same well fits0 fits unbroken cost =
+    rw (← same) at (new_kept well fits0 fits unbroken cost)
 
 -- whose lists are short
-pub few_at_first : (i : Tables) (a0 a : List Machine) → WellFormed i → IsAssignment i a0 → IsAssignment i a →
+pub few_at_first : {i : Tables} {a0 a : List Machine} → WellFormed i → IsAssignment i a0 → IsAssignment i a →
     AreFew (draft_of i a0 a)
 unfolding with_process_rows
-few_at_first i a0 a well fits0 fits =
-    few_of (draft_of i a0 a) (record { well_formed = well; initial = fits0; current = fits })
+few_at_first well fits0 fits =
+    few_of (record { well_formed = well; initial = fits0; current = fits })
 
 -- what bars an edit isn't that it is done
 never_done : (count : ℕ) (e : Edit) (cost : ℕ) → barred count e ≡ Some (Done cost) → ⊥
@@ -96,10 +96,11 @@ pub kept_barred : (d : Drafted) (e : EditLists) (k : ℕ) (reply : EditReply) �
     Some reply → d ≡ after_edit d e k
 unfolding after_edit
 kept_barred d e k reply h =
-    sym (ap (λ (r : EditReply). kept r d (edited d (edit_at e k) (row_of e.width e.requirements k)))
-    (sym (answered_barred d e k reply h))
-    ∙ barred_keeps (length d.rows) (edit_at e k) reply d (edited d (edit_at e k) (row_of e.width e.requirements k))
-    h)
+    cc (
+      answered_barred d e k reply h,
+      barred_keeps (length d.rows) (edit_at e k) reply d (edited d (edit_at e k)
+          (row_of e.width e.requirements k)) h,
+    )
 
 -- a broken constraint
 pub answered_broken : (d next : Drafted) (e : EditLists) (k : ℕ) (cause : Cause) →
@@ -115,74 +116,73 @@ unfolding after_edit kept
 kept_broken d next e k cause free same broken = rw (← answered_broken d next e k cause free same broken) refl
 
 -- an edit that is done
-total_is : (d : Drafted) (parts : Parts) → parts ≡ parts_of (instance_of d) d.initial d.current →
+total_is : {parts : Parts} (d : Drafted) → parts ≡ parts_of (instance_of d) d.initial d.current →
     draft_cost d ≡ parts.total
 unfolding draft_cost parts_of
-total_is d parts same = sym (ap (λ (p : Parts). p.total) same)
+total_is d same = cc
 
-pub answered_done : (d next : Drafted) (e : EditLists) (k : ℕ) (parts : Parts) → barred (length d.rows) (edit_at e k) ≡
+pub answered_done : {next : Drafted} {parts : Parts} (d : Drafted) (e : EditLists) (k : ℕ) →
+    barred (length d.rows) (edit_at e k) ≡
     None → next ≡ edited d (edit_at e k) (row_of e.width e.requirements k) → broken_in next ≡ None →
     parts ≡ parts_of (instance_of next) next.initial next.current → Done parts.total ≡ edit_answer d e k
 unfolding edit_answer answer edit_reply
-answered_done d next e k parts free same fine cost = rw (free, ← same, fine, total_is next parts cost) refl
+answered_done {next} d e k free same fine cost = rw (free, ← same, fine, total_is next cost) refl
 
 pub kept_done : (d next : Drafted) (e : EditLists) (k : ℕ) (parts : Parts) → barred (length d.rows) (edit_at e k) ≡
     None → next ≡ edited d (edit_at e k) (row_of e.width e.requirements k) → broken_in next ≡ None →
     parts ≡ parts_of (instance_of next) next.initial next.current → next ≡ after_edit d e k
 unfolding after_edit kept
-kept_done d next e k parts free same fine cost = rw (← answered_done d next e k parts free same fine cost) same
+kept_done d next e k parts free same fine cost = rw (← answered_done d e k free same fine cost) same
 
 -- the current list is feasible
-pub kept_feasible : (d : Drafted) (parts : Parts) → IsKeptDraft d parts → Feasible (instance_of d) d.initial d.current
+pub kept_feasible : {d : Drafted} {parts : Parts} → IsKeptDraft d parts → Feasible (instance_of d) d.initial d.current
 unfolding broken_in
-kept_feasible d parts h =
+kept_feasible {d} h =
     feasible_from_unbroken (instance_of d) d.initial d.current h.sound.well_formed h.sound.current h.unbroken
 
 -- and in one with the same lists
-pub same_feasible : (d : Drafted) (j : Tables) → IsSoundDraft d → Feasible (instance_of d) d.initial d.current →
+pub same_feasible : {d : Drafted} {j : Tables} → IsSoundDraft d → Feasible (instance_of d) d.initial d.current →
     AreSameLists (instance_of d) j → Feasible j d.initial d.current
-same_feasible d j sound feasible same =
+same_feasible {d} {j} sound feasible same =
     feasible_from_unbroken j d.initial d.current (same_well (instance_of d) j same.lists sound.well_formed)
-    (same_fits (instance_of d) j d.current same.lists sound.current)
+    (same_fits j same.lists sound.current)
     (same_broken (instance_of d) j d.initial d.current same sound.current
     ∙ unbroken_from_feasible (instance_of d) d.initial d.current feasible)
 
 -- what an edit makes of a draft is sound
-pub next_sound : (d old next : Drafted) (e : EditLists) (k : ℕ) → d ≡ old → IsSoundDraft d → AreEditsFor old.origin e →
+pub next_sound : {d old next : Drafted} {e : EditLists} (k : ℕ) → d ≡ old → IsSoundDraft d → AreEditsFor old.origin e →
     k < length e.edits → barred (length d.rows) (edit_at e k) ≡ None →
     next ≡ edited d (edit_at e k) (row_of e.width e.requirements k) → length (row_of e.width e.requirements k) ≡
     e.width → IsSoundDraft next
 unfolding edit_at
-next_sound d old next e k same sound fits within free is width =
-    let here = subst (λ (o : Drafted). AreEditsFor o.origin e) (sym same) fits in
+next_sound {e} k same sound fits within free is width =
+    let here = rw (← same) at fits in
     subst IsSoundDraft (sym is)
-    (edited_sound d (edit_at e k) (row_of e.width e.requirements k) sound free (here.each k within)
+    (edited_sound (edit_at e k) (row_of e.width e.requirements k) sound free (here.each k within)
     (width ∙ here.width))
 
 -- and it is what the kind of the edit says
-pub next_edited : (d old next : Drafted) (e : EditLists) (k : ℕ) (edit : Edit) (asked : List ℕ) → d ≡ old →
+pub next_edited : {d old : Drafted} {e : EditLists} {edit : Edit} {asked : List ℕ} (next : Drafted) (k : ℕ) → d ≡ old →
     IsSoundDraft d → AreEditsFor old.origin e → k < length e.edits → edit ≡ edit_at e k →
     asked ≡ row_of e.width e.requirements k → barred (length d.rows) (edit_at e k) ≡ None →
     next ≡ edited d (edit_at e k) (row_of e.width e.requirements k) →
     length (row_of e.width e.requirements k) ≡ e.width → IsEdited d edit asked next
 unfolding edit_at
-next_edited d old next e k edit asked same sound fits within is asked_is free made width =
-    let fits_d : AreEditsFor d.origin e = subst (λ (o : Drafted). AreEditsFor o.origin e) (sym same) fits in
+next_edited {d} {e} {asked} next k same sound fits within is asked_is free made width =
+    let fits_d = rw (← same) at fits in
     subst (λ (x : Edit). IsEdited d x asked next) (sym is)
-    (subst (λ (row : List ℕ). IsEdited d (edit_at e k) row next) (sym asked_is)
-    (edited_is d next (edit_at e k) (row_of e.width e.requirements k) sound free (fits_d.each k within)
+    (rw (← asked_is) at (edited_is (edit_at e k) (row_of e.width e.requirements k) sound free (fits_d.each k within)
     (width ∙ fits_d.width) made))
 
 -- its service and its machine exist
-pub next_fits : (d old : Drafted) (e : EditLists) (k : ℕ) (edit : Edit) → d ≡ old → AreEditsFor old.origin e →
+pub next_fits : {d old : Drafted} {e : EditLists} {edit : Edit} (k : ℕ) → d ≡ old → AreEditsFor old.origin e →
     k < length e.edits → edit ≡ edit_at e k → FitsInstance d.origin edit
 unfolding edit_at
-next_fits d old e k edit same fits within is =
-    let fits_d : AreEditsFor d.origin e = subst (λ (o : Drafted). AreEditsFor o.origin e) (sym same) fits in
-    subst (λ (x : Edit). FitsInstance d.origin x) (sym is) (fits_d.each k within)
+next_fits k same fits within is =
+    rw (← is) at ((rw (← same) at fits).each k within)
 
 -- and as many requirements are given as there are resources
-pub next_width : (d old : Drafted) (e : EditLists) (asked : List ℕ) → d ≡ old → AreEditsFor old.origin e →
+pub next_width : {d old : Drafted} {e : EditLists} (asked : List ℕ) → d ≡ old → AreEditsFor old.origin e →
     length asked ≡ e.width → length asked ≡ resource_count d.origin
-next_width d old e asked same fits width =
-    width ∙ (subst (λ (o : Drafted). AreEditsFor o.origin e) (sym same) fits).width
+next_width asked same fits width =
+    width ∙ (rw (← same) at fits).width

@@ -1,6 +1,6 @@
 -- Lists without an item, and tables without a row.
 use Rattle.std.proofs.Common.{◌≡◌, ◌≢◌, ℕ, ◌+◌, ◌-◌, ◌*◌, ◌<◌, ◌≤◌, List, ◌++◌, length, take, drop, set, get_or, refl}
-use Rattle.std.proofs.Common.{sym, ap, ◌∙◌, subst, ⊎_elim, arith, length-append, length-drop, length-set}
+use Rattle.std.proofs.Common.{sym, ap, ◌∙◌, ⊎_elim, arith, length-append, length-drop, length-set}
 use Rattle.std.proofs.Common.{get_or-set_same, get_or-set_other}
 use Rattle.std.specs.List.{swap_remove}
 use Rattle.std.proofs.lemmas.Bool.{cases_eq}
@@ -33,33 +33,44 @@ removed_item xs p k d e within left =
 -- tables
 
 -- other items in the place of a row
-pub put_here : (w p start : ℕ) (table row : List ℕ) → length row ≡ w → start ≡ p * w →
+pub put_here : {w start : ℕ} (p : ℕ) (table row : List ℕ) → length row ≡ w → start ≡ p * w →
     take start table ++ (row ++ drop (start + length row) table) ≡ put_row w table p row
 unfolding put_row
-put_here w p start table row width same = rw (width, same) refl
+put_here p table row width same = rw (width, same) refl
 
 pub put_length : (w n p : ℕ) (table row : List ℕ) → length table ≡ n * w → p < n → length row ≡ w →
     length (put_row w table p row) ≡ n * w
 unfolding put_row
 put_length w n p table row size within width =
     let e = row_within n w p within in
-    let a = length-take-le (p * w) table (omega (arith, size, e)) in
-    let b = length-drop (p * w + w) table in
-    let d = length-append row (drop (p * w + w) table) in
     let all : length (take (p * w) table) + length (row ++ drop (p * w + w) table) ≡ n * w =
-    omega (arith, a, b, d, size, e, width) in
+    omega (
+      arith,
+      length-take-le (p * w) table (omega (arith, size, e)),
+      length-drop
+          (p * w + w) table,
+      length-append row (drop (p * w + w) table),
+      size,
+      e,
+      width,
+    ) in
     length-append (take (p * w) table) (row ++ drop (p * w + w) table) ∙ all
 
 all_rows : (n w : ℕ) → 0 < n → n * w ≡ (n - 1) * w + w
 all_rows n w some =
-    let e : n - 1 + 1 ≡ n = omega arith in subst (λ k. k * w ≡ (n - 1) * w + w) e (sym (next_row (n - 1) w))
+    let e : n - 1 + 1 ≡ n = omega arith in rw e at (sym (next_row (n - 1) w))
 
 last_row : (w n : ℕ) (table : List ℕ) → length table ≡ n * w → 0 < n → drop ((n - 1) * w) table ≡ row_of w table (n - 1)
 unfolding row_of
 last_row w n table size some =
     let e = row_within n w (n - 1) (omega arith) in
-    let b = length-drop ((n - 1) * w) table in
-    sym (take_all w (drop ((n - 1) * w) table) (omega (arith, b, size, all_rows n w some)))
+    sym (take_all w (drop ((n - 1) * w) table) (omega (
+      arith,
+      length-drop
+          ((n - 1) * w) table,
+      size,
+      all_rows n w some,
+    )))
 
 -- the last row is cut off, and takes the place of another one
 pub last_within : (w n p size : ℕ) → size ≡ n * w → p < n → (n - 1) * w ≤ size
@@ -80,13 +91,12 @@ pub dropped_length : (w n p : ℕ) (table : List ℕ) → length table ≡ n * w
     length (drop_row w table n p) ≡ (n - 1) * w
 unfolding drop_row
 dropped_length w n p table size within =
-    let whole = row_within n w (n - 1) (omega arith) in
     length-take-le ((n - 1) * w) (put_row w table p (row_of w table (n - 1)))
     (omega (
       arith,
       put_length w n p table (row_of w table (n - 1)) size within
           (row_length table n w (n - 1) size (omega arith)),
-      whole,
+      row_within n w (n - 1) (omega arith),
     ))
 
 -- a part of a row's length is within the table
@@ -94,8 +104,8 @@ pub part_within : (n w p s m size : ℕ) → s ≡ w → size ≡ n * w → p < 
 part_within n w p s m size same all within width = rw (same, width, all) (row_within n w p within)
 
 -- rows of fewer processes than there is room for
-pub rows_fit : (n w size s : ℕ) → n ≤ 50000 → size ≡ n * w → s ≡ w → size ≤ 50000 * s
-rows_fit n w size s few same width = rw (width, same) (fewer n w few)
+pub rows_fit : {w size s : ℕ} (n : ℕ) → n ≤ 50000 → size ≡ n * w → s ≡ w → size ≤ 50000 * s
+rows_fit {w} n few same width = rw (width, same) (fewer n w few)
   where
     fewer : (a b : ℕ) → a ≤ 50000 → a * b ≤ 50000 * b
     fewer a b x = grind arith

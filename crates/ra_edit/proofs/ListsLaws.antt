@@ -9,8 +9,8 @@ use Rattle.ra_edit.specs.Editing.{process_of, drop_row, added, retired, resized}
 use Rattle.ra_edit.proofs.DraftLaws.{row_is}
 use Rattle.ra_edit.proofs.ListLaws.{put_here}
 
-pub added_is : (d : Drafted) (row : ProcessRow) (m : Machine) (requirements : List ℕ) (rows : List ProcessRow)
-    (table : List ℕ) (initial current : List Machine) → rows ≡ d.rows ++ row ∷ [] →
+pub added_is : {rows : List ProcessRow} {table : List ℕ} {initial current : List Machine} (d : Drafted)
+    (row : ProcessRow) (m : Machine) (requirements : List ℕ) → rows ≡ d.rows ++ row ∷ [] →
     table ≡ d.requirements ++ requirements → initial ≡ d.initial ++ m ∷ [] → current ≡ d.current ++ m ∷ [] → record {
       origin = d.origin;
       rows = rows;
@@ -19,9 +19,10 @@ pub added_is : (d : Drafted) (row : ProcessRow) (m : Machine) (requirements : Li
       current = current;
     } ≡ added d row.service m row.move_cost requirements
 unfolding added
-added_is d row m requirements rows table initial current e f g h = rw (e, f, g, h, ← row_is row) refl
+added_is d row m requirements e f g h = rw (e, f, g, h, ← row_is row) refl
 
-pub retired_is : (d : Drafted) (p w n : ℕ) (rows : List ProcessRow) (table : List ℕ) (initial current : List Machine) →
+pub retired_is : {w n : ℕ} {rows : List ProcessRow} {table : List ℕ} {initial current : List Machine} (d : Drafted)
+    (p : ℕ) →
     rows ≡ swap_remove d.rows p (process_of (record { 0 = 0 }) 0) → table ≡ drop_row w d.requirements n p →
     w ≡ resource_count d.origin → n ≡ length d.rows → initial ≡ swap_remove d.initial p (record { 0 = 0 }) →
     current ≡ swap_remove d.current p (record { 0 = 0 }) → record {
@@ -32,7 +33,7 @@ pub retired_is : (d : Drafted) (p w n : ℕ) (rows : List ProcessRow) (table : L
       current = current;
     } ≡ retired d p
 unfolding retired
-retired_is d p w n rows table initial current e f width count g h = rw (e, f, width, count, g, h) refl
+retired_is d p e f width count g h = rw (e, f, width, count, g, h) refl
 
 pub resized_is : (d : Drafted) (p start : ℕ) (requirements table : List ℕ) → start ≡ p * resource_count d.origin →
     length requirements ≡ resource_count d.origin → table ≡ take start d.requirements ++ (requirements ++ drop
@@ -45,4 +46,4 @@ pub resized_is : (d : Drafted) (p start : ℕ) (requirements table : List ℕ) �
     } ≡ resized d p requirements
 unfolding resized
 resized_is d p start requirements table start_is width e =
-    rw (e, put_here (resource_count d.origin) p start d.requirements requirements width start_is) refl
+    rw (e, put_here p d.requirements requirements width start_is) refl

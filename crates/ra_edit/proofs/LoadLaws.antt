@@ -2,7 +2,7 @@
 use Rattle.std.proofs.Common.{◌≡◌, ◌≢◌, ℕ, ◌+◌, ◌*◌, ◌^◌, ◌<◌, ◌≤◌, Bool, true, false, cond, eqb, ◌||◌, inl, inr}
 use Rattle.std.proofs.Common.{⊎_elim, List, [], ◌∷◌, ◌++◌, length, get_or, set, slice_index, replicate, refl, sym, ap}
 use Rattle.std.proofs.Common.{◌∙◌, subst, arith, eq-eqb, ne_eqb, length-set}
-use Rattle.std.proofs.lemmas.Bool.{cases_eq, cases_lt}
+use Rattle.std.proofs.lemmas.Bool.{cases_eq, cases_lt, or_left, or_right}
 use Rattle.std.proofs.lemmas.List.{length-replicate, get_or_append_left}
 use Rattle.std.proofs.Math.Seq.{get_or-append_seam}
 use Rattle.ra_base.specs.Tables.{cell}
@@ -19,9 +19,8 @@ use Rattle.ra_check.specs.Stands.{IsTally, AddsShare, IsBelow}
 use Rattle.ra_check.proofs.TableLaws.{tally_start, tally_next, tally_below, use_share_small, transient_share_small}
 use Rattle.ra_edit.specs.declared.loads.Loads.{Loads}
 use Rattle.ra_edit.specs.Drafts.{Drafted, with_process_rows, instance_of}
-use Rattle.ra_edit.specs.Loads.{HasMoreAt, HasMoreBetween, HasMoreUse, HasCounted, AreLoadsOf, IsUseRow}
-use Rattle.ra_edit.specs.Loads.{IsTransientRowOfDraft}
-use Rattle.ra_edit.specs.Loads.{IsThere}
+use Rattle.ra_edit.specs.Loads.{HasMoreAt, HasMoreBetween, HasMoreUse, HasCounted, AreLoadsOf, IsUseRow, IsRowOf}
+use Rattle.ra_edit.specs.Loads.{IsTransientRowOfDraft, IsThere}
 use Rattle.ra_edit.specs.Kinds.{Asks}
 use Rattle.ra_edit.specs.OneMore.{OneMore}
 use Rattle.ra_edit.proofs.ShareLaws.{use_more, transient_more}
@@ -58,11 +57,9 @@ part_raised width n at value amount old mid new column within is written part = 
         part.done m r w before,
       ))
       (λ (late : n ≤ r). let e : r ≡ n = omega arith in rw e (⊎_elim
-      (λ (here : at ≡ m). let f = eq-eqb at m here in
-      rw (f, ← here)
+      (λ (here : at ≡ m). rw (eq-eqb at m here, ← here)
       (omega (arith, cell_write_same width mid at n value within, part.rest at n column (omega arith), is)))
-      (λ (apart : at ≢ m). let f = ne_eqb at m apart in
-      rw f (omega (
+      (λ (apart : at ≢ m). rw (ne_eqb at m apart) (omega (
         arith,
         cell_write_other width mid at n value m n column column
             (inl (λ (d : m ≡ at). apart (sym d))),
@@ -87,11 +84,9 @@ part_lowered width n at value amount old mid new column within is written part =
         part.done m r w before,
       ))
       (λ (late : n ≤ r). let e : r ≡ n = omega arith in rw e (⊎_elim
-      (λ (here : at ≡ m). let f = eq-eqb at m here in
-      rw (f, ← here)
+      (λ (here : at ≡ m). rw (eq-eqb at m here, ← here)
       (omega (arith, cell_write_same width mid at n value within, part.rest at n column (omega arith), is)))
-      (λ (apart : at ≢ m). let f = ne_eqb at m apart in
-      rw f (omega (
+      (λ (apart : at ≢ m). rw (ne_eqb at m apart) (omega (
         arith,
         cell_write_other width mid at n value m n column column
             (inl (λ (d : m ≡ at). apart (sym d))),
@@ -105,9 +100,9 @@ part_lowered width n at value amount old mid new column within is written part =
 })
 
 -- a read within a row is a cell
-pub row_read : (width at r place : ℕ) (table : List ℕ) (x : ℕ) → place ≡ at * width + r → x ≡ get_or table place 0 →
+pub row_read : {place x : ℕ} (width at r : ℕ) (table : List ℕ) → place ≡ at * width + r → x ≡ get_or table place 0 →
     x ≡ cell width table at r
-row_read width at r place table x is read = read ∙ ap (λ k. get_or table k 0) is ∙ sym (cell_is width table at r)
+row_read width at r table is read = read ∙ ap (λ k. get_or table k 0) is ∙ sym (cell_is width table at r)
 
 -- one machine, or two
 
@@ -118,38 +113,37 @@ either_same false x = refl
 either_apart : (home at m x : ℕ) → home ≢ at → cond (eqb home m || eqb at m) x 0 ≡ cond (eqb home m) x 0
     + cond (eqb at m) x 0
 either_apart home at m x apart = ⊎_elim
-    (λ (here : home ≡ m). let f = eq-eqb home m here in let g = ne_eqb at m (λ e. apart (here ∙ sym e)) in
-    rw (f, g) (omega arith))
-    (λ (away : home ≢ m). let f = ne_eqb home m away in rw f (omega arith))
+    (λ (here : home ≡ m). rw (eq-eqb home m here, (ne_eqb at m (λ e. apart (here ∙ sym e)))) (omega arith))
+    (λ (away : home ≢ m). rw (ne_eqb home m away) (omega arith))
     (cases_eq home m)
 
-pub between_one : (width home at : ℕ) (amount : ℕ → ℕ) (low high : List ℕ) → home ≡ at →
+pub between_one : {width home at : ℕ} {amount : ℕ → ℕ} {low high : List ℕ} → home ≡ at →
     HasMoreAt width home amount low high → HasMoreBetween width home at amount low high
-between_one width home at amount low high same more = rw (← same) (record {
-  each = λ m r w. more.each m r w ∙ ap (λ x. cell width low m r + x) (sym (either_same (eqb home m) (amount r)));
+between_one {home} {amount} same more = rw (← same) (record {
+  each = λ m r w. cc (more.each m r w, either_same (eqb home m) (amount r));
   same_length = more.same_length;
 })
 
-pub between_two : (width home at : ℕ) (amount : ℕ → ℕ) (low mid high : List ℕ) → home ≢ at →
+pub between_two : {width home : ℕ} {amount : ℕ → ℕ} {low mid : List ℕ} (at : ℕ) (high : List ℕ) → home ≢ at →
     HasMoreAt width home amount low mid → HasMoreAt width at amount mid high →
     HasMoreBetween width home at amount low high
-between_two width home at amount low mid high apart first second = record {
+between_two {home} {amount} at high apart first second = record {
   each = λ m r w. omega (arith, first.each m r w, second.each m r w, either_apart home at m (amount r) apart);
   same_length = second.same_length ∙ first.same_length;
 }
 
-pub between_back : (width home at : ℕ) (amount : ℕ → ℕ) (low mid high : List ℕ) → home ≢ at →
+pub between_back : {width home : ℕ} {amount : ℕ → ℕ} {mid high : List ℕ} (at : ℕ) (low : List ℕ) → home ≢ at →
     HasMoreAt width at amount low mid → HasMoreAt width home amount mid high →
     HasMoreBetween width home at amount low high
-between_back width home at amount low mid high apart first second = record {
+between_back {home} {amount} at low apart first second = record {
   each = λ m r w. omega (arith, first.each m r w, second.each m r w, either_apart home at m (amount r) apart);
   same_length = second.same_length ∙ first.same_length;
 }
 
 -- a row more leaves a table below twice its bound
-pub below_twice : (width at : ℕ) (amount : ℕ → ℕ) (low high : List ℕ) → IsBelow width (2 ^ 62) low →
+pub below_twice : {width : ℕ} {low high : List ℕ} (at : ℕ) (amount : ℕ → ℕ) → IsBelow width (2 ^ 62) low →
     ((r : ℕ) → amount r < 2 ^ 32) → HasMoreAt width at amount low high → IsBelow width (2 ^ 63) high
-below_twice width at amount low high below small more = record {
+below_twice at amount below small more = record {
   each = λ m r w. omega (arith, below.each m r w, more.each m r w, small_if (eqb at m) (amount r) (small r));
 }
   where
@@ -157,26 +151,17 @@ below_twice width at amount low high below small more = record {
     small_if true x h = h
     small_if false x h = omega arith
 
-pub below_grown : (width : ℕ) (table : List ℕ) → IsBelow width (2 ^ 62) table → IsBelow width (2 ^ 63) table
-below_grown width table below = record { each = λ m r w. omega (arith, below.each m r w) }
-
--- what is taken away at one machine leaves enough at another
-pub enough_apart : (width at other r : ℕ) (amount : ℕ → ℕ) (low high : List ℕ) (least : ℕ) → at ≢ other → r < width →
-    HasMoreAt width at amount low high → least ≤ cell width high other r → least ≤ cell width low other r
-enough_apart width at other r amount low high least apart column more enough =
-    let f = ne_eqb at other apart in let g = rw f at (more.each other r column) in omega (arith, g, enough)
-
 -- the first process, and one more
 
-pub counted_none : (d : Drafted) (cells : ℕ) (loads : Loads) → loads.used.items ≡ replicate cells 0 →
+pub counted_none : {d : Drafted} {cells : ℕ} {loads : Loads} → loads.used.items ≡ replicate cells 0 →
     loads.between.items ≡ replicate cells 0 → cells ≡ machine_count d.origin * resource_count d.origin →
     HasCounted d 0 loads
-counted_none d cells loads used between grid = record {
+counted_none {d} {cells} {loads} used between grid = record {
   used = tally_start (resource_count d.origin) cells (use_share (instance_of d)) d.current loads.used.items used;
   between = tally_start (resource_count d.origin) cells (transient_share (instance_of d) d.initial) d.current
       loads.between.items between;
-  used_grid = ap length used ∙ length-replicate cells 0 ∙ grid;
-  between_grid = ap length between ∙ length-replicate cells 0 ∙ grid;
+  used_grid = cc (length-replicate {A = ℕ} cells 0);
+  between_grid = cc (length-replicate {A = ℕ} cells 0);
 }
 
 shares_used : (i : Tables) (width p at : ℕ) (amount : ℕ → ℕ) (old new : List ℕ) →
@@ -184,7 +169,7 @@ shares_used : (i : Tables) (width p at : ℕ) (amount : ℕ → ℕ) (old new : 
     AddsShare width (use_share i) p at old new
 unfolding use_share
 shares_used i width p at amount old new is more = record {
-  each = λ m r w. more.each m r w ∙ ap (λ x. cell width old m r + cond (eqb at m) x 0) (is r w);
+  each = λ m r w. cc (more.each m r w, is r w);
 }
 
 shares_between : (i : Tables) (a0 : List Machine) (width p home at : ℕ) (amount : ℕ → ℕ) (old new : List ℕ) →
@@ -192,15 +177,14 @@ shares_between : (i : Tables) (a0 : List Machine) (width p home at : ℕ) (amoun
     HasMoreBetween width home at amount old new → AddsShare width (transient_share i a0) p at old new
 unfolding transient_share
 shares_between i a0 width p home at amount old new home_is is more = record {
-  each = λ m r w. more.each m r w ∙ ap (λ x. cell width old m r + cond (eqb home m || eqb at m) x 0) (is r w)
-      ∙ ap (λ x. cell width old m r + cond (eqb x m || eqb at m) (requirement_of i p r) 0) home_is;
+  each = λ m r w. cc (more.each m r w, is r w);
 }
 
-pub counted_more : (d : Drafted) (p home at : ℕ) (amount : ℕ → ℕ) (old new : Loads) → HasCounted d p old →
+pub counted_more : {d : Drafted} {p home at : ℕ} {old new : Loads} (amount : ℕ → ℕ) → HasCounted d p old →
     home ≡ machine_at d.initial p → at ≡ machine_at d.current p →
     ((r : ℕ) → r < resource_count d.origin → amount r ≡ requirement_of (instance_of d) p r) →
     HasMoreUse (resource_count d.origin) home at amount old new → HasCounted d (p + 1) new
-counted_more d p home at amount old new has home_is at_is is more = record {
+counted_more {d} {p} {home} {at} {old} {new} amount has home_is at_is is more = record {
   used = tally_next (resource_count d.origin) p at (use_share (instance_of d)) d.current old.used.items new.used.items
       at_is has.used (shares_used (instance_of d) (resource_count d.origin) p at amount old.used.items new.used.items is
       more.used);
@@ -224,8 +208,8 @@ between_below d n loads few small has =
     (transient_share_small (instance_of d) d.initial small) few has.between
 
 -- the row of a machine is within its table
-pub row_there : (machines width at size : ℕ) → size ≡ machines * width → at < machines → at * width + width ≤ size
-row_there machines width at size grid within = rw grid (grind arith)
+pub row_there : {size : ℕ} (machines width at : ℕ) → size ≡ machines * width → at < machines → at * width + width ≤ size
+row_there machines width at grid within = rw grid (grind arith)
 
 -- the cells of kept loads are the use of the definitions
 
@@ -239,56 +223,52 @@ transient_is : (d : Drafted) (m r : ℕ) → transient_of (instance_of d) d.init
 unfolding transient_of process_count with_process_rows
 transient_is d m r = refl
 
-pub use_kept : (d : Drafted) (loads : Loads) (m r : ℕ) → AreLoadsOf d loads → r < resource_count d.origin →
+pub use_kept : {d : Drafted} {loads : Loads} (m r : ℕ) → AreLoadsOf d loads → r < resource_count d.origin →
     cell (resource_count d.origin) loads.used.items m r ≡ use_of (instance_of d) d.current m r
-use_kept d loads m r are column = are.used.each m r column ∙ sym (use_is d m r)
+use_kept {d} m r are column = are.used.each m r column ∙ sym (use_is d m r)
 
-pub transient_kept : (d : Drafted) (loads : Loads) (m r : ℕ) → AreLoadsOf d loads → r < resource_count d.origin →
+pub transient_kept : {d : Drafted} {loads : Loads} (m r : ℕ) → AreLoadsOf d loads → r < resource_count d.origin →
     cell (resource_count d.origin) loads.between.items m r ≡ transient_of (instance_of d) d.initial d.current m r
-transient_kept d loads m r are column = are.between.each m r column ∙ sym (transient_is d m r)
+transient_kept {d} m r are column = are.between.each m r column ∙ sym (transient_is d m r)
 
 -- one process more, or one less
 
-used_share : (e : Drafted) (p at m r : ℕ) (amount : ℕ → ℕ) → at ≡ machine_at e.current p →
+used_share : {at : ℕ} (e : Drafted) (p m r : ℕ) (amount : ℕ → ℕ) → at ≡ machine_at e.current p →
     amount r ≡ requirement_of (instance_of e) p r → cond (eqb at m) (amount r) 0 ≡ cond (eqb (machine_at e.current p) m)
     (requirement_of (instance_of e) p r) 0
-used_share e p at m r amount at_is is =
-    ap (λ x. cond (eqb at m) x 0) is ∙ ap (λ x. cond (eqb x m) (requirement_of (instance_of e) p r) 0) at_is
+used_share e p m r amount at_is is =
+    cc
 
-between_share : (e : Drafted) (p home at m r : ℕ) (amount : ℕ → ℕ) → home ≡ machine_at e.initial p →
+between_share : {home at : ℕ} (e : Drafted) (p m r : ℕ) (amount : ℕ → ℕ) → home ≡ machine_at e.initial p →
     at ≡ machine_at e.current p → amount r ≡ requirement_of (instance_of e) p r →
     cond (eqb home m || eqb at m) (amount r) 0 ≡ cond (eqb (machine_at e.initial p) m || eqb (machine_at e.current p) m)
     (requirement_of (instance_of e) p r) 0
-between_share e p home at m r amount home_is at_is is = ap (λ x. cond (eqb home m || eqb at m) x 0) is
-    ∙ ap (λ x. cond (eqb x m || eqb at m) (requirement_of (instance_of e) p r) 0) home_is
-    ∙ ap (λ x. cond (eqb (machine_at e.initial p) m || eqb x m) (requirement_of (instance_of e) p r) 0) at_is
+between_share e p m r amount home_is at_is is = cc
 
-loads_from : (e : Drafted) (i : Tables) (loads : Loads) → e.origin ≡ i →
+loads_from : {e : Drafted} {i : Tables} {loads : Loads} → e.origin ≡ i →
     IsTally (resource_count i) (length e.rows) (use_share (instance_of e)) e.current loads.used.items →
     IsTally (resource_count i) (length e.rows) (transient_share (instance_of e) e.initial) e.current
     loads.between.items → IsGrid i loads.used.items → IsGrid i loads.between.items → AreLoadsOf e loads
-loads_from e i loads same used between used_grid between_grid = record {
-  used = subst (λ (j : Tables). IsTally (resource_count j) (length e.rows) (use_share (instance_of e)) e.current
-      loads.used.items) (sym same) used;
-  between = subst (λ (j : Tables). IsTally (resource_count j) (length e.rows)
-      (transient_share (instance_of e) e.initial) e.current loads.between.items) (sym same) between;
-  used_grid = subst (λ (j : Tables). IsGrid j loads.used.items) (sym same) used_grid;
-  between_grid = subst (λ (j : Tables). IsGrid j loads.between.items) (sym same) between_grid;
+loads_from same used between used_grid between_grid = record {
+  used = rw (← same) at used;
+  between = rw (← same) at between;
+  used_grid = rw (← same) at used_grid;
+  between_grid = rw (← same) at between_grid;
 }
 
-pub loads_more : (d e : Drafted) (p home at : ℕ) (amount : ℕ → ℕ) (low high : Loads) → AreLoadsOf d low →
+pub loads_more : {d e : Drafted} {p home : ℕ} {low high : Loads} (at : ℕ) (amount : ℕ → ℕ) → AreLoadsOf d low →
     OneMore d e p → home ≡ machine_at e.initial p → at ≡ machine_at e.current p →
     ((r : ℕ) → r < resource_count d.origin → amount r ≡ requirement_of (instance_of e) p r) →
     HasMoreUse (resource_count d.origin) home at amount low high → AreLoadsOf e high
-loads_more d e p home at amount low high are one home_is at_is is more = loads_from e d.origin high one.origin
+loads_more {e} {p} at amount are one home_is at_is is more = loads_from one.origin
     (record {
       each = λ m r w.
           omega (
             arith,
             more.used.each m r w,
-            use_kept d low m r are w,
-            used_share e p at m r amount at_is (is r w),
-            use_more d e p m r one w,
+            use_kept m r are w,
+            used_share e p m r amount at_is (is r w),
+            use_more m r one w,
             use_is e m r,
           );
     })
@@ -297,28 +277,28 @@ loads_more d e p home at amount low high are one home_is at_is is more = loads_f
           omega (
             arith,
             more.between.each m r w,
-            transient_kept d low m r are w,
-            between_share e p home at m r amount home_is at_is (is r w),
-            transient_more d e p m r one w,
+            transient_kept m r are w,
+            between_share e p m r amount home_is at_is (is r w),
+            transient_more m r one w,
             transient_is e m r,
           );
     })
     (more.used.same_length ∙ are.used_grid)
     (more.between.same_length ∙ are.between_grid)
 
-pub loads_less : (d e : Drafted) (p home at : ℕ) (amount : ℕ → ℕ) (low high : Loads) → AreLoadsOf e high →
+pub loads_less : {d e : Drafted} {p home at : ℕ} {low high : Loads} (amount : ℕ → ℕ) → AreLoadsOf e high →
     OneMore d e p → home ≡ machine_at e.initial p → at ≡ machine_at e.current p →
     ((r : ℕ) → r < resource_count e.origin → amount r ≡ requirement_of (instance_of e) p r) →
     HasMoreUse (resource_count e.origin) home at amount low high → AreLoadsOf d low
-loads_less d e p home at amount low high are one home_is at_is is more = loads_from d e.origin low (sym one.origin)
+loads_less {d} {e} {p} {at} amount are one home_is at_is is more = loads_from (sym one.origin)
     (record {
       each = λ m r w.
           omega (
             arith,
             more.used.each m r w,
-            use_kept e high m r are w,
-            used_share e p at m r amount at_is (is r w),
-            use_more d e p m r one (column r w),
+            use_kept m r are w,
+            used_share e p m r amount at_is (is r w),
+            use_more m r one (column r w),
             use_is d m r,
           );
     })
@@ -327,9 +307,9 @@ loads_less d e p home at amount low high are one home_is at_is is more = loads_f
           omega (
             arith,
             more.between.each m r w,
-            transient_kept e high m r are w,
-            between_share e p home at m r amount home_is at_is (is r w),
-            transient_more d e p m r one (column r w),
+            transient_kept m r are w,
+            between_share e p m r amount home_is at_is (is r w),
+            transient_more m r one (column r w),
             transient_is d m r,
           );
     })
@@ -337,169 +317,144 @@ loads_less d e p home at amount low high are one home_is at_is is more = loads_f
     (sym more.between.same_length ∙ are.between_grid)
   where
     column : (r : ℕ) → r < resource_count e.origin → r < resource_count d.origin
-    column r w = subst (λ (i : Tables). r < resource_count i) one.origin w
+    column r w = rw one.origin at w
 
 -- what a process requires is counted where it is, and where it was
 
-pub used_enough : (d e : Drafted) (p r : ℕ) (loads : Loads) → AreLoadsOf e loads → OneMore d e p →
+pub used_enough : {d e : Drafted} {p : ℕ} {loads : Loads} (r : ℕ) → AreLoadsOf e loads → OneMore d e p →
     r < resource_count e.origin → requirement_of (instance_of e) p r ≤ cell (resource_count e.origin) loads.used.items
     (machine_at e.current p) r
-used_enough d e p r loads are one w =
-    let more = use_more d e p (machine_at e.current p) r one
-    (subst (λ (i : Tables). r < resource_count i) one.origin w) in
-    let here = eq-eqb (machine_at e.current p) (machine_at e.current p) refl in
-    let all = rw here at more in
-    omega (arith, use_kept e loads (machine_at e.current p) r are w, all)
+used_enough {e} {p} r are one w =
+    omega (
+      arith,
+      use_kept (machine_at e.current p) r are w,
+      rw (eq-eqb (machine_at e.current p) (machine_at e.current p) refl) at (use_more (machine_at e.current p) r one
+          (rw one.origin at w)),
+    )
 
-pub between_enough : (d e : Drafted) (p m r : ℕ) (loads : Loads) → AreLoadsOf e loads → OneMore d e p →
+pub between_enough : {d e : Drafted} {p : ℕ} {loads : Loads} (m r : ℕ) → AreLoadsOf e loads → OneMore d e p →
     r < resource_count e.origin → (eqb (machine_at e.initial p) m || eqb (machine_at e.current p) m) ≡ true →
     requirement_of (instance_of e) p r ≤ cell (resource_count e.origin) loads.between.items m r
-between_enough d e p m r loads are one w there =
-    let more = transient_more d e p m r one (subst (λ (i : Tables). r < resource_count i) one.origin w) in
-    let all = rw there at more in
-    omega (arith, transient_kept e loads m r are w, all)
+between_enough m r are one w there =
+    omega (arith, transient_kept m r are w, rw there at (transient_more m r one (rw one.origin at w)))
 
 -- what a process requires at a row that was read
 
-pub go_used : (d e : Drafted) (p at r : ℕ) (amounts : List ℕ) (loads : Loads) → AreLoadsOf e loads → OneMore d e p →
-    at ≡ machine_at e.current p → Asks e p amounts → r < resource_count e.origin →
-    slice_index amounts r ≤ cell (resource_count e.origin) loads.used.items at r
-go_used d e p at r amounts loads are one is asks w =
-    rw is (omega (arith, asks.each r w, used_enough d e p r loads are one w))
-
-pub go_between : (d e : Drafted) (p m r : ℕ) (amounts : List ℕ) (loads : Loads) → AreLoadsOf e loads → OneMore d e p →
-    IsThere e p m → Asks e p amounts → r < resource_count e.origin →
-    slice_index amounts r ≤ cell (resource_count e.origin) loads.between.items m r
-go_between d e p m r amounts loads are one there asks w =
-    omega (arith, asks.each r w, between_enough d e p m r loads are one w there)
-
 -- the row of a machine
 
-pub use_row_kept : (d : Drafted) (i : Tables) (loads : Loads) (m : ℕ) (row : List ℕ) → d.origin ≡ i →
+pub use_row_kept : {d : Drafted} {i : Tables} {loads : Loads} {row : List ℕ} (m : ℕ) → d.origin ≡ i →
     AreLoadsOf d loads → length row ≡ resource_count i →
     ((r : ℕ) → r < resource_count i → slice_index row r ≡ cell (resource_count i) loads.used.items m r) →
     IsUseRow d m row
-use_row_kept d i loads m row same are wide each = record {
-  one_each = wide ∙ ap resource_count (sym same);
-  each = λ r w. each r (subst (λ (j : Tables). r < resource_count j) same w)
-      ∙ ap (λ (j : Tables). cell (resource_count j) loads.used.items m r) (sym same) ∙ use_kept d loads m r are w;
+use_row_kept m same are wide each = record {
+  one_each = cc;
+  each = λ r w. cc (each r (rw same at w), use_kept m r are w);
 }
 
-pub transient_row_kept : (d : Drafted) (i : Tables) (loads : Loads) (m : ℕ) (row : List ℕ) → d.origin ≡ i →
+pub transient_row_kept : {d : Drafted} {i : Tables} {loads : Loads} {row : List ℕ} (m : ℕ) → d.origin ≡ i →
     AreLoadsOf d loads → length row ≡ resource_count i →
     ((r : ℕ) → r < resource_count i → slice_index row r ≡ cell (resource_count i) loads.between.items m r) →
     IsTransientRowOfDraft d m row
-transient_row_kept d i loads m row same are wide each = record {
-  one_each = wide ∙ ap resource_count (sym same);
-  each = λ r w. each r (subst (λ (j : Tables). r < resource_count j) same w)
-      ∙ ap (λ (j : Tables). cell (resource_count j) loads.between.items m r) (sym same)
-      ∙ transient_kept d loads m r are w;
+transient_row_kept m same are wide each = record {
+  one_each = cc;
+  each = λ r w. cc (each r (rw same at w), transient_kept m r are w);
 }
 
-pub use_row_small : (d : Drafted) (m r : ℕ) (row : List ℕ) → WellFormed (instance_of d) → Small (instance_of d) →
-    IsUseRow d m row → r < resource_count d.origin → slice_index row r < 2 ^ 48
-use_row_small d m r row well small is w = omega (arith, is.each r w, use_under (instance_of d) d.current m r well small)
+pub row_small : {d : Drafted} {f : ℕ → ℕ} {row : List ℕ} → IsRowOf d f row → ((r : ℕ) → f r < 2 ^ 48) →
+    (r : ℕ) → r < length row → slice_index row r < 2 ^ 63
+row_small is small r w = omega (arith, is.each r (omega (arith, w, is.one_each)), small r)
 
-pub transient_row_small : (d : Drafted) (m r : ℕ) (row : List ℕ) → WellFormed (instance_of d) → Small (instance_of d) →
-    IsTransientRowOfDraft d m row → r < resource_count d.origin → slice_index row r < 2 ^ 48
-transient_row_small d m r row well small is w =
-    omega (arith, is.each r w, transient_under (instance_of d) d.initial d.current m r well small)
+-- process p of the second draft, which has it in addition, uses what it requires
+pub record HasStep (d e : Drafted) (p : ℕ) (f g : ℕ → ℕ) : Type 0 where
+  pub one : OneMore d e p
+  pub each : (r : ℕ) → r < resource_count d.origin → g r ≡ f r + requirement_of (instance_of e) p r
 
--- the row of a machine with a process more
-
-pub use_row_more : (d e : Drafted) (p m : ℕ) (row sums amounts : List ℕ) → OneMore d e p → machine_at e.current p ≡ m →
-    IsUseRow d m row → Asks e p amounts → length sums ≡ length row →
-    ((r : ℕ) → r < length row → slice_index sums r ≡ slice_index row r + slice_index amounts r) → IsUseRow e m sums
-use_row_more d e p m row sums amounts one here is asks wide sums_are = record {
-  one_each = wide ∙ is.one_each ∙ ap resource_count (sym one.origin);
-  each = λ r w.
-      let c : r < resource_count d.origin = subst (λ (i : Tables). r < resource_count i) one.origin w in
-      let more = rw (eq-eqb (machine_at e.current p) m here) at (use_more d e p m r one c) in
-      omega (arith, sums_are r (omega (arith, c, is.one_each)), is.each r c, asks.each r w, more);
+pub use_step : {d e : Drafted} {p m : ℕ} → OneMore d e p → machine_at e.current p ≡ m →
+    HasStep d e p (use_of (instance_of d) d.current m) (use_of (instance_of e) e.current m)
+use_step {e} {p} {m} one here = record {
+  one = one;
+  each = λ r c. rw (eq-eqb (machine_at e.current p) m here) at (use_more m r one c);
 }
 
-pub transient_row_more : (d e : Drafted) (p m : ℕ) (row sums amounts : List ℕ) → OneMore d e p → IsThere e p m →
-    IsTransientRowOfDraft d m row → Asks e p amounts → length sums ≡ length row →
-    ((r : ℕ) → r < length row → slice_index sums r ≡ slice_index row r + slice_index amounts r) →
-    IsTransientRowOfDraft e m sums
-transient_row_more d e p m row sums amounts one there is asks wide sums_are = record {
-  one_each = wide ∙ is.one_each ∙ ap resource_count (sym one.origin);
+pub transient_step : {d e : Drafted} {p : ℕ} (m : ℕ) → OneMore d e p → IsThere e p m →
+    HasStep d e p (transient_of (instance_of d) d.initial d.current m) (transient_of
+    (instance_of e) e.initial e.current m)
+transient_step m one there = record { one = one; each = λ r c. rw there at (transient_more m r one c) }
+
+pub there_first : {m : ℕ} (d : Drafted) (p : ℕ) → m ≡ machine_at d.initial p → IsThere d p m
+there_first {m} d p home = or_left _ _ (eq-eqb (machine_at d.initial p) m (sym home))
+
+pub there_now : {m : ℕ} (d : Drafted) (p : ℕ) → m ≡ machine_at d.current p → IsThere d p m
+there_now {m} d p here = or_right _ _ (eq-eqb (machine_at d.current p) m (sym here))
+
+-- a row with a process more, with a process less, and with other requirements of a process
+
+pub row_more : {d e : Drafted} {p : ℕ} {f g : ℕ → ℕ} {row sums amounts : List ℕ} → HasStep d e p f g →
+    IsRowOf d f row → Asks e p amounts → length sums ≡ length row →
+    ((r : ℕ) → r < length row → slice_index sums r ≡ slice_index row r + slice_index amounts r) → IsRowOf e g sums
+row_more step is asks wide sums_are = record {
+  one_each = cc (is.one_each, step.one.origin);
   each = λ r w.
-      let c : r < resource_count d.origin = subst (λ (i : Tables). r < resource_count i) one.origin w in
-      let more = rw there at (transient_more d e p m r one c) in
-      omega (arith, sums_are r (omega (arith, c, is.one_each)), is.each r c, asks.each r w, more);
+      let c = rw step.one.origin at w in
+      omega (arith, sums_are r (omega (arith, c, is.one_each)), is.each r c, asks.each r w, step.each r c);
+}
+
+pub row_less : {d e : Drafted} {p : ℕ} {f g : ℕ → ℕ} {row rests amounts : List ℕ} → HasStep d e p f g →
+    IsRowOf e g row → Asks e p amounts → length rests ≡ length row →
+    ((r : ℕ) → r < length row → slice_index rests r + slice_index amounts r ≡ slice_index row r) → IsRowOf d f rests
+row_less step is asks wide rests_are = record {
+  one_each = cc (is.one_each, step.one.origin);
+  each = λ r w.
+      let c = rw (← step.one.origin) at w in
+      omega (arith, rests_are r (omega (arith, c, is.one_each)), is.each r c, asks.each r c, step.each r w);
+}
+
+pub row_other : {low d e : Drafted} {p : ℕ} {f g h : ℕ → ℕ} {row sums was asked : List ℕ} → HasStep low d p f g →
+    HasStep low e p f h → IsRowOf d g row → Asks d p was → Asks e p asked → length sums ≡ length row →
+    ((r : ℕ) → r < length row → slice_index sums r + slice_index was r ≡ slice_index row r + slice_index asked r) →
+    IsRowOf e h sums
+row_other before after is was_asks asks wide sums_are = record {
+  one_each = cc (is.one_each, before.one.origin, after.one.origin);
+  each = λ r w.
+      let low = rw after.one.origin at w in
+      let c = rw (← before.one.origin) at low in
+      omega (
+        arith,
+        sums_are r (omega (arith, c, is.one_each)),
+        is.each r c,
+        was_asks.each r c,
+        asks.each r w,
+        before.each r low,
+        after.each r low,
+      );
 }
 
 -- the row of a machine of a process has what it requires
+pub row_enough : {d e : Drafted} {p : ℕ} {f g : ℕ → ℕ} {row amounts : List ℕ} → HasStep d e p f g →
+    IsRowOf e g row → Asks e p amounts → (r : ℕ) → r < length row → slice_index amounts r ≤ slice_index row r
+row_enough step is asks r w =
+    let c = rw is.one_each at w in
+    omega (arith, is.each r c, asks.each r c, step.each r (rw step.one.origin at c))
 
-pub use_row_enough : (d e : Drafted) (p m r : ℕ) (row amounts : List ℕ) → OneMore d e p → machine_at e.current p ≡ m →
-    IsUseRow e m row → Asks e p amounts → r < resource_count e.origin → slice_index amounts r ≤ slice_index row r
-use_row_enough d e p m r row amounts one here is asks w =
-    let more = rw (eq-eqb (machine_at e.current p) m here) at
-    (use_more d e p m r one (subst (λ (i : Tables). r < resource_count i) one.origin w)) in
-    omega (arith, is.each r w, asks.each r w, more)
-
-pub transient_row_enough : (d e : Drafted) (p m r : ℕ) (row amounts : List ℕ) → OneMore d e p → IsThere e p m →
-    IsTransientRowOfDraft e m row → Asks e p amounts → r < resource_count e.origin →
-    slice_index amounts r ≤ slice_index row r
-transient_row_enough d e p m r row amounts one there is asks w =
-    let more = rw there at (transient_more d e p m r one (subst (λ (i : Tables). r < resource_count i) one.origin w)) in
-    omega (arith, is.each r w, asks.each r w, more)
-
-pub use_row_less : (d e : Drafted) (p m : ℕ) (row rests amounts : List ℕ) → OneMore d e p → machine_at e.current p ≡ m →
-    IsUseRow e m row → Asks e p amounts → length rests ≡ length row →
-    ((r : ℕ) → r < length row → slice_index rests r + slice_index amounts r ≡ slice_index row r) → IsUseRow d m rests
-use_row_less d e p m row rests amounts one here is asks wide rests_are = record {
-  one_each = wide ∙ is.one_each ∙ ap resource_count one.origin;
-  each = λ r w.
-      let c : r < resource_count e.origin = subst (λ (i : Tables). r < resource_count i) (sym one.origin) w in
-      let more = rw (eq-eqb (machine_at e.current p) m here) at (use_more d e p m r one w) in
-      omega (arith, rests_are r (omega (arith, c, is.one_each)), is.each r c, asks.each r c, more);
+-- without a process no more is used than the draft may use
+pub used_below_less : {d e : Drafted} {p : ℕ} {loads : Loads} → AreLoadsOf d loads → OneMore d e p →
+    WellFormed (instance_of e) → Small (instance_of e) → IsBelow (resource_count d.origin) (2 ^ 62) loads.used.items
+used_below_less {e} are one well small = record {
+  each = λ m r w.
+      omega (arith, use_kept m r are w, use_more m r one w, use_under (instance_of e) e.current m r well small);
 }
 
-pub transient_row_less : (d e : Drafted) (p m : ℕ) (row rests amounts : List ℕ) → OneMore d e p → IsThere e p m →
-    IsTransientRowOfDraft e m row → Asks e p amounts → length rests ≡ length row →
-    ((r : ℕ) → r < length row → slice_index rests r + slice_index amounts r ≡ slice_index row r) →
-    IsTransientRowOfDraft d m rests
-transient_row_less d e p m row rests amounts one there is asks wide rests_are = record {
-  one_each = wide ∙ is.one_each ∙ ap resource_count one.origin;
-  each = λ r w.
-      let c : r < resource_count e.origin = subst (λ (i : Tables). r < resource_count i) (sym one.origin) w in
-      let more = rw there at (transient_more d e p m r one w) in
-      omega (arith, rests_are r (omega (arith, c, is.one_each)), is.each r c, asks.each r c, more);
+pub between_below_less : {d e : Drafted} {p : ℕ} {loads : Loads} → AreLoadsOf d loads → OneMore d e p →
+    WellFormed (instance_of e) → Small (instance_of e) → IsBelow (resource_count d.origin) (2 ^ 62) loads.between.items
+between_below_less {e} are one well small = record {
+  each = λ m r w.
+      omega (
+        arith,
+        transient_kept m r are w,
+        transient_more m r one w,
+        transient_under (instance_of e) e.initial e.current m r well small,
+      );
 }
-
--- a table that has less is below the same bound
-pub used_less : (width at : ℕ) (amount : ℕ → ℕ) (low high : List ℕ) (bound : ℕ) → IsBelow width bound high →
-    HasMoreAt width at amount low high → IsBelow width bound low
-used_less width at amount low high bound below more = record {
-  each = λ m r w. omega (arith, below.each m r w, more.each m r w);
-}
-
-pub between_less : (width home at : ℕ) (amount : ℕ → ℕ) (low high : List ℕ) (bound : ℕ) → IsBelow width bound high →
-    HasMoreBetween width home at amount low high → IsBelow width bound low
-between_less width home at amount low high bound below more = record {
-  each = λ m r w. omega (arith, below.each m r w, more.each m r w);
-}
-
--- of a process less there is less
-pub use_less_small : (d e : Drafted) (p m r : ℕ) (row : List ℕ) → OneMore d e p → WellFormed (instance_of e) →
-    Small (instance_of e) → IsUseRow d m row → r < resource_count e.origin → slice_index row r < 2 ^ 63
-use_less_small d e p m r row one well small is w =
-    let c : r < resource_count d.origin = subst (λ (i : Tables). r < resource_count i) one.origin w in
-    omega (arith, is.each r c, use_more d e p m r one c, use_under (instance_of e) e.current m r well small)
-
-pub transient_less_small : (d e : Drafted) (p m r : ℕ) (row : List ℕ) → OneMore d e p → WellFormed (instance_of e) →
-    Small (instance_of e) → IsTransientRowOfDraft d m row → r < resource_count e.origin → slice_index row r < 2 ^ 63
-transient_less_small d e p m r row one well small is w =
-    let c : r < resource_count d.origin = subst (λ (i : Tables). r < resource_count i) one.origin w in
-    omega (
-      arith,
-      is.each r c,
-      transient_more d e p m r one c,
-      transient_under (instance_of e) e.initial e.current m r
-          well small,
-    )
 
 -- one number more at the end of a row
 pub each_pushed : (P : ℕ → ℕ → Type 0) (xs next : List ℕ) (x r : ℕ) → length xs ≡ r → next ≡ xs ++ x ∷ [] →
@@ -508,6 +463,5 @@ each_pushed P xs next x r size is each here k below = rw is (⊎_elim
     (λ (before : k < r). subst (P k) (sym (get_or_append_left xs (x ∷ []) 0 k (omega (arith, size, before))))
     (each k before))
     (λ (last : r ≤ k). let e : k ≡ length xs = omega (arith, size, last, below) in
-    subst (λ n. P n (get_or (xs ++ x ∷ []) n 0)) (sym e)
-    (subst (P (length xs)) (sym (get_or-append_seam xs x [] 0)) (rw size here)))
+    rw (← e) at (subst (P (length xs)) (sym (get_or-append_seam xs x [] 0)) (rw size here)))
     (cases_lt k r))

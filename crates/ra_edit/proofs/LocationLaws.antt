@@ -1,6 +1,6 @@
 -- At how many labels a service is counted, as processes come and go.
 use Rattle.std.proofs.Common.{◌≡◌, ◌≢◌, ℕ, zero, suc, ◌+◌, ◌^◌, ◌<◌, ◌≤◌, Bool, true, false, ltb}
-use Rattle.std.proofs.Common.{length, slice_index, set, refl, sym, ap, ◌∙◌, ⊎_elim, arith, eq-eqb, ne_eqb}
+use Rattle.std.proofs.Common.{slice_index, set, refl, sym, ap, ◌∙◌, ⊎_elim, arith, eq-eqb, ne_eqb}
 use Rattle.std.proofs.Common.{get_or-set_same, get_or-set_other, length-set, replicate}
 use Rattle.std.proofs.lemmas.Bool.{cases_eq, lt-ltb, le-ltb}
 use Rattle.std.proofs.lemmas.List.{length-replicate, get_or-replicate}
@@ -26,31 +26,28 @@ labels_change : (low high : Counts) (s x : ℕ) → x < 2 ^ 32 → HasOneAt s x 
 labels_change low high s x small one =
     let changed = count_change (2 ^ 32) x (λ y. ltb 0 (count_in high s y)) (λ y. ltb 0 (count_in low s y)) small
     (λ y within apart. ap (ltb 0) (count_away low high s x y one apart)) in
-    let some = ap one_if (lt-ltb 0 (count_in high s x) (omega (arith, count_here low high s x one))) in
-    omega (arith, changed, some)
+    omega (arith, changed, ap one_if (lt-ltb 0 (count_in high s x) (omega (arith, count_here low high s x one))))
 
 pub labels_first : (low high : Counts) (s x : ℕ) → x < 2 ^ 32 → HasOneAt s x low high → count_in low s x ≡ 0 →
     labels_in high s ≡ labels_in low s + 1
 labels_first low high s x small one none =
-    let before = ap one_if (le-ltb 0 (count_in low s x) (omega (arith, none))) in
-    omega (arith, labels_change low high s x small one, before)
-
-labels_again : (low high : Counts) (s x : ℕ) → x < 2 ^ 32 → HasOneAt s x low high → 0 < count_in low s x →
-    labels_in high s ≡ labels_in low s
-labels_again low high s x small one some =
-    let before = ap one_if (lt-ltb 0 (count_in low s x) some) in
-    omega (arith, labels_change low high s x small one, before)
+    omega (arith, labels_change low high s x small one, ap one_if (le-ltb 0 (count_in low s x) (omega (arith, none))))
 
 pub labels_other : (low high : Counts) (s x t : ℕ) → HasOneAt s x low high → t ≢ s →
     labels_in high t ≡ labels_in low t
 labels_other low high s x t one apart =
     count_same (2 ^ 32) (λ y. ltb 0 (count_in high t y)) (λ y. ltb 0 (count_in low t y))
-    (λ y within. ap (ltb 0) (let h = rw (ne_eqb s t (λ same. apart (sym same))) at (one t y) in omega (arith, h)))
+    (λ y within. ap (ltb 0) (omega (arith, rw (ne_eqb s t (λ same. apart (sym same))) at (one t y))))
 
 pub labels_still : (low high : Counts) (s x : ℕ) → x < 2 ^ 32 → HasOneAt s x low high → 0 < count_in low s x → (t : ℕ) →
     labels_in high t ≡ labels_in low t
 labels_still low high s x small one some t = ⊎_elim
-    (λ (here : t ≡ s). rw here (labels_again low high s x small one some))
+    (λ (here : t ≡ s). rw here (omega (
+      arith,
+      labels_change low high s x small one,
+      ap one_if (lt-ltb 0
+          (count_in low s x) some),
+    )))
     (λ (apart : t ≢ s). labels_other low high s x t one apart)
     (cases_eq t s)
 
@@ -84,27 +81,27 @@ labels_few (suc n) size f at within none =
 
 -- the numbers kept
 
-pub numbered_none : (services : ℕ) (locations : Locations) → locations.numbers.items ≡ replicate services 0 →
+pub numbered_none : {services : ℕ} {locations : Locations} → locations.numbers.items ≡ replicate services 0 →
     ((s x : ℕ) → count_in locations.counts s x ≡ 0) → AreNumbered services locations
-numbered_none services locations zeros counts = record {
-  one_each = ap length zeros ∙ length-replicate services 0;
+numbered_none {services} {locations} zeros counts = record {
+  one_each = cc (length-replicate {A = ℕ} services 0);
   each = λ s s_in. ap (λ xs. slice_index xs s) zeros ∙ get_or-replicate services s 0 0 s_in
       ∙ sym (count_zero (2 ^ 32) (λ y. ltb 0 (count_in locations.counts s y)) (λ y within. ap (ltb 0) (counts s y)));
 }
 
-pub numbered_kept : (services : ℕ) (old new : Locations) → AreNumbered services old →
+pub numbered_kept : {services : ℕ} {old new : Locations} → AreNumbered services old →
     new.numbers.items ≡ old.numbers.items → ((t : ℕ) → labels_in new.counts t ≡ labels_in old.counts t) →
     AreNumbered services new
-numbered_kept services old new has same labels = record {
-  one_each = ap length same ∙ has.one_each;
-  each = λ t t_in. ap (λ xs. slice_index xs t) same ∙ has.each t t_in ∙ sym (labels t);
+numbered_kept has same labels = record {
+  one_each = cc (has.one_each);
+  each = λ t t_in. cc (has.each t t_in, labels t);
 }
 
-pub numbered_written : (services s value : ℕ) (old new : Locations) → AreNumbered services old → s < services →
+pub numbered_written : {services : ℕ} {old new : Locations} (s value : ℕ) → AreNumbered services old → s < services →
     new.numbers.items ≡ set old.numbers.items s value → value ≡ labels_in new.counts s →
     ((t : ℕ) → t ≢ s → labels_in new.counts t ≡ labels_in old.counts t) → AreNumbered services new
-numbered_written services s value old new has s_in written value_is others = record {
-  one_each = ap length written ∙ length-set old.numbers.items s value ∙ has.one_each;
+numbered_written {old} s value has s_in written value_is others = record {
+  one_each = cc (length-set old.numbers.items s value, has.one_each);
   each = λ t t_in. ap (λ xs. slice_index xs t) written ∙ ⊎_elim
       (λ (here : t ≡ s). rw here
       (get_or-set_same old.numbers.items s value 0 (omega (arith, s_in, has.one_each)) ∙ value_is))

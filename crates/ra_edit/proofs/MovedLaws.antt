@@ -28,10 +28,10 @@ use Rattle.ra_edit.proofs.VerdictLaws.{moved_same, renamed}
 -- at first
 
 -- of the first p processes at most p have moved
-pub moved_under : (i : Tables) (a0 a : List Machine) (p limit : ℕ) (counts : List ℕ) → p < limit →
+pub moved_under : {i : Tables} {a0 a : List Machine} {p limit : ℕ} {counts : List ℕ} → p < limit →
     HasMoved i a0 a p counts → AreBelow limit counts
 unfolding tally
-moved_under i a0 a p limit counts few has = record {
+moved_under {i} {a0} {a} {p} few has = record {
   each = λ s. omega (
     arith,
     has.each s,
@@ -40,60 +40,55 @@ moved_under i a0 a p limit counts few has = record {
   );
 }
 
-pub moved_counted : (d : Drafted) (moved : MovedCounts) →
+pub moved_counted : {d : Drafted} {moved : MovedCounts} →
     HasMoved (instance_of d) d.initial d.current (length d.rows) moved.counts →
     length moved.counts ≡ service_count d.origin → AreMovedOfDraft d moved
 unfolding moved_of members_at process_count with_process_rows
-moved_counted d moved has slots = record { one_each = slots; each = has.each }
+moved_counted has slots = record { one_each = slots; each = has.each }
 
 -- a new draft has the processes of its instance
-pub made_few : (d : Drafted) (i : Tables) (a0 a : List Machine) → d ≡ draft_of i a0 a → length d.rows ≤ process_count i
+pub made_few : {d : Drafted} (i : Tables) (a0 a : List Machine) → d ≡ draft_of i a0 a → length d.rows ≤ process_count i
 unfolding process_count
-made_few d i a0 a same = let size = ap (λ (e : Drafted). length e.rows) same in omega (arith, size)
+made_few i a0 a same = omega (arith, ap (λ (e : Drafted). length e.rows) same)
 
 -- a process that has gone
 
-gone_moved : (d e : Drafted) (p s t : ℕ) → HasGone d e p → s ≡ service_of (instance_of d) p →
+gone_moved : {d e : Drafted} {p s : ℕ} (t : ℕ) → HasGone d e p → s ≡ service_of (instance_of d) p →
     moved_of (instance_of d) d.initial d.current t ≡ moved_of (instance_of e) e.initial e.current t
     + one_if (eqb s t && cond (eqb (machine_at d.initial p) (machine_at d.current p)) false true)
-gone_moved d e p s t gone s_is = rw (← s_is) at (moved_more e d p t gone.fewer)
-
--- one that stayed on its initial machine changes no count
-pub gone_stays : (d e : Drafted) (p t : ℕ) → HasGone d e p → machine_at d.initial p ≡ machine_at d.current p →
-    moved_of (instance_of d) d.initial d.current t ≡ moved_of (instance_of e) e.initial e.current t
-gone_stays d e p t gone stays = moved_same e d p t gone.fewer stays
+gone_moved t gone s_is = rw (← s_is) at (moved_more t gone.fewer)
 
 -- one that had moved was counted for its service
-pub gone_counted : (d e : Drafted) (p s : ℕ) → HasGone d e p → s ≡ service_of (instance_of d) p →
+pub gone_counted : {d e : Drafted} {p s : ℕ} → HasGone d e p → s ≡ service_of (instance_of d) p →
     eqb (machine_at d.initial p) (machine_at d.current p) ≡ false →
     moved_of (instance_of d) d.initial d.current s ≡ moved_of (instance_of e) e.initial e.current s + 1
-gone_counted d e p s gone s_is moved = rw (eq-eqb s s refl, moved) at (gone_moved d e p s s gone s_is)
+gone_counted {s} gone s_is moved = rw (eq-eqb s s refl, moved) at (gone_moved s gone s_is)
 
-gone_apart : (d e : Drafted) (p s t : ℕ) → HasGone d e p → s ≡ service_of (instance_of d) p → t ≢ s →
+gone_apart : {d e : Drafted} {p s : ℕ} (t : ℕ) → HasGone d e p → s ≡ service_of (instance_of d) p → t ≢ s →
     moved_of (instance_of d) d.initial d.current t ≡ moved_of (instance_of e) e.initial e.current t
-gone_apart d e p s t gone s_is apart =
-    let more = rw (ne_eqb s t (λ same. apart (sym same))) at (gone_moved d e p s t gone s_is) in omega (arith, more)
+gone_apart {s} t gone s_is apart =
+    omega (arith, rw (ne_eqb s t (λ same. apart (sym same))) at (gone_moved t gone s_is))
 
 -- so its service has one less
-pub changed_one : (d e : Drafted) (p : ℕ) (c : MovedCount) (moved : MovedCounts) → AreMovedOfDraft d moved →
+pub changed_one : {d e : Drafted} {p : ℕ} {moved : MovedCounts} (c : MovedCount) → AreMovedOfDraft d moved →
     HasGone d e p → c.service.0 ≡ service_of (instance_of d) p →
     eqb (machine_at d.initial p) (machine_at d.current p) ≡ false → c.before ≡ get_or moved.counts c.service.0 0 →
     c.after ≡ c.before - 1 → (t : ℕ) → counted_after (Some c) (λ s. get_or moved.counts s 0) t ≡
     moved_of (instance_of e) e.initial e.current t
 unfolding counted_after
-changed_one d e p c moved are gone s_is apart before after t = ⊎_elim
+changed_one c are gone s_is apart before after t = ⊎_elim
     (λ (here : t ≡ c.service.0).
     rw (eq-eqb t c.service.0 here, here)
-    (omega (arith, after, before, are.each c.service.0, gone_counted d e p c.service.0 gone s_is apart)))
+    (omega (arith, after, before, are.each c.service.0, gone_counted gone s_is apart)))
     (λ (other : t ≢ c.service.0).
-    rw (ne_eqb t c.service.0 other) (are.each t ∙ gone_apart d e p c.service.0 t gone s_is other))
+    rw (ne_eqb t c.service.0 other) (are.each t ∙ gone_apart t gone s_is other))
     (cases_eq t c.service.0)
 
-pub changed_none : (d e : Drafted) (p : ℕ) (moved : MovedCounts) → AreMovedOfDraft d moved → HasGone d e p →
+pub changed_none : {d e : Drafted} {p : ℕ} {moved : MovedCounts} → AreMovedOfDraft d moved → HasGone d e p →
     machine_at d.initial p ≡ machine_at d.current p → (t : ℕ) → counted_after None (λ s. get_or moved.counts s 0) t ≡
     moved_of (instance_of e) e.initial e.current t
 unfolding counted_after
-changed_none d e p moved are gone stays t = are.each t ∙ gone_stays d e p t gone stays
+changed_none are gone stays t = are.each t ∙ (moved_same t gone.fewer stays)
 
 -- counts that are changed in their list
 replaced : (counts : List ℕ) (c : MovedCount) (s : ℕ) → c.service.0 < length counts →
@@ -107,24 +102,24 @@ replaced counts c s there = ⊎_elim
     rw (ne_eqb s c.service.0 apart) (get_or-set_other counts c.service.0 s c.after 0 apart))
     (cases_eq s c.service.0)
 
-slots_gone : (d e : Drafted) (p : ℕ) (moved : MovedCounts) → AreMovedOfDraft d moved → HasGone d e p →
+slots_gone : {d e : Drafted} {p : ℕ} {moved : MovedCounts} → AreMovedOfDraft d moved → HasGone d e p →
     length moved.counts ≡ service_count e.origin
-slots_gone d e p moved are gone = are.one_each ∙ ap service_count gone.fewer.origin
+slots_gone are gone = cc (are.one_each, gone.fewer.origin)
 
-pub followed_one : (d e : Drafted) (p : ℕ) (c : MovedCount) (moved new : MovedCounts) → AreMovedOfDraft d moved →
+pub followed_one : {d e : Drafted} {p : ℕ} {moved new : MovedCounts} (c : MovedCount) → AreMovedOfDraft d moved →
     HasGone d e p → c.service.0 < length moved.counts → new.counts ≡ set moved.counts c.service.0 c.after →
     ((t : ℕ) → counted_after (Some c) (λ s. get_or moved.counts s 0) t ≡
     moved_of (instance_of e) e.initial e.current t) → AreMovedOfDraft e new
-followed_one d e p c moved new are gone there made each = record {
-  one_each = ap length made ∙ length-set moved.counts c.service.0 c.after ∙ slots_gone d e p moved are gone;
-  each = λ s. ap (λ (xs : List ℕ). get_or xs s 0) made ∙ replaced moved.counts c s there ∙ each s;
+followed_one {moved} c are gone there made each = record {
+  one_each = cc (length-set moved.counts c.service.0 c.after, slots_gone are gone);
+  each = λ s. cc (replaced moved.counts c s there, each s);
 }
 
-pub followed_none : (d e : Drafted) (p : ℕ) (moved : MovedCounts) → AreMovedOfDraft d moved → HasGone d e p →
+pub followed_none : {d e : Drafted} {p : ℕ} {moved : MovedCounts} → AreMovedOfDraft d moved → HasGone d e p →
     ((t : ℕ) → counted_after None (λ s. get_or moved.counts s 0) t ≡
     moved_of (instance_of e) e.initial e.current t) → AreMovedOfDraft e moved
 unfolding counted_after
-followed_none d e p moved are gone each = record { one_each = slots_gone d e p moved are gone; each = each }
+followed_none are gone each = record { one_each = slots_gone are gone; each = each }
 
 -- the greatest count after the change is that of the definition
 pub cost_without : (d e : Drafted) (p : ℕ) (moved : MovedCounts) (change : Option MovedCount) (weight most : ℕ) →
@@ -138,17 +133,16 @@ cost_without d e p moved change weight most are gone each heavy most_is =
     ∙ greatest_same (length moved.counts) (counted_after change (λ s. get_or moved.counts s 0))
     (moved_of (instance_of e) e.initial e.current) (λ t h. each t)
     ∙ ap (λ n. greatest n (moved_of (instance_of e) e.initial e.current))
-    (slots_gone d e p moved are gone ∙ sym (services_from e e.origin refl)) in
-    let heavy_e : weight ≡ service_weight_of (instance_of e) = heavy ∙ ap service_weight_of gone.fewer.origin
-    ∙ sym (service_weight_in e) in
+    (slots_gone are gone ∙ sym (services_from e e.origin refl)) in
+    let heavy_e : weight ≡ service_weight_of (instance_of e) = cc (gone.fewer.origin, service_weight_in e) in
     rw (heavy_e, same) refl
 
 -- a process that has come hasn't moved
-pub followed_come : (d e : Drafted) (s m : ℕ) (moved : MovedCounts) → AreMovedOfDraft d moved → HasCome d e s m →
+pub followed_come : {d e : Drafted} {s m : ℕ} {moved : MovedCounts} → AreMovedOfDraft d moved → HasCome d e s m →
     AreMovedOfDraft e moved
-followed_come d e s m moved are come = record {
-  one_each = are.one_each ∙ ap service_count (sym come.more.origin);
-  each = λ t. are.each t ∙ sym (moved_same d e (length d.rows) t come.more (come.home ∙ sym come.here));
+followed_come are come = record {
+  one_each = cc (are.one_each, come.more.origin);
+  each = λ t. are.each t ∙ sym (moved_same t come.more (come.home ∙ sym come.here));
 }
 
 -- one that requires something else is where it was
@@ -157,12 +151,12 @@ moved_with : (t : ℕ) (i : Tables) (rows : List ProcessRow) (u v : List ℕ) (a
 unfolding with_process_rows moved_of members_at tally of_service is_of service_of process_row process_count
 moved_with t i rows u v a0 a = refl
 
-pub followed_other : (d e : Drafted) (p : ℕ) (moved : MovedCounts) → AreMovedOfDraft d moved → HasOther d e p →
+pub followed_other : {d e : Drafted} {p : ℕ} {moved : MovedCounts} → AreMovedOfDraft d moved → HasOther d e p →
     AreMovedOfDraft e moved
-followed_other d e p moved are other =
+followed_other {d} {e} are other =
     let origin : e.origin ≡ d.origin = other.after.origin ∙ sym other.before.origin in
     record {
-      one_each = are.one_each ∙ ap service_count (sym origin);
+      one_each = cc (are.one_each);
       each = λ t. are.each t ∙ renamed (λ i a0 a. moved_of i a0 a t) d e (moved_with t) origin other.rows other.initial
           other.current;
     }

@@ -1,5 +1,5 @@
 -- A row of a flat table, as it is read.
-use Rattle.std.proofs.Common.{◌≡◌, ℕ, ◌+◌, ◌-◌, ◌*◌, ◌<◌, ◌≤◌, List, length, get_or, sym, ap, ◌∙◌, arith, length-take}
+use Rattle.std.proofs.Common.{◌≡◌, ℕ, ◌+◌, ◌-◌, ◌*◌, ◌<◌, ◌≤◌, List, length, get_or, sym, ◌∙◌, arith, length-take}
 use Rattle.std.proofs.Common.{length-drop}
 use Rattle.std.proofs.lemmas.List.{get_or-take, get_or-drop}
 use Rattle.std.specs.List.{slice_range}
@@ -27,18 +27,17 @@ pub ruleset rows = (row_length, row_cell)
 
 -- the row of a process is within the table, and has what the process requires
 
-pub row_of_process : (d : Drafted) (p : ℕ) → IsSoundDraft d → p < length d.rows →
+pub row_of_process : {d : Drafted} (p : ℕ) → IsSoundDraft d → p < length d.rows →
     p * resource_count d.origin + resource_count d.origin ≤ length d.requirements
-row_of_process d p sound within =
-    let few = few_of d sound in omega (arith, few.table, row_within (length d.rows) (resource_count d.origin) p within)
+row_of_process {d} p sound within =
+    omega (arith, (few_of sound).table, row_within (length d.rows) (resource_count d.origin) p within)
 
-pub asks_read : (d : Drafted) (p : ℕ) (amounts : List ℕ) → IsSoundDraft d → p < length d.rows →
+pub asks_read : {d : Drafted} {p : ℕ} {amounts : List ℕ} → IsSoundDraft d → p < length d.rows →
     amounts ≡ slice_range d.requirements (p * resource_count d.origin)
     (p * resource_count d.origin + resource_count d.origin) → Asks d p amounts
-asks_read d p amounts sound within is =
+asks_read {d} {p} sound within is =
     let w = resource_count d.origin in
     record {
-      one_each = ap length is ∙ row_length w p d.requirements (row_of_process d p sound within);
-      each = λ r column. ap (λ (xs : List ℕ). get_or xs r 0) is ∙ row_cell w p r d.requirements column
-          ∙ sym (requirement_read d.origin d.rows d.requirements p r);
+      one_each = cc (row_length w p d.requirements (row_of_process p sound within));
+      each = λ r column. cc (row_cell w p r d.requirements column, requirement_read d.origin d.rows d.requirements p r);
     }

@@ -17,7 +17,7 @@ use Rattle.ra_model.specs.Services.{locations_of}
 use Rattle.ra_model.specs.Broken.{conflict_test, service_conflict, broken_conflict, spread_test, broken_spread, near_of}
 use Rattle.ra_model.specs.Broken.{far_test, dependency_test, pair_dependency, service_dependency, broken_dependency}
 use Rattle.ra_model.specs.Broken.{closed_test, broken_closed, first_broken}
-use Rattle.ra_model.proofs.BrokenLemmas.{fine_from_unbroken, Fine}
+use Rattle.ra_model.proofs.BrokenLemmas.{fine_from_unbroken}
 use Rattle.ra_edit.specs.Drafts.{with_process_rows, instance_of}
 use Rattle.ra_edit.specs.Touched.{resized_breaks}
 use Rattle.ra_edit.specs.Locality.{ResizesAreLocal}
@@ -73,20 +73,20 @@ shut_with i rows t u a0 a = refl
 pub resized_law : ResizesAreLocal
 unfolding first_broken resized_breaks
 resized_law low d e p home here more_d more_e rows initial current unbroken home_is here_is home_in here_in =
-    let fine : Fine (instance_of d) d.initial d.current =
+    let fine =
     fine_from_unbroken (instance_of d) d.initial d.current unbroken in
     let origin : e.origin ≡ d.origin = more_e.origin ∙ sym more_d.origin in
     let resources : resource_count d.origin ≡ resource_count low.origin = ap resource_count more_d.origin in
     let machines : machine_count d.origin ≡ machine_count low.origin = ap machine_count more_d.origin in
-    let home_e : machine_at e.initial p ≡ home = ap (λ (a : List Machine). machine_at a p) initial ∙ home_is in
-    let here_e : machine_at e.current p ≡ here = ap (λ (a : List Machine). machine_at a p) current ∙ here_is in
+    let home_e : machine_at e.initial p ≡ home = cc in
+    let here_e : machine_at e.current p ≡ here = cc in
     let used : (k r : ℕ) → r < resource_count d.origin → k ≢ here → use_of (instance_of e) e.current k r ≤
     use_of (instance_of d) d.current k r = λ k r column apart.
     omega (
       arith,
-      use_elsewhere low d p k r more_d (omega (arith, resources, column))
+      use_elsewhere k r more_d (omega (arith, resources, column))
           (λ same. apart (sym same ∙ here_is)),
-      use_elsewhere low e p k r more_e (omega (arith, resources, column))
+      use_elsewhere k r more_e (omega (arith, resources, column))
           (λ same. apart (sym same ∙ here_e)),
     ) in
     let between : (k r : ℕ) → r < resource_count d.origin → k ≢ home → k ≢ here →
@@ -94,13 +94,13 @@ resized_law low d e p home here more_d more_e rows initial current unbroken home
     λ k r column first second.
     omega (
       arith,
-      transient_elsewhere low d p k r more_d (omega (arith, resources, column))
+      transient_elsewhere k r more_d (omega (arith, resources, column))
           (λ same. first (sym same ∙ home_is)) (λ same. second (sym same ∙ here_is)),
-      transient_elsewhere low e p k r more_e (omega (arith, resources, column))
+      transient_elsewhere k r more_e (omega (arith, resources, column))
           (λ same. first (sym same ∙ home_e)) (λ same. second (sym same ∙ here_e)),
     ) in
     let to_e : (f : Tables → List ProcessRow → Option Cause) → f e.origin e.rows ≡ f d.origin d.rows =
-    λ f. ap (λ (i : Tables). f i e.rows) origin ∙ ap (f d.origin) rows in
+    λ f. cc in
     let conflict : broken_conflict (instance_of e) e.current ≡ None =
     to_e (λ i xs. broken_conflict (with_process_rows i xs e.requirements) e.current)
     ∙ ap (broken_conflict (with_process_rows d.origin d.rows e.requirements)) current

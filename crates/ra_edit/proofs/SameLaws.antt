@@ -1,5 +1,5 @@
 -- Instances with the same lists are alike: they have the same first broken constraint and the same parts.
-use Rattle.std.proofs.Common.{◌≡◌, ℕ, ◌<◌, List, None, refl, sym, ap, ◌∙◌, subst}
+use Rattle.std.proofs.Common.{◌≡◌, ℕ, List, None, refl, sym, ap, ◌∙◌, subst}
 use Rattle.ra_base.specs.Searches.{first}
 use Rattle.ra_base.proofs.Searches.{first_same}
 use Rattle.ra_base.specs.declared.ids.Machine.{Machine}
@@ -18,7 +18,6 @@ use Rattle.ra_model.specs.Numbers.{load_weight_of, neighbourhood_of, location_of
 use Rattle.ra_model.specs.Numbers.{spread_of, dependency_end, dependency_start, dependency_count, need_at, need_of}
 use Rattle.ra_model.specs.Numbers.{service_of, requirement_of, process_cost_of, first_of, second_of, target_of}
 use Rattle.ra_model.specs.Numbers.{balance_weight_of, process_weight_of, service_weight_of, machine_weight_of}
-use Rattle.ra_model.specs.Numbers.{closed_at}
 use Rattle.ra_model.specs.Assignments.{IsAssignment, machine_at, tally}
 use Rattle.ra_model.specs.Usage.{use_share, use_of, transient_share, transient_of}
 use Rattle.ra_model.specs.Services.{is_of, of_service, members_at, on_machine, in_neighbourhood, in_location}
@@ -77,23 +76,13 @@ weights_same : (x y : RawInstance) → x.process_weight ≡ y.process_weight →
 unfolding weight_of
 weights_same x y e = small_same (weight_of x) (weight_of y) e
 
-service_weights_same : (x y : RawInstance) → x.service_weight ≡ y.service_weight →
-    service_weight_from x ≡ service_weight_from y
-unfolding service_weight_from
-service_weights_same x y e = small_same (service_weight_from x) (service_weight_from y) e
-
-machine_weights_same : (x y : RawInstance) → x.machine_weight ≡ y.machine_weight →
-    machine_weight_from x ≡ machine_weight_from y
-unfolding machine_weight_from
-machine_weights_same x y e = small_same (machine_weight_from x) (machine_weight_from y) e
-
-bare_same : (x y : RawInstance) → HasLists x y → bare x ≡ bare y
-unfolding bare
-bare_same x y h =
+bare_same : {x y : RawInstance} → HasLists x y → bare x ≡ bare y
+unfolding bare service_weight_from machine_weight_from
+bare_same {x} {y} h =
     rw (
       weights_same x y h.process_weight,
-      service_weights_same x y h.service_weight,
-      machine_weights_same x y h.machine_weight,
+      (small_same (service_weight_from x) (service_weight_from y) h.service_weight),
+      (small_same (machine_weight_from x) (machine_weight_from y) h.machine_weight),
       h.resources,
       h.machines,
       h.capacities,
@@ -151,19 +140,19 @@ unfolding bare bare_from parts_of objective load_cost load_part excess_on balanc
     service_weight_from machine_weight_from
 parts_bare i a0 a = refl
 
-to_bare : (i : Tables) → WellFormed i → WellFormed (bare i.raw)
+to_bare : {i : Tables} → WellFormed i → WellFormed (bare i.raw)
 unfolding bare bare_from process_count service_of process_row
-to_bare i h = well_formed_with i (bare i.raw) h h.some_process h.few_processes h.requirements h.services
+to_bare {i} h = well_formed_with i (bare i.raw) h h.some_process h.few_processes h.requirements h.services
 
-from_bare : (i : Tables) → WellFormed (bare i.raw) → WellFormed i
+from_bare : {i : Tables} → WellFormed (bare i.raw) → WellFormed i
 unfolding bare bare_from resource_count service_count process_count service_of process_row
-from_bare i h = well_formed_with (bare i.raw) i h h.some_process h.few_processes h.requirements h.services
+from_bare {i} h = well_formed_with (bare i.raw) i h h.some_process h.few_processes h.requirements h.services
 
 -- what holds of one of two instances with the same lists holds of the other
 
 along : {X : Type 0} (f : Tables → X) (i j : Tables) → ((k : Tables) → f (bare k.raw) ≡ f k) → HasLists j.raw i.raw →
     f j ≡ f i
-along f i j unchanged h = sym (unchanged j) ∙ ap f (bare_same j.raw i.raw h) ∙ unchanged i
+along f i j unchanged h = cc (unchanged j, bare_same h, unchanged i)
 
 pub same_machines : (i j : Tables) → HasLists j.raw i.raw → machine_count j ≡ machine_count i
 same_machines i j h = along machine_count i j machines_bare h
@@ -172,30 +161,25 @@ pub same_processes : (i j : Tables) → HasLists j.raw i.raw → process_count j
 same_processes i j h = along process_count i j processes_bare h
 
 pub same_well : (i j : Tables) → HasLists j.raw i.raw → WellFormed i → WellFormed j
-same_well i j h well = from_bare j (subst WellFormed (sym (bare_same j.raw i.raw h)) (to_bare i well))
+same_well i j h well = from_bare (subst WellFormed (sym (bare_same h)) (to_bare well))
 
 pub same_parts : (i j : Tables) (a0 a : List Machine) → HasLists j.raw i.raw → parts_of j a0 a ≡ parts_of i a0 a
 same_parts i j a0 a h = along (λ k. parts_of k a0 a) i j (λ k. parts_bare k a0 a) h
 
-pub same_fits : (i j : Tables) (a : List Machine) → HasLists j.raw i.raw → IsAssignment i a → IsAssignment j a
-same_fits i j a h fits = record {
+pub same_fits : {i : Tables} {a : List Machine} (j : Tables) → HasLists j.raw i.raw → IsAssignment i a →
+    IsAssignment j a
+same_fits {i} j h fits = record {
   one_each = fits.one_each ∙ sym (same_processes i j h);
-  in_range = λ p within. subst (λ n. machine_at a p < n) (sym (same_machines i j h))
-      (fits.in_range p (subst (λ n. p < n) (same_processes i j h) within));
+  in_range = λ p within. rw (← (same_machines i j h)) at (fits.in_range p (rw (same_processes i j h) at within));
 }
-
-closed_test_same : (i j : Tables) (a0 a : List Machine) (p : ℕ) →
-    closed_at j (machine_at a p) ≡ closed_at i (machine_at a p) → closed_test j a0 a p ≡ closed_test i a0 a p
-unfolding closed_test
-closed_test_same i j a0 a p e = rw e refl
 
 same_closed : (i j : Tables) (a0 a : List Machine) → AreSameLists i j → IsAssignment i a →
     broken_closed j a0 a ≡ broken_closed i a0 a
-unfolding broken_closed
+unfolding broken_closed closed_test
 same_closed i j a0 a h fits =
     ap (λ n. first n (closed_test j a0 a)) (same_processes i j h.lists)
     ∙ first_same (process_count i) (closed_test j a0 a) (closed_test i a0 a)
-    (λ p within. closed_test_same i j a0 a p (h.closed (machine_at a p) (fits.in_range p within)))
+    (λ p within. rw (h.closed (machine_at a p) (fits.in_range p within)) refl)
 
 pub same_broken : (i j : Tables) (a0 a : List Machine) → AreSameLists i j → IsAssignment i a →
     first_broken j a0 a ≡ first_broken i a0 a

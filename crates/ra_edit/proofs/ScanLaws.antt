@@ -1,6 +1,5 @@
 -- What is read of the lists of a draft.
-use Rattle.std.proofs.Common.{◌≡◌, ◌≢◌, ℕ, ◌+◌, ◌*◌, ◌^◌, ◌<◌, lit<, List, length, get_or, refl, sym, ap}
-use Rattle.std.proofs.Common.{◌∙◌, arith, eq-eqb, ne_eqb}
+use Rattle.std.proofs.Common.{◌≡◌, ◌≢◌, ℕ, ◌+◌, ◌*◌, ◌^◌, ◌<◌, lit<, List, length, get_or, refl, ne_eqb}
 use Rattle.ra_base.specs.Tables.{cell}
 use Rattle.ra_base.specs.declared.ids.Machine.{Machine}
 use Rattle.ra_model.specs.declared.raw.ProcessRow.{ProcessRow}
@@ -23,62 +22,58 @@ use Rattle.ra_edit.proofs.SoundLaws.{few_of, AreFew}
 use Rattle.ra_edit.proofs.OneMoreLaws.{row_read}
 
 pub few : (i : Tables) (l : Lists) → IsSoundDraft (drafted i l) → AreFew (drafted i l)
-few i l sound = few_of (drafted i l) sound
+few i l sound = few_of sound
 
 pub service_told : (i : Tables) (l : Lists) (p : ℕ) (row : ProcessRow) → p < length l.rows.items →
     row ≡ get_or l.rows.items p row → row.service.0 ≡ service_of (tables_with i l) p
 unfolding service_of
 service_told i l p row p_in read =
-    ap (λ (x : ProcessRow). x.service.0) (read ∙ sym (row_read i l.rows.items l.requirements.items p row p_in))
+    cc (row_read i l.rows.items l.requirements.items p row p_in)
 
-pub cost_told : (i : Tables) (l : Lists) (p : ℕ) (row : ProcessRow) → p < length l.rows.items →
+pub cost_told : {row : ProcessRow} (i : Tables) (l : Lists) (p : ℕ) → p < length l.rows.items →
     row ≡ get_or l.rows.items p row → row.move_cost ≡ process_cost_of (tables_with i l) p
 unfolding process_cost_of
-cost_told i l p row p_in read =
-    ap (λ (x : ProcessRow). x.move_cost) (read ∙ sym (row_read i l.rows.items l.requirements.items p row p_in))
+cost_told {row} i l p p_in read =
+    cc (row_read i l.rows.items l.requirements.items p row p_in)
 
 -- shares
 
-pub cost_stays : (i : Tables) (a0 : List Machine) (p at w : ℕ) → at ≡ machine_at a0 p → 0 ≡ w * process_share i a0 p at
-unfolding process_share
-cost_stays i a0 p at w same = sym (rw (eq-eqb at (machine_at a0 p) same) (grind arith))
-
-pub cost_moves : (i : Tables) (a0 : List Machine) (p at w weight cost : ℕ) → at ≢ machine_at a0 p → weight ≡ w →
+pub cost_moves : {w weight cost : ℕ} (i : Tables) (a0 : List Machine) (p at : ℕ) → at ≢ machine_at a0 p → weight ≡ w →
     cost ≡ process_cost_of i p → weight * cost ≡ w * process_share i a0 p at
 unfolding process_share
-cost_moves i a0 p at w weight cost apart weight_is cost_is =
+cost_moves i a0 p at apart weight_is cost_is =
     rw (ne_eqb at (machine_at a0 p) apart, weight_is, cost_is) refl
 
 -- counts at a spot are those of the definitions
 
-pub machine_told : (d : Drafted) (a : List Machine) (s n : ℕ) (m : Machine) →
+pub machine_told : {n : ℕ} (d : Drafted) (a : List Machine) (s : ℕ) (m : Machine) →
     n ≡ members_at (instance_of d) a s (is_there d.origin (OnMachine m)) → n ≡ on_machine (instance_of d) a s m.0
 unfolding on_machine
-machine_told d a s n m is = is
+machine_told d a s m is = is
 
-pub near_told : (d : Drafted) (a : List Machine) (s label n : ℕ) →
+pub near_told : {n : ℕ} (d : Drafted) (a : List Machine) (s label : ℕ) →
     n ≡ members_at (instance_of d) a s (is_there d.origin (InNeighbourhood label)) →
     n ≡ in_neighbourhood (instance_of d) a s label
 unfolding in_neighbourhood neighbourhood_of machine_row with_process_rows
-near_told d a s label n is = is
+near_told d a s label is = is
 
-pub location_told : (d : Drafted) (a : List Machine) (s label n : ℕ) →
+pub location_told : {n : ℕ} (d : Drafted) (a : List Machine) (s label : ℕ) →
     n ≡ members_at (instance_of d) a s (is_there d.origin (InLocation label)) →
     n ≡ in_location (instance_of d) a s label
 unfolding in_location location_of machine_row with_process_rows
-location_told d a s label n is = is
+location_told d a s label is = is
 
 pub ruleset readings = (few, service_told)
 
 -- numbers of other processes are small too
 
-pub small_with : (i : Tables) (rows : List ProcessRow) (requirements : List ℕ) → Small i →
+pub small_with : {i : Tables} (rows : List ProcessRow) (requirements : List ℕ) → Small i →
     ((k : ℕ) → get_or requirements k 0 < 2 ^ 32) → Small (with_process_rows i rows requirements)
 unfolding with_process_rows load_weight_of resource_row neighbourhood_of location_of machine_row capacity_of safety_of
     way_cost_of spread_of service_row dependency_end requirement_of process_cost_of process_row target_of
     balance_weight_of balance_row process_weight_of service_weight_of machine_weight_of resource_count machine_count
     cell
-small_with i rows requirements small each = record {
+small_with {i} rows requirements small each = record {
   load_weights = small.load_weights;
   neighbourhoods = small.neighbourhoods;
   locations = small.locations;

@@ -1,6 +1,6 @@
 -- What one process more adds to each sum over the processes.
 use Rattle.std.proofs.Common.{◌≡◌, ◌≢◌, ℕ, ◌+◌, ◌*◌, ◌^◌, ◌<◌, ◌≤◌, Bool, true, false, cond, eqb, ltb, ◌&&◌, ◌||◌, List}
-use Rattle.std.proofs.Common.{length, refl, sym, ap, ◌∙◌, arith, eq-eqb, ne_eqb}
+use Rattle.std.proofs.Common.{refl, sym, ap, ◌∙◌, arith, eq-eqb, ne_eqb}
 use Rattle.std.proofs.lemmas.Bool.{lt-ltb}
 use Rattle.ra_base.specs.Sums.{total, one_if}
 use Rattle.ra_base.proofs.Sums.{total_change, total_term}
@@ -49,176 +49,173 @@ unfolding with_process_rows row_balance balance_share balance_weight_of target_o
 row_balance_with i rows requirements m u = refl
 
 pub same_origin : (d e : Drafted) → e.origin ≡ d.origin → (f : Tables → ℕ) → f d.origin ≡ f e.origin
-same_origin d e origin f = ap f (sym origin)
+same_origin d e origin f = cc
 
 -- use
 
-pub use_more : (d e : Drafted) (p m r : ℕ) → OneMore d e p → r < resource_count d.origin →
+pub use_more : {d e : Drafted} {p : ℕ} (m r : ℕ) → OneMore d e p → r < resource_count d.origin →
     use_of (instance_of e) e.current m r ≡ use_of (instance_of d) d.current m r + cond (eqb (machine_at e.current p) m)
     (requirement_of (instance_of e) p r) 0
 unfolding use_of tally use_share process_count with_process_rows
-use_more d e p m r more column = more.sums
+use_more {d} {e} m r more column = more.sums
     (λ k. cond (eqb (machine_at d.current k) m) (requirement_of (instance_of d) k r) 0)
     (λ q. cond (eqb (machine_at e.current q) m) (requirement_of (instance_of e) q r) 0)
-    (λ k q k_in q_in same. ap (λ x. cond (eqb x m) (requirement_of (instance_of d) k r) 0) same.here
-    ∙ ap (λ x. cond (eqb (machine_at e.current q) m) x 0) (same.requirement r column))
+    (λ k q k_in q_in same. cc (same.here, same.requirement r column))
 
-pub transient_more : (d e : Drafted) (p m r : ℕ) → OneMore d e p → r < resource_count d.origin →
+pub transient_more : {d e : Drafted} {p : ℕ} (m r : ℕ) → OneMore d e p → r < resource_count d.origin →
     transient_of (instance_of e) e.initial e.current m r ≡ transient_of (instance_of d) d.initial d.current m r
     + cond (eqb (machine_at e.initial p) m || eqb (machine_at e.current p) m) (requirement_of (instance_of e) p r) 0
 unfolding transient_of tally transient_share process_count with_process_rows
-transient_more d e p m r more column = more.sums
+transient_more {d} {e} m r more column = more.sums
     (λ k. cond (eqb (machine_at d.initial k) m || eqb (machine_at d.current k) m) (requirement_of (instance_of d) k r)
     0)
     (λ q. cond (eqb (machine_at e.initial q) m || eqb (machine_at e.current q) m) (requirement_of (instance_of e) q r)
     0)
-    (λ k q k_in q_in same.
-    ap (λ x. cond (eqb (machine_at d.initial k) m || eqb x m) (requirement_of (instance_of d) k r) 0) same.here
-    ∙ ap (λ x. cond (eqb x m || eqb (machine_at e.current q) m) (requirement_of (instance_of d) k r) 0) same.home
-    ∙ ap (λ x. cond (eqb (machine_at e.initial q) m || eqb (machine_at e.current q) m) x 0) (same.requirement r column))
+    (λ k q k_in q_in same. cc (same.here, same.home, same.requirement r column))
 
 -- members
 
-pub members_more : (d e : Drafted) (p s : ℕ) (f g : ℕ → ℕ → Bool) → OneMore d e p →
+pub members_more : {d e : Drafted} {p : ℕ} (s : ℕ) (f g : ℕ → ℕ → Bool) → OneMore d e p →
     ((k q : ℕ) → IsSame d k e q → f k (machine_at d.current k) ≡ g q (machine_at e.current q)) →
     members_at (instance_of e) e.current s g ≡ members_at (instance_of d) d.current s f
     + one_if (eqb (service_of (instance_of e) p) s && g p (machine_at e.current p))
 unfolding members_at tally of_service is_of process_count with_process_rows
-members_more d e p s f g more tests = more.sums
+members_more {d} {e} s f g more tests = more.sums
     (λ k. one_if (eqb (service_of (instance_of d) k) s && f k (machine_at d.current k)))
     (λ q. one_if (eqb (service_of (instance_of e) q) s && g q (machine_at e.current q)))
-    (λ k q k_in q_in same. ap (λ x. one_if (eqb x s && f k (machine_at d.current k))) same.service
-    ∙ ap (λ t. one_if (eqb (service_of (instance_of e) q) s && t)) (tests k q same))
+    (λ k q k_in q_in same. cc (same.service, tests k q same))
 
-pub machine_more : (d e : Drafted) (p s m : ℕ) → OneMore d e p → on_machine (instance_of e) e.current s m ≡
+pub machine_more : {d e : Drafted} {p : ℕ} (s m : ℕ) → OneMore d e p → on_machine (instance_of e) e.current s m ≡
     on_machine (instance_of d) d.current s m
     + one_if (eqb (service_of (instance_of e) p) s && eqb (machine_at e.current p) m)
 unfolding on_machine
-machine_more d e p s m more =
-    members_more d e p s (λ k at. eqb at m) (λ k at. eqb at m) more (λ k q same. ap (λ x. eqb x m) same.here)
+machine_more s m more =
+    members_more s (λ k at. eqb at m) (λ k at. eqb at m) more (λ k q same. cc (same.here))
 
-pub neighbourhood_more : (d e : Drafted) (p s x : ℕ) → OneMore d e p → in_neighbourhood (instance_of e) e.current s x ≡
-    in_neighbourhood (instance_of d) d.current s x
+place_more : {d e : Drafted} {p : ℕ} (label : Tables → ℕ → ℕ) →
+    ((g : Drafted) (m : ℕ) → label (instance_of g) m ≡ label g.origin m) → (s x : ℕ) → OneMore d e p →
+    members_at (instance_of e) e.current s (λ k at. eqb (label (instance_of e) at) x) ≡
+    members_at (instance_of d) d.current s (λ k at. eqb (label (instance_of d) at) x)
+    + one_if (eqb (service_of (instance_of e) p) s && eqb (label d.origin (machine_at e.current p)) x)
+place_more {d} {e} {p} label same s x more = cc (
+  members_more s (λ k at. eqb (label (instance_of d) at) x) (λ k at. eqb (label (instance_of e) at) x) more
+      (λ k q alike. cc (
+        same d (machine_at d.current k),
+        alike.here,
+        more.origin,
+        same e (machine_at e.current q),
+      )),
+  same e (machine_at e.current p),
+  more.origin,
+)
+
+pub neighbourhood_more : {d e : Drafted} {p : ℕ} (s x : ℕ) → OneMore d e p →
+    in_neighbourhood (instance_of e) e.current s x ≡ in_neighbourhood (instance_of d) d.current s x
     + one_if (eqb (service_of (instance_of e) p) s && eqb (neighbourhood_of d.origin (machine_at e.current p)) x)
 unfolding in_neighbourhood
-neighbourhood_more d e p s x more =
-    let here : neighbourhood_of (instance_of e) (machine_at e.current p) ≡ neighbourhood_of d.origin
-    (machine_at e.current p) = neighbourhood_with e.origin e.rows e.requirements (machine_at e.current p)
-    ∙ ap (λ (i : Tables). neighbourhood_of i (machine_at e.current p)) more.origin in
-    members_more d e p s (λ k at. eqb (neighbourhood_of (instance_of d) at) x)
-    (λ k at. eqb (neighbourhood_of (instance_of e) at) x) more
-    (λ k q same. ap (λ y. eqb y x) (neighbourhood_with d.origin d.rows d.requirements (machine_at d.current k)
-    ∙ ap (neighbourhood_of d.origin) same.here
-    ∙ ap (λ (i : Tables). neighbourhood_of i (machine_at e.current q)) (sym more.origin)
-    ∙ sym (neighbourhood_with e.origin e.rows e.requirements (machine_at e.current q))))
-    ∙ ap (λ y. in_neighbourhood (instance_of d) d.current s x
-    + one_if (eqb (service_of (instance_of e) p) s && eqb y x)) here
+neighbourhood_more = place_more neighbourhood_of (λ g. neighbourhood_with g.origin g.rows g.requirements)
 
-pub location_more : (d e : Drafted) (p s x : ℕ) → OneMore d e p → in_location (instance_of e) e.current s x ≡
+pub location_more : {d e : Drafted} {p : ℕ} (s x : ℕ) → OneMore d e p → in_location (instance_of e) e.current s x ≡
     in_location (instance_of d) d.current s x
     + one_if (eqb (service_of (instance_of e) p) s && eqb (location_of d.origin (machine_at e.current p)) x)
 unfolding in_location
-location_more d e p s x more =
-    let here : location_of (instance_of e) (machine_at e.current p) ≡ location_of d.origin (machine_at e.current p) =
-    location_with e.origin e.rows e.requirements (machine_at e.current p)
-    ∙ ap (λ (i : Tables). location_of i (machine_at e.current p)) more.origin in
-    members_more d e p s (λ k at. eqb (location_of (instance_of d) at) x)
-    (λ k at. eqb (location_of (instance_of e) at) x) more
-    (λ k q same. ap (λ y. eqb y x) (location_with d.origin d.rows d.requirements (machine_at d.current k)
-    ∙ ap (location_of d.origin) same.here ∙ ap (λ (i : Tables). location_of i (machine_at e.current q))
-    (sym more.origin) ∙ sym (location_with e.origin e.rows e.requirements (machine_at e.current q))))
-    ∙ ap (λ y. in_location (instance_of d) d.current s x + one_if (eqb (service_of (instance_of e) p) s && eqb y x))
-    here
+location_more = place_more location_of (λ g. location_with g.origin g.rows g.requirements)
 
-pub moved_more : (d e : Drafted) (p s : ℕ) → OneMore d e p → moved_of (instance_of e) e.initial e.current s ≡
+pub moved_more : {d e : Drafted} {p : ℕ} (s : ℕ) → OneMore d e p → moved_of (instance_of e) e.initial e.current s ≡
     moved_of (instance_of d) d.initial d.current s
     + one_if (eqb (service_of (instance_of e) p) s && cond (eqb (machine_at e.initial p) (machine_at e.current p)) false
     true)
 unfolding moved_of
-moved_more d e p s more = members_more d e p s (λ k at. cond (eqb (machine_at d.initial k) at) false true)
+moved_more {d} {e} s more = members_more s (λ k at. cond (eqb (machine_at d.initial k) at) false true)
     (λ q at. cond (eqb (machine_at e.initial q) at) false true) more
-    (λ k q same. ap (λ x. cond (eqb x (machine_at d.current k)) false true) same.home
-    ∙ ap (λ x. cond (eqb (machine_at e.initial q) x) false true) same.here)
+    (λ k q same. cc (same.home, same.here))
 
 -- locations
 
-pub locations_other : (d e : Drafted) (p s : ℕ) → OneMore d e p → service_of (instance_of e) p ≢ s →
+pub locations_other : {d e : Drafted} {p : ℕ} (s : ℕ) → OneMore d e p → service_of (instance_of e) p ≢ s →
     locations_of (instance_of e) e.current s ≡ locations_of (instance_of d) d.current s
 unfolding locations_of
-locations_other d e p s more other = count_same (2 ^ 32) (λ x. ltb 0 (in_location (instance_of e) e.current s x))
+locations_other {d} {e} {p} s more other = count_same (2 ^ 32) (λ x. ltb 0 (in_location (instance_of e) e.current s x))
     (λ x. ltb 0 (in_location (instance_of d) d.current s x)) (λ x within. ap (ltb 0) (unchanged x))
   where
     unchanged : (x : ℕ) → in_location (instance_of e) e.current s x ≡ in_location (instance_of d) d.current s x
-    unchanged x = let h = location_more d e p s x more in let n = ne_eqb (service_of (instance_of e) p) s other in
-        let g = rw n at h in omega (arith, g)
+    unchanged x = omega (arith, rw (ne_eqb (service_of (instance_of e) p) s other) at (location_more s x more))
 
-pub locations_more : (d e : Drafted) (p s x : ℕ) → OneMore d e p → service_of (instance_of e) p ≡ s →
+pub locations_more : {d e : Drafted} {p s x : ℕ} → OneMore d e p → service_of (instance_of e) p ≡ s →
     location_of d.origin (machine_at e.current p) ≡ x → x < 2 ^ 32 →
     locations_of (instance_of e) e.current s + one_if (ltb 0 (in_location (instance_of d) d.current s x)) ≡
     locations_of (instance_of d) d.current s + 1
 unfolding locations_of
-locations_more d e p s x more mine is within =
+locations_more {d} {e} {p} {s} {x} more mine is within =
     let high : ℕ → Bool = λ y. ltb 0 (in_location (instance_of e) e.current s y) in
     let low : ℕ → Bool = λ y. ltb 0 (in_location (instance_of d) d.current s y) in
     let changed = count_change (2 ^ 32) x high low within (λ y y_in apart. ap (ltb 0) (elsewhere y apart)) in
-    let some : high x ≡ true = lt-ltb 0 (in_location (instance_of e) e.current s x) (omega (arith, here)) in
-    let one : one_if (high x) ≡ 1 = ap one_if some in
+    let some = lt-ltb 0 (in_location (instance_of e) e.current s x) (omega (arith, here)) in
+    let one : one_if (high x) ≡ 1 = cc in
     omega (arith, changed, one)
   where
     here : in_location (instance_of e) e.current s x ≡ in_location (instance_of d) d.current s x + 1
-    here = let h = location_more d e p s x more in let a = eq-eqb (service_of (instance_of e) p) s mine in
-        let b = eq-eqb (location_of d.origin (machine_at e.current p)) x is in let g = rw (a, b) at h in g
+    here = (rw (
+      eq-eqb (service_of (instance_of e) p) s mine,
+      eq-eqb (location_of d.origin
+          (machine_at e.current p)) x is,
+    ) at (location_more s x more))
 
     elsewhere : (y : ℕ) → y ≢ x → in_location (instance_of e) e.current s y ≡ in_location (instance_of d) d.current s y
-    elsewhere y apart = let h = location_more d e p s y more in let a = eq-eqb (service_of (instance_of e) p) s mine in
-        let b = ne_eqb (location_of d.origin (machine_at e.current p)) y (λ same. apart (sym same ∙ is)) in
-        let g = rw (a, b) at h in omega (arith, g)
+    elsewhere y apart = omega (
+      arith,
+      rw (
+        eq-eqb (service_of (instance_of e) p) s mine,
+        (ne_eqb (location_of d.origin
+            (machine_at e.current p)) y (λ same. apart (sym same ∙ is))),
+      ) at (location_more s y more),
+    )
 
 -- costs
 
 load_here : (f : Drafted) (i : Tables) (m : ℕ) → f.origin ≡ i → machine_load (instance_of f) f.current m ≡
     row_load i m (use_of (instance_of f) f.current m)
 unfolding machine_load
-load_here f i m origin = row_load_with f.origin f.rows f.requirements m (use_of (instance_of f) f.current m)
-    ∙ ap (λ (j : Tables). row_load j m (use_of (instance_of f) f.current m)) origin
+load_here f i m origin = cc (row_load_with f.origin f.rows f.requirements m (use_of (instance_of f) f.current m))
 
-load_elsewhere : (d e : Drafted) (p m : ℕ) → OneMore d e p → machine_at e.current p ≢ m →
+load_elsewhere : {d e : Drafted} {p : ℕ} (m : ℕ) → OneMore d e p → machine_at e.current p ≢ m →
     machine_load (instance_of e) e.current m ≡ machine_load (instance_of d) d.current m
-load_elsewhere d e p m more apart = load_here e d.origin m more.origin
+load_elsewhere {d} {e} {p} m more apart = load_here e d.origin m more.origin
     ∙ row_load_same d.origin m (use_of (instance_of e) e.current m) (use_of (instance_of d) d.current m)
-    (λ r column. let h = use_more d e p m r more column in let n = ne_eqb (machine_at e.current p) m apart in
-    let g = rw n at h in omega (arith, g)) ∙ sym (load_here d d.origin m refl)
+    (λ r column. omega (arith, rw (ne_eqb (machine_at e.current p) m apart) at (use_more m r more column)))
+    ∙ sym (load_here d d.origin m refl)
 
 pub load_more : (d e : Drafted) (p m : ℕ) → OneMore d e p → machine_at e.current p ≡ m → m < machine_count d.origin →
     load_cost (instance_of e) e.current + row_load d.origin m (use_of (instance_of d) d.current m) ≡
     load_cost (instance_of d) d.current + row_load d.origin m (use_of (instance_of e) e.current m)
 unfolding machine_count with_process_rows
 load_more d e p m more here within =
-    let low = machine_load (instance_of d) d.current in
     let high = machine_load (instance_of e) e.current in
-    let changed = total_change (machine_count d.origin) m high low within
-    (λ k k_in apart. load_elsewhere d e p k more (λ same. apart (sym same ∙ here))) in
-    let at_low : low m ≡ row_load d.origin m (use_of (instance_of d) d.current m) = load_here d d.origin m refl in
-    let at_high : high m ≡ row_load d.origin m (use_of (instance_of e) e.current m) =
-    load_here e d.origin m more.origin in
-    let all_low : load_cost (instance_of d) d.current ≡ total (machine_count d.origin) low =
-    load_by_machine (instance_of d) d.current in
+    let changed = total_change (machine_count d.origin) m high (machine_load (instance_of d) d.current) within
+    (λ k k_in apart. load_elsewhere k more (λ same. apart (sym same ∙ here))) in
     let all_high : load_cost (instance_of e) e.current ≡ total (machine_count d.origin) high =
-    load_by_machine (instance_of e) e.current ∙ ap (λ (i : Tables). total (machine_count i) high) more.origin in
-    omega (arith, changed, at_low, at_high, all_low, all_high)
+    cc (load_by_machine (instance_of e) e.current, more.origin) in
+    omega (
+      arith,
+      changed,
+      load_here d d.origin m refl,
+      load_here e d.origin m more.origin,
+      load_by_machine
+          (instance_of d) d.current,
+      all_high,
+    )
 
 balance_here : (f : Drafted) (i : Tables) (m : ℕ) → f.origin ≡ i → machine_balance (instance_of f) f.current m ≡
     row_balance i m (use_of (instance_of f) f.current m)
 unfolding machine_balance
-balance_here f i m origin = row_balance_with f.origin f.rows f.requirements m (use_of (instance_of f) f.current m)
-    ∙ ap (λ (j : Tables). row_balance j m (use_of (instance_of f) f.current m)) origin
+balance_here f i m origin = cc (row_balance_with f.origin f.rows f.requirements m (use_of (instance_of f) f.current m))
 
-balance_elsewhere : (d e : Drafted) (p m : ℕ) → WellFormed d.origin → OneMore d e p → machine_at e.current p ≢ m →
+balance_elsewhere : {d e : Drafted} {p : ℕ} (m : ℕ) → WellFormed d.origin → OneMore d e p → machine_at e.current p ≢ m →
     machine_balance (instance_of e) e.current m ≡ machine_balance (instance_of d) d.current m
-balance_elsewhere d e p m limits more apart = balance_here e d.origin m more.origin
+balance_elsewhere {d} {e} {p} m limits more apart = balance_here e d.origin m more.origin
     ∙ row_balance_same d.origin m (use_of (instance_of e) e.current m) (use_of (instance_of d) d.current m) limits
-    (λ r column. let h = use_more d e p m r more column in let n = ne_eqb (machine_at e.current p) m apart in
-    let g = rw n at h in omega (arith, g)) ∙ sym (balance_here d d.origin m refl)
+    (λ r column. omega (arith, rw (ne_eqb (machine_at e.current p) m apart) at (use_more m r more column)))
+    ∙ sym (balance_here d d.origin m refl)
 
 pub balance_more : (d e : Drafted) (p m : ℕ) → WellFormed d.origin → OneMore d e p → machine_at e.current p ≡ m →
     m < machine_count d.origin → balance_cost (instance_of e) e.current + row_balance d.origin m
@@ -226,55 +223,46 @@ pub balance_more : (d e : Drafted) (p m : ℕ) → WellFormed d.origin → OneMo
     (use_of (instance_of e) e.current m)
 unfolding machine_count with_process_rows
 balance_more d e p m limits more here within =
-    let low = machine_balance (instance_of d) d.current in
     let high = machine_balance (instance_of e) e.current in
-    let changed = total_change (machine_count d.origin) m high low within
-    (λ k k_in apart. balance_elsewhere d e p k limits more (λ same. apart (sym same ∙ here))) in
-    let at_low : low m ≡ row_balance d.origin m (use_of (instance_of d) d.current m) = balance_here d d.origin m refl in
-    let at_high : high m ≡ row_balance d.origin m (use_of (instance_of e) e.current m) =
-    balance_here e d.origin m more.origin in
-    let all_low : balance_cost (instance_of d) d.current ≡ total (machine_count d.origin) low =
-    balance_by_machine (instance_of d) d.current in
+    let changed = total_change (machine_count d.origin) m high (machine_balance (instance_of d) d.current) within
+    (λ k k_in apart. balance_elsewhere k limits more (λ same. apart (sym same ∙ here))) in
     let all_high : balance_cost (instance_of e) e.current ≡ total (machine_count d.origin) high =
-    balance_by_machine (instance_of e) e.current ∙ ap (λ (i : Tables). total (machine_count i) high) more.origin in
-    omega (arith, changed, at_low, at_high, all_low, all_high)
+    cc (balance_by_machine (instance_of e) e.current, more.origin) in
+    omega (
+      arith,
+      changed,
+      balance_here d d.origin m refl,
+      balance_here e d.origin m more.origin,
+      balance_by_machine
+          (instance_of d) d.current,
+      all_high,
+    )
 
-pub process_more : (d e : Drafted) (p : ℕ) → OneMore d e p → process_cost (instance_of e) e.initial e.current ≡
+weighted : (v w x y z : ℕ) → v ≡ w → x ≡ y + z → v * x ≡ w * y + w * z
+weighted v w x y z same sum = rw (same, sum) (grind arith)
+
+pub process_more : {d e : Drafted} {p : ℕ} → OneMore d e p → process_cost (instance_of e) e.initial e.current ≡
     process_cost (instance_of d) d.initial d.current + process_weight_of d.origin
     * cond (eqb (machine_at e.current p) (machine_at e.initial p)) 0 (process_cost_of (instance_of e) p)
 unfolding process_cost tally process_share process_count with_process_rows process_weight_of
-process_more d e p more =
+process_more {d} {e} more =
     let sums = more.sums
     (λ k. cond (eqb (machine_at d.current k) (machine_at d.initial k)) 0 (process_cost_of (instance_of d) k))
     (λ q. cond (eqb (machine_at e.current q) (machine_at e.initial q)) 0 (process_cost_of (instance_of e) q))
-    (λ k q k_in q_in same.
-    ap (λ x. cond (eqb x (machine_at d.initial k)) 0 (process_cost_of (instance_of d) k)) same.here
-    ∙ ap (λ x. cond (eqb (machine_at e.current q) x) 0 (process_cost_of (instance_of d) k)) same.home
-    ∙ ap (λ x. cond (eqb (machine_at e.current q) (machine_at e.initial q)) 0 x) same.cost) in
+    (λ k q k_in q_in same. cc (same.here, same.home, same.cost)) in
     weighted (process_weight_of e.origin) (process_weight_of d.origin) _ _ _ (ap process_weight_of more.origin) sums
-  where
-    weighted : (v w x y z : ℕ) → v ≡ w → x ≡ y + z → v * x ≡ w * y + w * z
-    weighted v w x y z same sum = rw (same, sum) (grind arith)
 
-pub way_more : (d e : Drafted) (p : ℕ) → OneMore d e p → machine_cost (instance_of e) e.initial e.current ≡
+pub way_more : {d e : Drafted} {p : ℕ} → OneMore d e p → machine_cost (instance_of e) e.initial e.current ≡
     machine_cost (instance_of d) d.initial d.current + machine_weight_of d.origin * way_cost_of d.origin
     (machine_at e.initial p) (machine_at e.current p)
 unfolding machine_cost tally way_share process_count with_process_rows machine_weight_of way_cost_of machine_count
-way_more d e p more =
+way_more {d} {e} more =
     let sums = more.sums
     (λ k. way_cost_of d.origin (machine_at d.initial k) (machine_at d.current k))
     (λ q. way_cost_of e.origin (machine_at e.initial q) (machine_at e.current q))
-    (λ k q k_in q_in same.
-    ap (λ x. way_cost_of d.origin x (machine_at d.current k)) same.home
-    ∙ ap (λ x. way_cost_of d.origin (machine_at e.initial q) x) same.here
-    ∙ ap (λ (i : Tables). way_cost_of i (machine_at e.initial q) (machine_at e.current q)) (sym more.origin)) in
+    (λ k q k_in q_in same. cc (same.home, same.here, more.origin)) in
     weighted (machine_weight_of e.origin) (machine_weight_of d.origin) _ _ _ (ap machine_weight_of more.origin)
-    (sums ∙ ap (λ (i : Tables).
-    total (length d.rows) (λ k. way_cost_of d.origin (machine_at d.initial k) (machine_at d.current k))
-    + way_cost_of i (machine_at e.initial p) (machine_at e.current p)) more.origin)
-  where
-    weighted : (v w x y z : ℕ) → v ≡ w → x ≡ y + z → v * x ≡ w * y + w * z
-    weighted v w x y z same sum = rw (same, sum) (grind arith)
+    (cc (more.origin))
 
 pub load_term : (d : Drafted) (m : ℕ) → m < machine_count d.origin →
     row_load d.origin m (use_of (instance_of d) d.current m) ≤ load_cost (instance_of d) d.current

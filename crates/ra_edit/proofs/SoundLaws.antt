@@ -1,6 +1,6 @@
 -- An edit leaves an instance within the limits, and two lists that fit it.
-use Rattle.std.proofs.Common.{◌≡◌, ◌≢◌, ℕ, ◌+◌, ◌-◌, ◌*◌, ◌<◌, ◌≤◌, List, [], ◌∷◌, ◌++◌, length, get_or, Some, None}
-use Rattle.std.proofs.Common.{refl, sym, ap, ◌∙◌, subst, ⊎_elim, arith, length-append, eq-eqb}
+use Rattle.std.proofs.Common.{inl, inr, ◌≡◌, ◌≢◌, ℕ, ◌+◌, ◌-◌, ◌*◌, ◌<◌, ◌≤◌, List, [], ◌∷◌, ◌++◌, length, get_or, Some}
+use Rattle.std.proofs.Common.{None, refl, sym, ap, ◌∙◌, subst, ⊎_elim, arith, length-append, eq-eqb}
 use Rattle.std.specs.List.{swap_remove}
 use Rattle.std.proofs.Math.Seq.{get_or-append_seam}
 use Rattle.std.proofs.lemmas.Bool.{cases_lt, lt-ltb, le-ltb}
@@ -47,18 +47,18 @@ rows_of i rows requirements h = record {
   some = h.some_process;
   few = h.few_processes;
   table = h.requirements;
-  services = λ p within. subst (λ s. s < service_count i) (service_here i rows requirements p within)
-      (h.services p within);
+  services = λ p within. rw (service_here i rows requirements p within) at (h.services p within);
 }
 
-pub well_with : (i : Tables) (rows after : List ProcessRow) (requirements next : List ℕ) →
+pub well_with : {i : Tables} {after : List ProcessRow} {next : List ℕ} (rows : List ProcessRow)
+    (requirements : List ℕ) →
     WellFormed (with_process_rows i rows requirements) → AreRows i after next →
     WellFormed (with_process_rows i after next)
 unfolding with_process_rows resource_count service_count process_count
-well_with i rows after requirements next h fits =
+well_with {i} {after} {next} rows requirements h fits =
     well_formed_with (with_process_rows i rows requirements) (with_process_rows i after next) h fits.some fits.few
     fits.table
-    (λ p within. subst (λ s. s < service_count i) (sym (service_here i after next p within)) (fits.services p within))
+    (λ p within. rw (← (service_here i after next p within)) at (fits.services p within))
 
 -- assignments
 
@@ -72,32 +72,34 @@ processes_with : (i : Tables) (rows : List ProcessRow) (requirements : List ℕ)
 unfolding with_process_rows process_count
 processes_with i rows requirements = refl
 
-fits_with : (i : Tables) (rows : List ProcessRow) (requirements : List ℕ) (a : List Machine) → length a ≡ length rows →
+fits_with : {a : List Machine} (i : Tables) (rows : List ProcessRow) (requirements : List ℕ) → length a ≡ length rows →
     ((p : ℕ) → p < length a → machine_at a p < machine_count i) → IsAssignment (with_process_rows i rows requirements) a
-fits_with i rows requirements a size each = record {
+fits_with i rows requirements size each = record {
   one_each = size ∙ sym (processes_with i rows requirements);
-  in_range = λ p within. subst (λ n. machine_at a p < n) (sym (machines_with i rows requirements))
-      (each p (omega (arith, size, processes_with i rows requirements)));
+  in_range = λ p within. rw (← (machines_with i rows requirements)) at (each p (omega
+      (arith, size, processes_with i rows requirements)));
 }
 
-fits_size : (i : Tables) (rows : List ProcessRow) (requirements : List ℕ) (a : List Machine) →
+fits_size : {a : List Machine} (i : Tables) (rows : List ProcessRow) (requirements : List ℕ) →
     IsAssignment (with_process_rows i rows requirements) a → length a ≡ length rows
-fits_size i rows requirements a h = h.one_each ∙ processes_with i rows requirements
+fits_size i rows requirements h = h.one_each ∙ processes_with i rows requirements
 
-fits_each : (i : Tables) (rows : List ProcessRow) (requirements : List ℕ) (a : List Machine) →
+fits_each : {a : List Machine} (i : Tables) (rows : List ProcessRow) (requirements : List ℕ) →
     IsAssignment (with_process_rows i rows requirements) a → (p : ℕ) → p < length a → machine_at a p < machine_count i
-fits_each i rows requirements a h p within = subst (λ n. machine_at a p < n) (machines_with i rows requirements)
-    (h.in_range p (subst (λ n. p < n) h.one_each within))
+fits_each i rows requirements h p within = rw (machines_with i rows requirements) at (h.in_range p
+    (rw h.one_each at within))
 
 -- one more
 
 each_more : {X : Type 0} → (P : X → Type 0) (xs : List X) (x d : X) → ((p : ℕ) → p < length xs → P (get_or xs p d)) →
     P x → (p : ℕ) → p < length (xs ++ x ∷ []) → P (get_or (xs ++ x ∷ []) p d)
-each_more P xs x d each here p within = ⊎_elim
-    (λ (below : p < length xs). subst P (sym (get_or_append_left xs (x ∷ []) d p below)) (each p below))
-    (λ (last : length xs ≤ p). let e : p ≡ length xs = omega (arith, length-append xs (x ∷ [])) in
-    subst (λ n. P (get_or (xs ++ x ∷ []) n d)) (sym e) (subst P (sym (get_or-append_seam xs x [] d)) here))
-    (cases_lt p (length xs))
+each_more P xs x d each here p within = elim (cases_lt p (length xs)) [
+  | inl below ↦
+      subst P (sym (get_or_append_left xs (x ∷ []) d p below)) (each p below)
+  | inr last ↦ let e : p ≡ length xs =
+      omega (arith, length-append xs (x ∷ [])) in
+      rw (← e) at (subst P (sym (get_or-append_seam xs x [] d)) here)
+]
 
 -- one less
 each_less : {X : Type 0} → (P : X → Type 0) (xs : List X) (q : ℕ) (d e : X) → q < length xs →
@@ -108,11 +110,11 @@ each_less P xs q d e there each p within =
     let found = removed_item xs q p d e there left in
     subst P (sym found.2) (each found.0 found.1)
 
-pub added_sound : (d : Drafted) (s : Service) (m : Machine) (c : ℕ) (requirements : List ℕ) → IsSoundDraft d →
+pub added_sound : {d : Drafted} (s : Service) (m : Machine) (c : ℕ) (requirements : List ℕ) → IsSoundDraft d →
     length d.rows < 50000 → s.0 < service_count d.origin → m.0 < machine_count d.origin →
     length requirements ≡ resource_count d.origin → IsSoundDraft (added d s m c requirements)
 unfolding added row_service process_of machine_at
-added_sound d s m c requirements sound few s_in m_in width =
+added_sound {d} s m c requirements sound few s_in m_in width =
     let i = d.origin in
     let old = rows_of i d.rows d.requirements sound.well_formed in
     let row = process_of s c in
@@ -127,35 +129,35 @@ added_sound d s m c requirements sound few s_in m_in width =
     } in
     record {
       well_formed =
-          well_with i d.rows (d.rows ++ row ∷ []) d.requirements (d.requirements ++ requirements) sound.well_formed
+          well_with d.rows d.requirements sound.well_formed
           rows;
-      initial = fits_with i (d.rows ++ row ∷ []) (d.requirements ++ requirements) (d.initial ++ m ∷ [])
+      initial = fits_with i (d.rows ++ row ∷ []) (d.requirements ++ requirements)
           (omega (
             arith,
             length-append d.initial (m ∷ []),
             size,
-            fits_size i d.rows d.requirements d.initial sound.initial,
+            fits_size i d.rows d.requirements sound.initial,
           ))
           (each_more (λ (x : Machine). x.0 < machine_count i) d.initial m (record { 0 = 0 })
-          (fits_each i d.rows d.requirements d.initial sound.initial) m_in);
-      current = fits_with i (d.rows ++ row ∷ []) (d.requirements ++ requirements) (d.current ++ m ∷ [])
+          (fits_each i d.rows d.requirements sound.initial) m_in);
+      current = fits_with i (d.rows ++ row ∷ []) (d.requirements ++ requirements)
           (omega (
             arith,
             length-append d.current (m ∷ []),
             size,
-            fits_size i d.rows d.requirements d.current sound.current,
+            fits_size i d.rows d.requirements sound.current,
           ))
           (each_more (λ (x : Machine). x.0 < machine_count i) d.current m (record { 0 = 0 })
-          (fits_each i d.rows d.requirements d.current sound.current) m_in);
+          (fits_each i d.rows d.requirements sound.current) m_in);
     }
   where
     more_rows : (a b n w after : ℕ) → a ≡ n * w → b ≡ w → after ≡ n + 1 → a + b ≡ after * w
     more_rows a b n w after old_size width size = rw (old_size, width, size) (grind arith)
 
-pub retired_sound : (d : Drafted) (p : ℕ) → IsSoundDraft d → p < length d.rows → 1 < length d.rows →
+pub retired_sound : {d : Drafted} (p : ℕ) → IsSoundDraft d → p < length d.rows → 1 < length d.rows →
     IsSoundDraft (retired d p)
 unfolding retired row_service machine_at
-retired_sound d p sound within more =
+retired_sound {d} p sound within more =
     let i = d.origin in
     let w = resource_count i in
     let old = rows_of i d.rows d.requirements sound.well_formed in
@@ -163,31 +165,31 @@ retired_sound d p sound within more =
     let first : Machine = record { 0 = 0 } in
     let after = swap_remove d.rows p none in
     let next = drop_row w d.requirements (length d.rows) p in
-    let size : length after ≡ length d.rows - 1 = removed_length d.rows p none in
-    let initial_size = fits_size i d.rows d.requirements d.initial sound.initial in
-    let current_size = fits_size i d.rows d.requirements d.current sound.current in
+    let size = removed_length d.rows p none in
+    let initial_size = fits_size i d.rows d.requirements sound.initial in
+    let current_size = fits_size i d.rows d.requirements sound.current in
     let rows : AreRows i after next = record {
       some = omega (arith, size);
       few = omega (arith, size, old.few);
-      table = dropped_length w (length d.rows) p d.requirements old.table within ∙ ap (λ n. n * w) (sym size);
+      table = cc (dropped_length w (length d.rows) p d.requirements old.table within);
       services = each_less (λ (x : ProcessRow). x.service.0 < service_count i) d.rows p none none within old.services;
     } in
     record {
-      well_formed = well_with i d.rows after d.requirements next sound.well_formed rows;
-      initial = fits_with i after next (swap_remove d.initial p first)
+      well_formed = well_with d.rows d.requirements sound.well_formed rows;
+      initial = fits_with i after next
           (omega (arith, removed_length d.initial p first, size, initial_size))
           (each_less (λ (x : Machine). x.0 < machine_count i) d.initial p first first (omega (arith, initial_size))
-          (fits_each i d.rows d.requirements d.initial sound.initial));
-      current = fits_with i after next (swap_remove d.current p first)
+          (fits_each i d.rows d.requirements sound.initial));
+      current = fits_with i after next
           (omega (arith, removed_length d.current p first, size, current_size))
           (each_less (λ (x : Machine). x.0 < machine_count i) d.current p first first (omega (arith, current_size))
-          (fits_each i d.rows d.requirements d.current sound.current));
+          (fits_each i d.rows d.requirements sound.current));
     }
 
-pub resized_sound : (d : Drafted) (p : ℕ) (requirements : List ℕ) → IsSoundDraft d → p < length d.rows →
+pub resized_sound : {d : Drafted} (p : ℕ) (requirements : List ℕ) → IsSoundDraft d → p < length d.rows →
     length requirements ≡ resource_count d.origin → IsSoundDraft (resized d p requirements)
 unfolding resized
-resized_sound d p requirements sound within width =
+resized_sound {d} p requirements sound within width =
     let i = d.origin in
     let w = resource_count i in
     let old = rows_of i d.rows d.requirements sound.well_formed in
@@ -199,11 +201,11 @@ resized_sound d p requirements sound within width =
       services = old.services;
     } in
     record {
-      well_formed = well_with i d.rows d.rows d.requirements next sound.well_formed rows;
-      initial = fits_with i d.rows next d.initial (fits_size i d.rows d.requirements d.initial sound.initial)
-          (fits_each i d.rows d.requirements d.initial sound.initial);
-      current = fits_with i d.rows next d.current (fits_size i d.rows d.requirements d.current sound.current)
-          (fits_each i d.rows d.requirements d.current sound.current);
+      well_formed = well_with d.rows d.requirements sound.well_formed rows;
+      initial = fits_with i d.rows next (fits_size i d.rows d.requirements sound.initial)
+          (fits_each i d.rows d.requirements sound.initial);
+      current = fits_with i d.rows next (fits_size i d.rows d.requirements sound.current)
+          (fits_each i d.rows d.requirements sound.current);
     }
 
 -- what bars no edit
@@ -230,17 +232,17 @@ free_resize count p free = ⊎_elim
     (λ (past : count ≤ p). absurd (let e : Some (NoProcess p) ≡ None = rw (le-ltb p count past) at free in cc))
     (cases_lt p count)
 
-pub edited_sound : (d : Drafted) (e : Edit) (requirements : List ℕ) → IsSoundDraft d → barred (length d.rows) e ≡ None →
+pub edited_sound : {d : Drafted} (e : Edit) (requirements : List ℕ) → IsSoundDraft d → barred (length d.rows) e ≡ None →
     FitsInstance d.origin e → length requirements ≡ resource_count d.origin → IsSoundDraft (edited d e requirements)
 unfolding edited
-edited_sound d (Add s m c) requirements sound free fits width =
-    added_sound d s m c requirements sound (let few = (rows_of d.origin d.rows d.requirements sound.well_formed).few in
+edited_sound {d} (Add s m c) requirements sound free fits width =
+    added_sound s m c requirements sound (let few = (rows_of d.origin d.rows d.requirements sound.well_formed).few in
     let not_full = free_add (length d.rows) s m c free in omega arith) fits.0 fits.1 width
-edited_sound d (Retire p) requirements sound free fits width = let h = free_retire (length d.rows) p free in
+edited_sound {d} (Retire p) requirements sound free fits width = let h = free_retire (length d.rows) p free in
     let some = (rows_of d.origin d.rows d.requirements sound.well_formed).some in
-    retired_sound d p sound h.0 (let not_one = h.1 in omega arith)
-edited_sound d (Resize p) requirements sound free fits width =
-    resized_sound d p requirements sound (free_resize (length d.rows) p free) width
+    retired_sound p sound h.0 (let not_one = h.1 in omega arith)
+edited_sound {d} (Resize p) requirements sound free fits width =
+    resized_sound p requirements sound (free_resize (length d.rows) p free) width
 
 -- how long the lists of a draft are
 pub record AreFew (d : Drafted) : Type 0 where
@@ -252,21 +254,17 @@ pub record AreFew (d : Drafted) : Type 0 where
   pub initial : length d.initial ≡ length d.rows
   pub current : length d.current ≡ length d.rows
 
-narrow_of : (i : Tables) (rows : List ProcessRow) (requirements : List ℕ) →
-    WellFormed (with_process_rows i rows requirements) → resource_count i ≤ 20
-unfolding with_process_rows resource_count
-narrow_of i rows requirements h = h.few_resources
-
 few_cells : (n w t : ℕ) → n ≤ 50000 → w ≤ 20 → t ≡ n * w → t ≤ 1000000
 few_cells n w t few narrow same = omega (arith, same, mul_le n w few narrow)
   where
     mul_le : (a b : ℕ) → a ≤ 50000 → b ≤ 20 → a * b ≤ 50000 * 20
     mul_le a b x y = grind arith
 
-pub few_of : (d : Drafted) → IsSoundDraft d → AreFew d
-few_of d sound =
+pub few_of : {d : Drafted} → IsSoundDraft d → AreFew d
+unfolding with_process_rows resource_count
+few_of {d} sound =
     let old = rows_of d.origin d.rows d.requirements sound.well_formed in
-    let narrow = narrow_of d.origin d.rows d.requirements sound.well_formed in
+    let narrow = sound.well_formed.few_resources in
     record {
       some = old.some;
       rows = old.few;
@@ -274,9 +272,9 @@ few_of d sound =
       table = old.table;
       requirements =
           few_cells (length d.rows) (resource_count d.origin) (length d.requirements) old.few narrow old.table;
-      initial = fits_size d.origin d.rows d.requirements d.initial sound.initial;
-      current = fits_size d.origin d.rows d.requirements d.current sound.current;
+      initial = fits_size d.origin d.rows d.requirements sound.initial;
+      current = fits_size d.origin d.rows d.requirements sound.current;
     }
 
-pub few_rows : (d : Drafted) (parts : Parts) → IsKeptDraft d parts → length d.rows ≤ 50000
-few_rows d parts h = (few_of d h.sound).rows
+pub few_rows : {d : Drafted} {parts : Parts} → IsKeptDraft d parts → length d.rows ≤ 50000
+few_rows h = (few_of h.sound).rows

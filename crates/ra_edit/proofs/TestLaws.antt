@@ -8,7 +8,7 @@ use Rattle.ra_base.specs.declared.ids.Service.{Service}
 use Rattle.ra_base.specs.declared.causes.Cause.{Cause}
 use Rattle.ra_base.specs.declared.causes.Cause.TheVariants.{Capacity, Transient, Conflict, Spread, Dependency}
 use Rattle.ra_model.specs.declared.raw.Tables.{Tables}
-use Rattle.ra_model.specs.Numbers.{resource_row, service_row, machine_row, resource_count, service_count, process_count}
+use Rattle.ra_model.specs.Numbers.{service_row, machine_row, service_count}
 use Rattle.ra_model.specs.Numbers.{dependency_count, dependency_start, dependency_end, transient_at, capacity_of}
 use Rattle.ra_model.specs.Numbers.{spread_of, need_of, need_at, neighbourhood_of, service_weight_of}
 use Rattle.ra_model.specs.Usage.{use_of, transient_of}
@@ -22,39 +22,29 @@ use Rattle.ra_edit.specs.Touched.{far_from, cause_if_left_alone, left_by, first_
 use Rattle.ra_base.specs.Searches.{or_else, first}
 use Rattle.ra_base.proofs.Searches.{or_else_none, first_none_from, first_same}
 use Rattle.ra_base.proofs.Picks.{pick_first}
+use Rattle.ra_edit.proofs.BrokenLaws.{dependencies_with, capacity_with, transient_with, need_with, spread_with}
+use Rattle.ra_edit.proofs.BrokenLaws.{services_with}
 
-failed_if : (failed : Bool) (cause : Cause) → failed ≡ true → Some cause ≡ cause_if failed cause
+failed_if : {failed : Bool} (cause : Cause) → failed ≡ true → Some cause ≡ cause_if failed cause
 unfolding cause_if
-failed_if failed cause is = sym (cond-true failed (Some cause) None is)
+failed_if {failed} cause is = sym (cond-true failed (Some cause) None is)
 
-held_if : (failed : Bool) (cause : Cause) → failed ≡ false → None ≡ cause_if failed cause
+held_if : {failed : Bool} (cause : Cause) → failed ≡ false → None ≡ cause_if failed cause
 unfolding cause_if
-held_if failed cause is = sym (cond-false failed (Some cause) None is)
-
-capacity_in : (e : Drafted) (m r : ℕ) → capacity_of (instance_of e) m r ≡ capacity_of e.origin m r
-unfolding with_process_rows capacity_of resource_count
-capacity_in e m r = refl
-
-transient_in : (e : Drafted) (r : ℕ) → transient_at (instance_of e) r ≡ transient_at e.origin r
-unfolding with_process_rows transient_at resource_row
-transient_in e r = refl
-
-spread_in : (e : Drafted) (s : ℕ) → spread_of (instance_of e) s ≡ spread_of e.origin s
-unfolding with_process_rows spread_of service_row
-spread_in e s = refl
+held_if {failed} cause is = sym (cond-false failed (Some cause) None is)
 
 pub capacity_over : (e : Drafted) (m r used cap : ℕ) → used ≡ use_of (instance_of e) e.current m r →
     cap ≡ capacity_of e.origin m r → cap < used → Some (Capacity (record { 0 = m }) (record { 0 = r }) used cap) ≡
     capacity_test (instance_of e) e.current m r
 unfolding capacity_test
 capacity_over e m r used cap use_is cap_is over = let c : cap ≡ capacity_of (instance_of e) m r = cap_is
-    ∙ sym (capacity_in e m r) in rw (← use_is, ← c) (failed_if _ _ (lt-ltb cap used over))
+    ∙ sym (capacity_with e m r) in rw (← use_is, ← c) (failed_if _ (lt-ltb cap used over))
 
 pub capacity_within : (e : Drafted) (m r used cap : ℕ) → used ≡ use_of (instance_of e) e.current m r →
     cap ≡ capacity_of e.origin m r → used ≤ cap → None ≡ capacity_test (instance_of e) e.current m r
 unfolding capacity_test
 capacity_within e m r used cap use_is cap_is within = let c : cap ≡ capacity_of (instance_of e) m r = cap_is
-    ∙ sym (capacity_in e m r) in rw (← use_is, ← c) (held_if _ _ (le-ltb cap used within))
+    ∙ sym (capacity_with e m r) in rw (← use_is, ← c) (held_if _ (le-ltb cap used within))
 
 pub transient_over : (e : Drafted) (m r used cap : ℕ) → used ≡ transient_of (instance_of e) e.initial e.current m r →
     cap ≡ capacity_of e.origin m r → transient_at e.origin r ≡ true → cap < used →
@@ -62,54 +52,54 @@ pub transient_over : (e : Drafted) (m r used cap : ℕ) → used ≡ transient_o
     m r
 unfolding transient_test
 transient_over e m r used cap use_is cap_is twice over = let c : cap ≡ capacity_of (instance_of e) m r = cap_is
-    ∙ sym (capacity_in e m r) in
-    rw (← use_is, ← c) (failed_if _ _ (and_from _ _ (transient_in e r ∙ twice) (lt-ltb cap used over)))
+    ∙ sym (capacity_with e m r) in
+    rw (← use_is, ← c) (failed_if _ (and_from _ _ (transient_with e r ∙ twice) (lt-ltb cap used over)))
 
 pub transient_within : (e : Drafted) (m r used cap : ℕ) → used ≡ transient_of (instance_of e) e.initial e.current m r →
     cap ≡ capacity_of e.origin m r → used ≤ cap → None ≡ transient_test (instance_of e) e.initial e.current m r
 unfolding transient_test
 transient_within e m r used cap use_is cap_is within = let c : cap ≡ capacity_of (instance_of e) m r = cap_is
-    ∙ sym (capacity_in e m r) in rw (← use_is, ← c) (held_if _ _ (and_right _ _ (le-ltb cap used within)))
+    ∙ sym (capacity_with e m r) in rw (← use_is, ← c) (held_if _ (and_right _ _ (le-ltb cap used within)))
 
 pub transient_once : (e : Drafted) (m r : ℕ) → transient_at e.origin r ≡ false →
     None ≡ transient_test (instance_of e) e.initial e.current m r
 unfolding transient_test
-transient_once e m r once = held_if _ _ (and_left _ _ (transient_in e r ∙ once))
+transient_once e m r once = held_if _ (and_left _ _ (transient_with e r ∙ once))
 
 pub conflict_some : (e : Drafted) (s m n : ℕ) → n ≡ on_machine (instance_of e) e.current s m → 1 < n →
     Some (Conflict (record { 0 = s }) (record { 0 = m })) ≡ conflict_test (instance_of e) e.current s m
 unfolding conflict_test
-conflict_some e s m n count more = rw (← count) (failed_if _ _ (lt-ltb 1 n more))
+conflict_some e s m n count more = rw (← count) (failed_if _ (lt-ltb 1 n more))
 
 pub conflict_none : (e : Drafted) (s m n : ℕ) → n ≡ on_machine (instance_of e) e.current s m → n ≤ 1 →
     None ≡ conflict_test (instance_of e) e.current s m
 unfolding conflict_test
-conflict_none e s m n count few = rw (← count) (held_if _ _ (le-ltb 1 n few))
+conflict_none e s m n count few = rw (← count) (held_if _ (le-ltb 1 n few))
 
 pub spread_few : (e : Drafted) (s has wants : ℕ) → has ≡ locations_of (instance_of e) e.current s →
     wants ≡ spread_of e.origin s → has < wants → Some (Spread (record { 0 = s }) has wants) ≡
     spread_test (instance_of e) e.current s
 unfolding spread_test
 spread_few e s has wants has_is wants_is fewer = let c : wants ≡ spread_of (instance_of e) s = wants_is
-    ∙ sym (spread_in e s) in rw (← has_is, ← c) (failed_if _ _ (lt-ltb has wants fewer))
+    ∙ sym (spread_with e s) in rw (← has_is, ← c) (failed_if _ (lt-ltb has wants fewer))
 
 pub spread_enough : (e : Drafted) (s has wants : ℕ) → has ≡ locations_of (instance_of e) e.current s →
     wants ≡ spread_of e.origin s → wants ≤ has → None ≡ spread_test (instance_of e) e.current s
 unfolding spread_test
 spread_enough e s has wants has_is wants_is enough = let c : wants ≡ spread_of (instance_of e) s = wants_is
-    ∙ sym (spread_in e s) in rw (← has_is, ← c) (held_if _ _ (le-ltb has wants enough))
+    ∙ sym (spread_with e s) in rw (← has_is, ← c) (held_if _ (le-ltb has wants enough))
 
 pub need_far : (e : Drafted) (s label k need n : ℕ) → need ≡ need_of (instance_of e) s k →
     n ≡ in_neighbourhood (instance_of e) e.current need label → n ≡ 0 →
     Some (Dependency (record { 0 = s }) (record { 0 = need }) label) ≡ far_from (instance_of e) e.current s label k
 unfolding far_from
-need_far e s label k need n need_is count none = rw (← need_is, ← count) (failed_if _ _ (eq-eqb n 0 none))
+need_far e s label k need n need_is count none = rw (← need_is, ← count) (failed_if _ (eq-eqb n 0 none))
 
 pub need_near : (e : Drafted) (s label k need n : ℕ) → need ≡ need_of (instance_of e) s k →
     n ≡ in_neighbourhood (instance_of e) e.current need label → n ≢ 0 →
     None ≡ far_from (instance_of e) e.current s label k
 unfolding far_from
-need_near e s label k need n need_is count some = rw (← need_is, ← count) (held_if _ _ (ne_eqb n 0 some))
+need_near e s label k need n need_is count some = rw (← need_is, ← count) (held_if _ (ne_eqb n 0 some))
 
 pub left_some : (e : Drafted) (s label u n : ℕ) → in_neighbourhood (instance_of e) e.current s label ≡ 0 →
     n ≡ in_neighbourhood (instance_of e) e.current u label → 0 < n →
@@ -117,19 +107,12 @@ pub left_some : (e : Drafted) (s label u n : ℕ) → in_neighbourhood (instance
     ≡ cause_if_left_alone (instance_of e) e.current s label u
 unfolding cause_if_left_alone
 left_some e s label u n gone count some =
-    rw (← count) (failed_if _ _ (and_from _ _ (eq-eqb _ 0 gone) (lt-ltb 0 n some)))
+    rw (← count) (failed_if _ (and_from _ _ (eq-eqb _ 0 gone) (lt-ltb 0 n some)))
 
 pub left_none : (e : Drafted) (s label u n : ℕ) → n ≡ in_neighbourhood (instance_of e) e.current u label → n ≤ 0 →
     None ≡ cause_if_left_alone (instance_of e) e.current s label u
 unfolding cause_if_left_alone
-left_none e s label u n count none = rw (← count) (held_if _ _ (and_right _ _ (le-ltb 0 n none)))
-
-pub left_near : (e : Drafted) (s label u : ℕ) → 0 < in_neighbourhood (instance_of e) e.current s label →
-    None ≡ cause_if_left_alone (instance_of e) e.current s label u
-unfolding cause_if_left_alone
-left_near e s label u some =
-    held_if _ _ (and_left _ _
-    (ne_eqb (in_neighbourhood (instance_of e) e.current s label) 0 (λ none. omega (arith, none, some))))
+left_none e s label u n count none = rw (← count) (held_if _ (and_right _ _ (le-ltb 0 n none)))
 
 pub ruleset conflicts = (conflict_some, conflict_none)
 
@@ -139,31 +122,9 @@ pub ruleset needs = (need_far, need_near)
 
 pub ruleset lefts = (left_some, left_none)
 
-pub resources_of : (e : Drafted) → resource_count (instance_of e) ≡ resource_count e.origin
-unfolding with_process_rows resource_count
-resources_of e = refl
-
-pub dependencies_in : (e : Drafted) (s : ℕ) → dependency_count (instance_of e) s ≡ dependency_count e.origin s
-unfolding with_process_rows dependency_count dependency_end dependency_start service_row
-dependencies_in e zero = refl
-dependencies_in e (suc s) = refl
-
 pub label_in : (e : Drafted) (m : ℕ) → neighbourhood_of (instance_of e) m ≡ neighbourhood_of e.origin m
 unfolding with_process_rows neighbourhood_of machine_row
 label_in e m = refl
-
-pub need_same : (e : Drafted) (s k : ℕ) → need_of (instance_of e) s k ≡ need_of e.origin s k
-unfolding with_process_rows need_of need_at dependency_start dependency_end service_row
-need_same e zero k = refl
-need_same e (suc s) k = refl
-
-pub processes_in : (e : Drafted) → process_count (instance_of e) ≡ length e.rows
-unfolding with_process_rows process_count
-processes_in e = refl
-
-pub services_in : (e : Drafted) → service_count (instance_of e) ≡ service_count e.origin
-unfolding with_process_rows service_count
-services_in e = refl
 
 pub service_weight_in : (e : Drafted) → service_weight_of (instance_of e) ≡ service_weight_of e.origin
 unfolding with_process_rows service_weight_of
@@ -176,88 +137,84 @@ unfolding with_process_rows depends dependency_count dependency_end dependency_s
 depends_in e zero u = refl
 depends_in e (suc s) u = refl
 
-left_if : (e : Drafted) (i : Tables) (s label u : ℕ) → e.origin ≡ i →
-    cond (is_dependant i s u) (cause_if_left_alone (instance_of e) e.current s label u) None ≡
-    left_by (instance_of e) e.current s label u
-unfolding left_by is_dependant
-left_if e i s label u same =
-    ap (λ (b : Bool). cond b (cause_if_left_alone (instance_of e) e.current s label u) None)
-    (sym (depends_in e u s ∙ ap (λ (j : Tables). depends j u s) same))
-
 -- a search over listed services is one over their numbers
 listed_first : {X : Type 0} → (list : List Service) (f : ℕ → Option X) →
     first (length list) (λ k. f (service_at list k)) ≡
     first (length (numbers_of list)) (λ k. f (get_or (numbers_of list) k 0))
 unfolding service_at
 listed_first list f =
-    first_same (length list) (λ k. f (service_at list k)) (λ k. f (get_or (numbers_of list) k 0))
-    (λ k within. ap f (sym (get_or-map (λ (u : Service). u.0) list k (record { 0 = 0 }))))
-    ∙ ap (λ n. first n (λ k. f (get_or (numbers_of list) k 0))) (sym (length-map list (λ (u : Service). u.0)))
+    cc (
+      first_same (length list) (λ k. f (service_at list k)) (λ k. f (get_or (numbers_of list) k 0)) (λ k within. ap f
+          (sym (get_or-map (λ (u : Service). u.0) list k (record { 0 = 0 })))),
+      length-map list (λ (u : Service). u.0),
+    )
 
 -- what is found among the dependants of a service is what is found among all services
-pub left_listed : (e : Drafted) (i : Tables) (s label : ℕ) (list : List Service) → e.origin ≡ i →
+pub left_listed : {i : Tables} {s : ℕ} {list : List Service} (e : Drafted) (label : ℕ) → e.origin ≡ i →
     AreDependantsOf i s list →
     first (length list) (λ k. cause_if_left_alone (instance_of e) e.current s label (service_at list k)) ≡
     first (service_count (instance_of e)) (left_by (instance_of e) e.current s label)
-left_listed e i s label list same are =
+unfolding left_by is_dependant
+left_listed {i} {s} {list} e label same are =
     let alone = cause_if_left_alone (instance_of e) e.current s label in
     listed_first list alone
     ∙ ap (λ (numbers : List ℕ). first (length numbers) (λ k. alone (get_or numbers k 0))) are.numbers
     ∙ pick_first (service_count i) (is_dependant i s) alone
     ∙ first_same (service_count i) _ (left_by (instance_of e) e.current s label)
-    (λ u within. left_if e i s label u same)
-    ∙ ap (λ n. first n (left_by (instance_of e) e.current s label)) (sym (services_in e ∙ ap service_count same))
+    (λ u within. cc (depends_in e u s))
+    ∙ ap (λ n. first n (left_by (instance_of e) e.current s label)) (sym (services_with e ∙ ap service_count same))
 
-either_none : {X : Type 0} → (b : Bool) (x : Option X) → x ≡ None → cond b x None ≡ None
-either_none true x none = none
-either_none false x none = refl
+either_none : {X : Type 0} {x : Option X} (b : Bool) → x ≡ None → cond b x None ≡ None
+either_none true none = none
+either_none false none = refl
 
 -- no service is left alone while one of its processes is near
 pub none_left : (e : Drafted) (s label n : ℕ) → 0 < in_neighbourhood (instance_of e) e.current s label →
     None ≡ first n (left_by (instance_of e) e.current s label)
-unfolding left_by
+unfolding left_by cause_if_left_alone
 none_left e s label n some =
     sym (first_none_from n _
-    (λ u within. either_none (depends (instance_of e) u s) _ (sym (left_near e s label u some))))
+    (λ u within. either_none (depends (instance_of e) u s) (sym (held_if _ (and_left _ _
+    (ne_eqb (in_neighbourhood (instance_of e) e.current s label) 0 (λ none. omega (arith, none, some))))))))
 
 -- two machines in the order of their numbers
 
-pub resized_up : (e : Drafted) (home here : ℕ) (x : Option Cause) → row_capacity (instance_of e) e.current here ≡ None →
+pub resized_up : {x : Option Cause} (e : Drafted) (home here : ℕ) → row_capacity (instance_of e) e.current here ≡ None →
     home < here → x ≡ or_else (row_transient (instance_of e) e.initial e.current home)
     (row_transient (instance_of e) e.initial e.current here) →
     x ≡ resized_breaks (instance_of e) e.initial e.current home here
 unfolding resized_breaks first_of_two
-resized_up e home here x none up is = is ∙ sym (rw (none, lt-ltb home here up, or_else_none) refl)
+resized_up e home here none up is = is ∙ sym (rw (none, lt-ltb home here up, or_else_none) refl)
 
-pub resized_down : (e : Drafted) (home here : ℕ) (x : Option Cause) → row_capacity (instance_of e) e.current here ≡
+pub resized_down : {x : Option Cause} (e : Drafted) (home here : ℕ) → row_capacity (instance_of e) e.current here ≡
     None → here ≤ home → x ≡ or_else (row_transient (instance_of e) e.initial e.current here)
     (row_transient (instance_of e) e.initial e.current home) →
     x ≡ resized_breaks (instance_of e) e.initial e.current home here
 unfolding resized_breaks first_of_two
-resized_down e home here x none down is = is ∙ sym (rw (none, le-ltb home here down, or_else_none) refl)
+resized_down e home here none down is = is ∙ sym (rw (none, le-ltb home here down, or_else_none) refl)
 
 -- what is found first, or after what isn't there
 
-pub found_first : {X : Type 0} → (a b : Option X) (x : X) → a ≡ Some x → Some x ≡ or_else a b
+pub found_first : {X : Type 0} {a : Option X} (b : Option X) (x : X) → a ≡ Some x → Some x ≡ or_else a b
 unfolding or_else
-found_first a b x is = rw is refl
+found_first b x is = rw is refl
 
-pub found_later : {X : Type 0} → (a b y : Option X) → a ≡ None → y ≡ b → y ≡ or_else a b
+pub found_later : {X : Type 0} {a b y : Option X} → a ≡ None → y ≡ b → y ≡ or_else a b
 unfolding or_else
-found_later a b y none is = rw none is
+found_later none is = rw none is
 
 -- numbers of an instance with the same other lists
 
-pub dependencies_from : (e : Drafted) (i : Tables) (s : ℕ) → e.origin ≡ i → dependency_count (instance_of e) s ≡
+pub dependencies_from : {i : Tables} (e : Drafted) (s : ℕ) → e.origin ≡ i → dependency_count (instance_of e) s ≡
     dependency_count i s
-dependencies_from e i s same = dependencies_in e s ∙ ap (λ (j : Tables). dependency_count j s) same
+dependencies_from e s same = cc (dependencies_with e s)
 
-pub label_from : (e : Drafted) (i : Tables) (m : ℕ) → e.origin ≡ i → neighbourhood_of (instance_of e) m ≡
+pub label_from : {i : Tables} (e : Drafted) (m : ℕ) → e.origin ≡ i → neighbourhood_of (instance_of e) m ≡
     neighbourhood_of i m
-label_from e i m same = label_in e m ∙ ap (λ (j : Tables). neighbourhood_of j m) same
+label_from e m same = cc (label_in e m)
 
-pub need_from : (e : Drafted) (i : Tables) (s k : ℕ) → e.origin ≡ i → need_of (instance_of e) s k ≡ need_of i s k
-need_from e i s k same = need_same e s k ∙ ap (λ (j : Tables). need_of j s k) same
+pub need_from : {i : Tables} (e : Drafted) (s k : ℕ) → e.origin ≡ i → need_of (instance_of e) s k ≡ need_of i s k
+need_from e s k same = cc (need_with e s k)
 
 pub services_from : (e : Drafted) (i : Tables) → e.origin ≡ i → service_count (instance_of e) ≡ service_count i
-services_from e i same = services_in e ∙ ap service_count same
+services_from e i same = cc (services_with e)

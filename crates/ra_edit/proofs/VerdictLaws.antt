@@ -1,6 +1,6 @@
 -- What is found after an edit is what the edited draft breaks, or what it costs.
-use Rattle.std.proofs.Common.{◌≡◌, ℕ, ◌+◌, ◌-◌, ◌*◌, ◌^◌, ◌<◌, ◌≤◌, Bool, true, false, cond, eqb, ◌&&◌, List, [], ◌∷◌}
-use Rattle.std.proofs.Common.{◌++◌, length, get_or, None, refl, sym, ap, ◌∙◌, subst, arith, eq-eqb}
+use Rattle.std.proofs.Common.{◌≡◌, ℕ, ◌+◌, ◌-◌, ◌*◌, ◌^◌, ◌<◌, ◌≤◌, Bool, true, false, eqb, ◌&&◌, List, [], ◌∷◌}
+use Rattle.std.proofs.Common.{◌++◌, length, None, refl, sym, ap, ◌∙◌, subst, arith, eq-eqb}
 use Rattle.std.proofs.lemmas.Nat.{mul-lt}
 use Rattle.ra_base.specs.Sums.{greatest, one_if}
 use Rattle.ra_base.proofs.Tables.{cell_is}
@@ -54,16 +54,15 @@ machine_read : (a : List Machine) (n : ℕ) (m : Machine) → length a ≡ n →
 unfolding machine_at
 machine_read a n m size =
     ap (λ (x : Machine). x.0)
-    (subst (λ k. get_or (a ++ m ∷ []) k (record { 0 = 0 }) ≡ m) size (get_or-append_seam a m [] (record { 0 = 0 })))
+    (rw size at (get_or-append_seam a m [] (record { 0 = 0 })))
 
-has_come : (d e : Drafted) (s : Service) (m : Machine) (c : ℕ) (requirements : List ℕ) → IsSoundDraft d →
+has_come : {d e : Drafted} (s : Service) (m : Machine) (c : ℕ) (requirements : List ℕ) → IsSoundDraft d →
     s.0 < service_count d.origin → m.0 < machine_count d.origin → e ≡ added d s m c requirements → HasCome d e s.0 m.0
 unfolding added process_of
-has_come d e s m c requirements sound s_in m_in same =
-    let few = few_of d sound in
+has_come {d} s m c requirements sound s_in m_in same =
+    let few = few_of sound in
     subst (λ (f : Drafted). HasCome d f s.0 m.0) (sym same) (record {
-      more = more_joined d (added d s m c requirements) (process_of s c) requirements m m refl refl refl refl refl
-          few.table few.initial few.current;
+      more = more_joined (process_of s c) requirements m m few;
       service = service_read d.origin d.rows (d.requirements ++ requirements) (process_of s c);
       home = machine_read d.initial (length d.rows) m few.initial;
       here = machine_read d.current (length d.rows) m few.current;
@@ -71,27 +70,25 @@ has_come d e s m c requirements sound s_in m_in same =
       machine_in = m_in;
     })
 
-pub has_gone : (d e : Drafted) (p : ℕ) → IsSoundDraft d → p < length d.rows → e ≡ retired d p → HasGone d e p
-has_gone d e p sound within same =
-    let few = few_of d sound in
-    subst (λ (f : Drafted). HasGone d f p) (sym same) (record {
+pub has_gone : {d : Drafted} (p : ℕ) → IsSoundDraft d → p < length d.rows → HasGone d (retired d p) p
+has_gone {d} p sound within =
+    let few = few_of sound in
+    record {
       there = within;
-      fewer = more_retired d d p refl refl refl refl (λ q r q_in apart column. refl) few.table few.initial few.current
-          within;
-    })
+      fewer = more_retired d.requirements few (λ q r q_in apart column. refl) within;
+    }
 
-has_other : (d e : Drafted) (p : ℕ) (requirements : List ℕ) → IsSoundDraft d → p < length d.rows →
+has_other : {d e : Drafted} (p : ℕ) (requirements : List ℕ) → IsSoundDraft d → p < length d.rows →
     length requirements ≡ resource_count d.origin → e ≡ resized d p requirements → HasOther d e p
 unfolding resized
-has_other d e p requirements sound within width same =
-    let few = few_of d sound in
+has_other {d} p requirements sound within width same =
+    let few = few_of sound in
     subst (λ (f : Drafted). HasOther d f p) (sym same) (record {
       there = within;
-      before = more_retired d d p refl refl refl refl (λ q r q_in apart column. refl) few.table few.initial few.current
-          within;
-      after = more_retired d (resized d p requirements) p refl refl refl refl
+      before = more_retired d.requirements few (λ q r q_in apart column. refl) within;
+      after = more_retired (put_row (resource_count d.origin) d.requirements p requirements) few
           (λ q r q_in apart column. put_cell_other (resource_count d.origin) (length d.rows) p q r d.requirements
-          requirements few.table within width apart column) few.table few.initial few.current within;
+          requirements few.table within width apart column) within;
       rows = refl;
       initial = refl;
       current = refl;
@@ -99,76 +96,75 @@ has_other d e p requirements sound within width same =
 
 -- what it requires
 
-come_asks : (d : Drafted) (s : Service) (m : Machine) (c : ℕ) (requirements : List ℕ) → IsSoundDraft d →
+come_asks : {d : Drafted} (s : Service) (m : Machine) (c : ℕ) (requirements : List ℕ) → IsSoundDraft d →
     length requirements ≡ resource_count d.origin → Asks (added d s m c requirements) (length d.rows) requirements
 unfolding added
-come_asks d s m c requirements sound width =
-    let few = few_of d sound in
-    let w = resource_count d.origin in
+come_asks {d} s m c requirements sound width =
     record {
       one_each = width;
       each = λ r column.
-          sym (requirement_read d.origin (d.rows ++ process_of s c ∷ []) (d.requirements ++ requirements)
-          (length d.rows) r ∙ cell_is w (d.requirements ++ requirements) (length d.rows) r
-          ∙ ap (λ k. get_or (d.requirements ++ requirements) (k + r) 0) (sym few.table)
-          ∙ get_or-append-add d.requirements requirements r 0);
+          cc (
+            requirement_read d.origin (d.rows ++ process_of s c ∷ []) (d.requirements ++ requirements)
+                (length d.rows) r,
+            cell_is (resource_count d.origin) (d.requirements ++ requirements) (length d.rows) r,
+            (few_of sound).table,
+            get_or-append-add d.requirements requirements r 0,
+          );
     }
 
-other_asks : (d : Drafted) (p : ℕ) (requirements : List ℕ) → IsSoundDraft d → p < length d.rows →
+other_asks : {d : Drafted} (p : ℕ) (requirements : List ℕ) → IsSoundDraft d → p < length d.rows →
     length requirements ≡ resource_count d.origin → Asks (resized d p requirements) p requirements
 unfolding resized
-other_asks d p requirements sound within width =
-    let few = few_of d sound in
+other_asks {d} p requirements sound within width =
     let w = resource_count d.origin in
     record {
       one_each = width;
       each = λ r column. sym (requirement_read d.origin d.rows (put_row w d.requirements p requirements) p r
-          ∙ put_cell_here w (length d.rows) p r d.requirements requirements few.table within width column);
+          ∙ put_cell_here w (length d.rows) p r d.requirements requirements (few_of sound).table within width column);
     }
 
-pub edited_is : (d e : Drafted) (edit : Edit) (requirements : List ℕ) → IsSoundDraft d →
+pub edited_is : {d e : Drafted} (edit : Edit) (requirements : List ℕ) → IsSoundDraft d →
     barred (length d.rows) edit ≡ None → FitsInstance d.origin edit → length requirements ≡ resource_count d.origin →
     e ≡ edited d edit requirements → IsEdited d edit requirements e
 unfolding edited
-edited_is d e (Add s m c) requirements sound free fits width same = (
-  has_come d e s m c requirements sound fits.0 fits.1 same,
+edited_is {d} (Add s m c) requirements sound free fits width same = (
+  has_come s m c requirements sound fits.0 fits.1 same,
   subst (λ (f : Drafted). Asks f (length d.rows) requirements) (sym same)
-      (come_asks d s m c requirements sound width),
+      (come_asks s m c requirements sound width),
 )
-edited_is d e (Retire p) requirements sound free fits width same =
-    has_gone d e p sound (free_retire (length d.rows) p free).0 same
-edited_is d e (Resize p) requirements sound free fits width same = (
-  has_other d e p requirements sound (free_resize (length d.rows) p free) width same,
+edited_is {d} (Retire p) requirements sound free fits width same =
+    rw same (has_gone p sound (free_retire (length d.rows) p free).0)
+edited_is {d} (Resize p) requirements sound free fits width same = (
+  has_other p requirements sound (free_resize (length d.rows) p free) width same,
   subst (λ (f : Drafted). Asks f p requirements) (sym same)
-      (other_asks d p requirements sound (free_resize (length d.rows) p free) width),
+      (other_asks p requirements sound (free_resize (length d.rows) p free) width),
 )
 
 -- what is broken
 
-pub come_broken : (d e : Drafted) (parts : Parts) (s m : ℕ) → IsKeptDraft d parts → HasCome d e s m →
+pub come_broken : {d e : Drafted} {parts : Parts} {s m : ℕ} → IsKeptDraft d parts → HasCome d e s m →
     broken_in e ≡ added_breaks (instance_of e) e.initial e.current s m
 unfolding broken_in
-come_broken d e parts s m kept come = added_law d e (length d.rows) s m come.more kept.unbroken come.service come.home
+come_broken {d} {e} {s} {m} kept come = added_law d e (length d.rows) s m come.more kept.unbroken come.service come.home
     come.here come.service_in come.machine_in
 
-pub service_there : (d : Drafted) (p : ℕ) → IsSoundDraft d → p < length d.rows →
+pub service_there : {d : Drafted} (p : ℕ) → IsSoundDraft d → p < length d.rows →
     service_of (instance_of d) p < service_count d.origin
 unfolding with_process_rows process_count service_count
-service_there d p sound within = sound.well_formed.services p within
+service_there p sound within = sound.well_formed.services p within
 
-pub gone_service : (d e : Drafted) (p s : ℕ) → IsSoundDraft d → HasGone d e p → s ≡ service_of (instance_of d) p →
+pub gone_service : {d e : Drafted} {p s : ℕ} → IsSoundDraft d → HasGone d e p → s ≡ service_of (instance_of d) p →
     s < service_count d.origin
-gone_service d e p s sound gone s_is = omega (arith, s_is, service_there d p sound gone.there)
+gone_service {p} sound gone s_is = omega (arith, s_is, service_there p sound gone.there)
 
-pub gone_broken : (d e : Drafted) (parts : Parts) (p s label : ℕ) → IsKeptDraft d parts → HasGone d e p →
+pub gone_broken : {d e : Drafted} {parts : Parts} {p s : ℕ} (label : ℕ) → IsKeptDraft d parts → HasGone d e p →
     s ≡ service_of (instance_of d) p → label ≡ neighbourhood_of d.origin (machine_at d.current p) →
     broken_in e ≡ retired_breaks (instance_of e) e.current s label
 unfolding broken_in
-gone_broken d e parts p s label kept gone s_is label_is =
-    let origin = gone.fewer.origin in
+gone_broken {d} {e} {p} {s} label kept gone s_is label_is =
     retired_law e d p s label gone.fewer kept.unbroken (sym s_is)
-    (subst (λ (i : Tables). s < service_count i) origin (gone_service d e p s kept.sound gone s_is))
-    (ap (λ (i : Tables). neighbourhood_of i (machine_at d.current p)) (sym origin) ∙ sym label_is)
+    (rw gone.fewer.origin at (gone_service kept.sound gone s_is))
+    (cc)
 
 machines_less : (d : Drafted) (p : ℕ) → machine_count (retired d p).origin ≡ machine_count d.origin
 unfolding retired
@@ -180,11 +176,11 @@ in_range : (d : Drafted) (a : List Machine) (p : ℕ) →
 unfolding with_process_rows process_count machine_count
 in_range d a p each within = each p within
 
-pub other_broken : (d e : Drafted) (parts : Parts) (p home here : ℕ) → IsKeptDraft d parts → HasOther d e p →
+pub other_broken : {d e : Drafted} {parts : Parts} {p home here : ℕ} → IsKeptDraft d parts → HasOther d e p →
     home ≡ machine_at d.initial p → here ≡ machine_at d.current p →
     broken_in e ≡ resized_breaks (instance_of e) e.initial e.current home here
 unfolding broken_in
-other_broken d e parts p home here kept other home_is here_is =
+other_broken {d} {e} {p} {home} {here} kept other home_is here_is =
     resized_law (retired d p) d e p home here other.before other.after other.rows other.initial other.current
     kept.unbroken (sym home_is) (sym here_is)
     (omega (arith, home_is, in_range d d.initial p kept.sound.initial.in_range other.there, machines_less d p))
@@ -219,16 +215,16 @@ pub record HasParts (d : Drafted) (parts : Parts) : Type 0 where
   pub service_small : parts.service < 2 ^ 48
   pub machine_small : parts.machine < 2 ^ 80
 
-pub parts_told : (d : Drafted) (parts : Parts) → IsKeptDraft d parts → Small (instance_of d) → HasParts d parts
+pub parts_told : {d : Drafted} {parts : Parts} → IsKeptDraft d parts → Small (instance_of d) → HasParts d parts
 unfolding parts_of
-parts_told d parts kept small =
+parts_told {d} {parts} kept small =
     let i = instance_of d in
     let well = kept.sound.well_formed in
-    let load : parts.load ≡ load_cost i d.current = ap (λ (x : Parts). x.load) kept.parts_are in
-    let balance : parts.balance ≡ balance_cost i d.current = ap (λ (x : Parts). x.balance) kept.parts_are in
-    let process : parts.process ≡ process_cost i d.initial d.current = ap (λ (x : Parts). x.process) kept.parts_are in
-    let service : parts.service ≡ service_cost i d.initial d.current = ap (λ (x : Parts). x.service) kept.parts_are in
-    let machine : parts.machine ≡ machine_cost i d.initial d.current = ap (λ (x : Parts). x.machine) kept.parts_are in
+    let load : parts.load ≡ load_cost i d.current = cc (kept.parts_are) in
+    let balance : parts.balance ≡ balance_cost i d.current = cc (kept.parts_are) in
+    let process : parts.process ≡ process_cost i d.initial d.current = cc (kept.parts_are) in
+    let service : parts.service ≡ service_cost i d.initial d.current = cc (kept.parts_are) in
+    let machine : parts.machine ≡ machine_cost i d.initial d.current = cc (kept.parts_are) in
     record {
       load = load;
       balance = balance;
@@ -242,13 +238,15 @@ parts_told d parts kept small =
       machine_small = omega (arith, machine, machine_under i d.initial d.current well small);
     }
 
-pub moved_same : (d e : Drafted) (p s : ℕ) → OneMore d e p → machine_at e.initial p ≡ machine_at e.current p →
+pub moved_same : {d e : Drafted} {p : ℕ} (s : ℕ) → OneMore d e p → machine_at e.initial p ≡ machine_at e.current p →
     moved_of (instance_of e) e.initial e.current s ≡ moved_of (instance_of d) d.initial d.current s
-moved_same d e p s more home =
-    let h = moved_more d e p s more in
-    let stays = eq-eqb (machine_at e.initial p) (machine_at e.current p) home in
-    let g = rw stays at h in
-    omega (arith, g, never (eqb (service_of (instance_of e) p) s))
+moved_same {e} {p} s more home =
+    omega (
+      arith,
+      rw (eq-eqb (machine_at e.initial p) (machine_at e.current p) home) at (moved_more s more),
+      never (eqb
+          (service_of (instance_of e) p) s),
+    )
   where
     never : (b : Bool) → one_if (b && false) ≡ 0
     never true = refl
@@ -256,37 +254,36 @@ moved_same d e p s more home =
 
 services_both : (d e : Drafted) → e.origin ≡ d.origin → service_count (instance_of e) ≡ service_count (instance_of d)
 unfolding with_process_rows service_count
-services_both d e origin = ap (λ (i : Tables). length i.raw.services.items) origin
+services_both d e origin = cc
 
 weight_both : (d e : Drafted) → e.origin ≡ d.origin → service_weight_of (instance_of e) ≡ service_weight_of
     (instance_of d)
 unfolding with_process_rows service_weight_of
-weight_both d e origin = ap (λ (i : Tables). i.raw.service_weight) origin
+weight_both d e origin = cc
 
-service_same : (d e : Drafted) (p : ℕ) → OneMore d e p → machine_at e.initial p ≡ machine_at e.current p →
+service_same : {d e : Drafted} {p : ℕ} → OneMore d e p → machine_at e.initial p ≡ machine_at e.current p →
     service_cost (instance_of e) e.initial e.current ≡ service_cost (instance_of d) d.initial d.current
 unfolding service_cost
-service_same d e p more home =
+service_same {d} {e} more home =
     let counts : greatest (service_count (instance_of e)) (moved_of (instance_of e) e.initial e.current) ≡
     greatest (service_count (instance_of d)) (moved_of (instance_of d) d.initial d.current) =
     greatest_same (service_count (instance_of e)) (moved_of (instance_of e) e.initial e.current)
-    (moved_of (instance_of d) d.initial d.current) (λ s s_in. moved_same d e p s more home)
+    (moved_of (instance_of d) d.initial d.current) (λ s s_in. moved_same s more home)
     ∙ ap (λ n. greatest n (moved_of (instance_of d) d.initial d.current)) (services_both d e more.origin) in
     rw (weight_both d e more.origin, counts) refl
 
-process_same : (d e : Drafted) (p : ℕ) → OneMore d e p → machine_at e.initial p ≡ machine_at e.current p →
+process_same : {d e : Drafted} {p : ℕ} → OneMore d e p → machine_at e.initial p ≡ machine_at e.current p →
     process_cost (instance_of e) e.initial e.current ≡ process_cost (instance_of d) d.initial d.current
-process_same d e p more home =
-    let h = process_more d e p more in
-    let stays = eq-eqb (machine_at e.current p) (machine_at e.initial p) (sym home) in
-    let g = rw stays at h in
-    g ∙ none (process_cost (instance_of d) d.initial d.current) (process_weight_of d.origin)
+process_same {d} {e} {p} more home =
+    (rw (eq-eqb (machine_at e.current p) (machine_at e.initial p) (sym home)) at (process_more more))
+    ∙ none (process_cost (instance_of d) d.initial d.current) (process_weight_of d.origin)
   where
     none : (a w : ℕ) → a + w * 0 ≡ a
     none a w = grind arith
 
 -- a process has come: the numbers of the parts
-pub come_parts : (d e : Drafted) (cost : Parts) (s m l b w : ℕ) (before after : MachineCosts) → WellFormed d.origin →
+pub come_parts : {d e : Drafted} {cost : Parts} {s m w : ℕ} {before after : MachineCosts} (l b : ℕ) →
+    WellFormed d.origin →
     HasParts d cost → HasCome d e s m → AreCostsOn d m before → AreCostsOn e m after →
     l + before.load ≡ cost.load + after.load → b + before.balance ≡ cost.balance + after.balance →
     w ≡ machine_weight_of d.origin * way_cost_of d.origin m m → record {
@@ -297,21 +294,16 @@ pub come_parts : (d e : Drafted) (cost : Parts) (s m l b w : ℕ) (before after 
       machine = cost.machine + w;
       total = l + b + cost.process + cost.service + (cost.machine + w);
     } ≡ parts_of (instance_of e) e.initial e.current
-come_parts d e cost s m l b w before after well has come before_is after_is l_is b_is w_is =
+come_parts {d} {e} {cost} {m} {w} {after} l b well has come before_is after_is l_is b_is w_is =
     let more = come.more in
     let origin = more.origin in
     let n = length d.rows in
     let home : machine_at e.initial n ≡ machine_at e.current n = come.home ∙ sym come.here in
-    let after_load : after.load ≡ row_load d.origin m (use_of (instance_of e) e.current m) = after_is.load
-    ∙ ap (λ (i : Tables). row_load i m (use_of (instance_of e) e.current m)) origin in
-    let after_balance : after.balance ≡ row_balance d.origin m (use_of (instance_of e) e.current m) = after_is.balance
-    ∙ ap (λ (i : Tables). row_balance i m (use_of (instance_of e) e.current m)) origin in
+    let after_load : after.load ≡ row_load d.origin m (use_of (instance_of e) e.current m) = cc (after_is.load) in
+    let after_balance : after.balance ≡ row_balance d.origin m (use_of (instance_of e) e.current m) =
+    cc (after_is.balance) in
     let way : machine_cost (instance_of e) e.initial e.current ≡ machine_cost (instance_of d) d.initial d.current
-    + machine_weight_of d.origin * way_cost_of d.origin m m = way_more d e n more
-    ∙ ap (λ x. machine_cost (instance_of d) d.initial d.current + machine_weight_of d.origin
-    * way_cost_of d.origin x (machine_at e.current n)) come.home
-    ∙ ap (λ x. machine_cost (instance_of d) d.initial d.current + machine_weight_of d.origin
-    * way_cost_of d.origin m x) come.here in
+    + machine_weight_of d.origin * way_cost_of d.origin m m = cc (way_more more, come.home, come.here) in
     parts_from e l b cost.process cost.service (cost.machine + w)
     (omega (arith, l_is, has.load, before_is.load, after_load, load_more d e n m more come.here come.machine_in))
     (omega (
@@ -322,29 +314,24 @@ come_parts d e cost s m l b w before after well has come before_is after_is l_is
       after_balance,
       balance_more d e n m well more come.here come.machine_in,
     ))
-    (has.process ∙ sym (process_same d e n more home))
-    (has.service ∙ sym (service_same d e n more home))
+    (has.process ∙ sym (process_same more home))
+    (has.service ∙ sym (service_same more home))
     (omega (arith, has.machine, way, w_is))
 
 -- a process has gone: what it added to the process cost and to the machine cost
-pub gone_process : (d e : Drafted) (p : ℕ) → HasGone d e p → process_cost (instance_of d) d.initial d.current ≡
+pub gone_process : {d e : Drafted} {p : ℕ} → HasGone d e p → process_cost (instance_of d) d.initial d.current ≡
     process_cost (instance_of e) e.initial e.current + process_weight_of d.origin * process_share (instance_of d)
     d.initial p (machine_at d.current p)
 unfolding process_share
-gone_process d e p gone = process_more e d p gone.fewer
-    ∙ ap (λ (i : Tables). process_cost (instance_of e) e.initial e.current + process_weight_of i
-    * cond (eqb (machine_at d.current p) (machine_at d.initial p)) 0 (process_cost_of (instance_of d) p))
-    (sym gone.fewer.origin)
+gone_process gone = cc (process_more gone.fewer, gone.fewer.origin)
 
-pub gone_way : (d e : Drafted) (p : ℕ) → HasGone d e p → machine_cost (instance_of d) d.initial d.current ≡
+pub gone_way : {d e : Drafted} {p : ℕ} → HasGone d e p → machine_cost (instance_of d) d.initial d.current ≡
     machine_cost (instance_of e) e.initial e.current + machine_weight_of d.origin * way_cost_of d.origin
     (machine_at d.initial p) (machine_at d.current p)
-gone_way d e p gone = way_more e d p gone.fewer
-    ∙ ap (λ (i : Tables). machine_cost (instance_of e) e.initial e.current + machine_weight_of i * way_cost_of i
-    (machine_at d.initial p) (machine_at d.current p)) (sym gone.fewer.origin)
+gone_way gone = cc (way_more gone.fewer, gone.fewer.origin)
 
 -- the numbers of the parts
-pub gone_parts : (d e : Drafted) (cost : Parts) (p m l b q s w : ℕ) (before after : MachineCosts) →
+pub gone_parts : {d e : Drafted} {cost : Parts} {p m s : ℕ} {before after : MachineCosts} (l b q w : ℕ) →
     WellFormed d.origin → HasParts d cost → HasGone d e p → m ≡ machine_at d.current p → m < machine_count d.origin →
     AreCostsOn d m before → AreCostsOn e m after → l + before.load ≡ cost.load + after.load →
     b + before.balance ≡ cost.balance + after.balance → q ≡ cost.process - process_weight_of d.origin * process_share
@@ -358,14 +345,12 @@ pub gone_parts : (d e : Drafted) (cost : Parts) (p m l b q s w : ℕ) (before af
       machine = w;
       total = l + b + q + s + w;
     } ≡ parts_of (instance_of e) e.initial e.current
-gone_parts d e cost p m l b q s w before after well has gone here m_in before_is after_is l_is b_is q_is s_is w_is =
+gone_parts {d} {e} {p} {m} {s} {before} l b q w well has gone here m_in before_is after_is l_is b_is q_is s_is w_is =
     let origin = gone.fewer.origin in
-    let low_in : m < machine_count e.origin = subst (λ (i : Tables). m < machine_count i) origin m_in in
-    let low_well : WellFormed e.origin = subst WellFormed origin well in
-    let before_load : before.load ≡ row_load e.origin m (use_of (instance_of d) d.current m) = before_is.load
-    ∙ ap (λ (i : Tables). row_load i m (use_of (instance_of d) d.current m)) origin in
+    let low_in = rw origin at m_in in
+    let before_load : before.load ≡ row_load e.origin m (use_of (instance_of d) d.current m) = cc (before_is.load) in
     let before_balance : before.balance ≡ row_balance e.origin m (use_of (instance_of d) d.current m) =
-    before_is.balance ∙ ap (λ (i : Tables). row_balance i m (use_of (instance_of d) d.current m)) origin in
+    cc (before_is.balance) in
     parts_from e l b q s w
     (omega (arith, l_is, has.load, before_load, after_is.load, load_more e d p m gone.fewer (sym here) low_in))
     (omega (
@@ -374,11 +359,11 @@ gone_parts d e cost p m l b q s w before after well has gone here m_in before_is
       has.balance,
       before_balance,
       after_is.balance,
-      balance_more e d p m low_well gone.fewer (sym here) low_in,
+      balance_more e d p m (subst WellFormed origin well) gone.fewer (sym here) low_in,
     ))
-    (omega (arith, q_is, has.process, gone_process d e p gone))
+    (omega (arith, q_is, has.process, gone_process gone))
     s_is
-    (omega (arith, w_is, has.machine, gone_way d e p gone))
+    (omega (arith, w_is, has.machine, gone_way gone))
 
 -- a process requires something else
 
@@ -404,13 +389,10 @@ pub renamed : (f : Tables → List Machine → List Machine → ℕ) (d e : Draf
     e.initial ≡ d.initial → e.current ≡ d.current → f (instance_of d) d.initial d.current ≡
     f (instance_of e) e.initial e.current
 renamed f d e same origin rows initial current =
-    same d.origin d.rows d.requirements e.requirements d.initial d.current
-    ∙ ap (λ (i : Tables). f (with_process_rows i d.rows e.requirements) d.initial d.current) (sym origin)
-    ∙ ap (λ (xs : List ProcessRow). f (with_process_rows e.origin xs e.requirements) d.initial d.current) (sym rows)
-    ∙ ap (λ (a : List Machine). f (instance_of e) a d.current) (sym initial)
-    ∙ ap (λ (a : List Machine). f (instance_of e) e.initial a) (sym current)
+    cc (same d.origin d.rows d.requirements e.requirements d.initial d.current)
 
-pub other_parts : (d e : Drafted) (cost : Parts) (p m l b : ℕ) (before after : MachineCosts) → WellFormed d.origin →
+pub other_parts : {d e : Drafted} {cost : Parts} {p m : ℕ} {before after : MachineCosts} (l b : ℕ) →
+    WellFormed d.origin →
     m < machine_count d.origin → m ≡ machine_at d.current p → HasParts d cost → HasOther d e p → AreCostsOn d m before →
     AreCostsOn e m after → l + before.load ≡ cost.load + after.load →
     b + before.balance ≡ cost.balance + after.balance → record {
@@ -421,20 +403,20 @@ pub other_parts : (d e : Drafted) (cost : Parts) (p m l b : ℕ) (before after :
       machine = cost.machine;
       total = l + b + cost.process + cost.service + cost.machine;
     } ≡ parts_of (instance_of e) e.initial e.current
-other_parts d e cost p m l b before after well m_in here has other before_is after_is l_is b_is =
+other_parts {d} {e} {cost} {p} {m} l b well m_in here has other before_is after_is l_is b_is =
     let low = retired d p in
-    let low_origin : d.origin ≡ low.origin = other.before.origin in
+    let low_origin = other.before.origin in
     let origin : e.origin ≡ d.origin = other.after.origin ∙ sym low_origin in
     let here_d : machine_at d.current p ≡ m = sym here in
-    let here_e : machine_at e.current p ≡ m = ap (λ (a : List Machine). machine_at a p) other.current ∙ here_d in
-    let low_in : m < machine_count low.origin = subst (λ (i : Tables). m < machine_count i) low_origin m_in in
-    let low_well : WellFormed low.origin = subst WellFormed low_origin well in
+    let here_e : machine_at e.current p ≡ m = cc (other.current) in
+    let low_in = rw low_origin at m_in in
+    let low_well = subst WellFormed low_origin well in
     let at_low : (f : Drafted) → f.origin ≡ low.origin → row_load f.origin m (use_of (instance_of f) f.current m) ≡
     row_load low.origin m (use_of (instance_of f) f.current m) =
-    λ f same. ap (λ (i : Tables). row_load i m (use_of (instance_of f) f.current m)) same in
+    λ f same. cc in
     let on_low : (f : Drafted) → f.origin ≡ low.origin → row_balance f.origin m (use_of (instance_of f) f.current m) ≡
     row_balance low.origin m (use_of (instance_of f) f.current m) =
-    λ f same. ap (λ (i : Tables). row_balance i m (use_of (instance_of f) f.current m)) same in
+    λ f same. cc in
     parts_from e l b cost.process cost.service cost.machine
     (omega (
       arith,
@@ -464,22 +446,22 @@ other_parts d e cost p m l b before after well m_in here has other before_is aft
 
 -- what a machine costs is counted
 
-pub load_counted : (d : Drafted) (m : ℕ) (costs : MachineCosts) → m < machine_count d.origin → AreCostsOn d m costs →
+pub load_counted : {d : Drafted} {m : ℕ} {costs : MachineCosts} → m < machine_count d.origin → AreCostsOn d m costs →
     costs.load ≤ load_cost (instance_of d) d.current
-load_counted d m costs within are = omega (arith, are.load, load_term d m within)
+load_counted {d} {m} within are = omega (arith, are.load, load_term d m within)
 
-pub balance_counted : (d : Drafted) (m : ℕ) (costs : MachineCosts) → m < machine_count d.origin → AreCostsOn d m costs →
+pub balance_counted : {d : Drafted} {m : ℕ} {costs : MachineCosts} → m < machine_count d.origin → AreCostsOn d m costs →
     costs.balance ≤ balance_cost (instance_of d) d.current
-balance_counted d m costs within are = omega (arith, are.balance, balance_term d m within)
+balance_counted {d} {m} within are = omega (arith, are.balance, balance_term d m within)
 
 -- the machine of a process exists
-pub here_in : (d : Drafted) (p : ℕ) → IsSoundDraft d → p < length d.rows →
+pub here_in : {d : Drafted} (p : ℕ) → IsSoundDraft d → p < length d.rows →
     machine_at d.current p < machine_count d.origin
-here_in d p sound within = in_range d d.current p sound.current.in_range within
+here_in {d} p sound within = in_range d d.current p sound.current.in_range within
 
-pub home_in : (d : Drafted) (p : ℕ) → IsSoundDraft d → p < length d.rows →
+pub home_in : {d : Drafted} (p : ℕ) → IsSoundDraft d → p < length d.rows →
     machine_at d.initial p < machine_count d.origin
-home_in d p sound within = in_range d d.initial p sound.initial.in_range within
+home_in {d} p sound within = in_range d d.initial p sound.initial.in_range within
 
 -- a product of two numbers of files
 pub times_small : (x y : ℕ) → x < 2 ^ 32 → y < 2 ^ 32 → x * y < 2 ^ 64

@@ -49,17 +49,18 @@ pub record HasCounted (d : Drafted) (n : ℕ) (loads : Loads) : Type 0 where
 abbrev pub AreLoadsOf : Drafted → Loads → Type 0
 AreLoadsOf d loads = HasCounted d (length d.rows) loads
 
--- the use of each resource of machine m
-pub record IsUseRow (d : Drafted) (m : ℕ) (row : List ℕ) : Type 0 where
+-- a row that has what a function gives for each resource
+pub record IsRowOf (d : Drafted) (f : ℕ → ℕ) (row : List ℕ) : Type 0 where
   pub one_each : length row ≡ resource_count d.origin
-  pub each : (r : ℕ) → r < resource_count d.origin
-      → slice_index row r ≡ use_of (instance_of d) d.current m r
+  pub each : (r : ℕ) → r < resource_count d.origin → slice_index row r ≡ f r
+
+-- the use of each resource of machine m
+abbrev pub IsUseRow : Drafted → ℕ → List ℕ → Type 0
+IsUseRow d m = IsRowOf d (use_of (instance_of d) d.current m)
 
 -- the transient use of each resource of machine m
-pub record IsTransientRowOfDraft (d : Drafted) (m : ℕ) (row : List ℕ) : Type 0 where
-  pub one_each : length row ≡ resource_count d.origin
-  pub each : (r : ℕ) → r < resource_count d.origin
-      → slice_index row r ≡ transient_of (instance_of d) d.initial d.current m r
+abbrev pub IsTransientRowOfDraft : Drafted → ℕ → List ℕ → Type 0
+IsTransientRowOfDraft d m = IsRowOf d (transient_of (instance_of d) d.initial d.current m)
 
 -- a machine of process p: its initial or its present one
 abbrev pub IsThere : Drafted → ℕ → ℕ → Type 0

@@ -2,19 +2,17 @@
 ghost use Rattle.std.specs.Prelude.{◌≡◌, ℕ, ◌+◌, ◌*◌, ◌^◌, ◌<◌, ◌≤◌, length, slice_index, None, IfOk};
 ghost use Rattle.ra_check.specs.Stands.{IsBelow};
 ghost use Rattle.ra_check.specs.Made.{IsGrid};
-ghost use Rattle.ra_model.specs.Assignments.{machine_at};
 ghost use Rattle.ra_model.specs.Numbers.{resource_count, machine_count};
 ghost use Rattle.ra_edit.specs.Drafts.{Drafted};
 ghost use Rattle.ra_edit.specs.Keeping.{drafted, IsSoundDraft};
 ghost use Rattle.ra_edit.specs.Kinds.{Asks, HasCome, HasGone, HasOther, IsEdited};
 ghost use Rattle.ra_edit.specs.Loads.{AreLoadsOf, HasCounted, HasMoreUse, HasMoreAt, IsUseRow, IsTransientRowOfDraft};
-ghost use Rattle.ra_edit.specs.Loads.{HasAtLeast, IsThere};
-ghost use Rattle.ra_edit.specs.OneMore.{OneMore};
+ghost use Rattle.ra_edit.specs.Loads.{HasAtLeast};
 ghost use Rattle.ra_edit.specs.Replies.{barred};
 ghost use Rattle.ra_edit_read.specs.EditLists.{FitsInstance};
 
 use crate::lists::{Lists, machine_of};
-use crate::rows::{read_row, requirements_of, row_with, row_without};
+use crate::rows::{read_row, requirements_of};
 use crate::scanning::{processes, small};
 use ra_base::{Fixed, Machine, NoMemory, Process};
 use ra_edit_read::Edit;
@@ -89,144 +87,6 @@ impl Loads {
         read_row(&self.between, inst.resources(), m.0)
     }
 
-    /// The use of a machine with one more process there.
-    pub(crate) fn use_added(
-        &self,
-        alloc: Global,
-        inst: &Instance,
-        lists: &Lists,
-        m: Machine,
-        asked: &[u32],
-    ) -> Result<Fixed<u64>, NoMemory>
-        requires sound { IsSoundDraft (drafted inst.now.tables lists.now) }
-        requires loads { AreLoadsOf (drafted inst.now.tables lists.now) self.now }
-        requires machine { m.0 < machine_count inst.now.tables }
-        requires asked { length asked.now ≡ resource_count inst.now.tables }
-        ensures one_each { IfOk result (λ row. length row.items ≡ resource_count inst.now.tables) }
-        ensures row { IfOk result (λ row. (e : Drafted) (p : ℕ) →
-            OneMore (drafted inst.now.tables lists.now) e p → machine_at e.current p ≡ m.0 →
-            Asks e p asked.now → IsUseRow e m.0 row.items) }
-    {
-        small(inst, lists);
-        Ok(row_with(alloc, self.use_row(inst, m), asked)?)
-    }
-
-    /// The transient use of a machine with one more process there.
-    pub(crate) fn transient_added(
-        &self,
-        alloc: Global,
-        inst: &Instance,
-        lists: &Lists,
-        m: Machine,
-        asked: &[u32],
-    ) -> Result<Fixed<u64>, NoMemory>
-        requires sound { IsSoundDraft (drafted inst.now.tables lists.now) }
-        requires loads { AreLoadsOf (drafted inst.now.tables lists.now) self.now }
-        requires machine { m.0 < machine_count inst.now.tables }
-        requires asked { length asked.now ≡ resource_count inst.now.tables }
-        ensures one_each { IfOk result (λ row. length row.items ≡ resource_count inst.now.tables) }
-        ensures row { IfOk result (λ row. (e : Drafted) (p : ℕ) →
-            OneMore (drafted inst.now.tables lists.now) e p → machine_at e.current p ≡ m.0 →
-            Asks e p asked.now → IsTransientRowOfDraft e m.0 row.items) }
-    {
-        small(inst, lists);
-        Ok(row_with(alloc, self.transient_row(inst, m), asked)?)
-    }
-
-    /// The use of the machine of a process without the process.
-    pub(crate) fn use_retired(
-        &self,
-        alloc: Global,
-        inst: &Instance,
-        lists: &Lists,
-        p: Process,
-        m: Machine,
-    ) -> Result<Fixed<u64>, NoMemory>
-        requires sound { IsSoundDraft (drafted inst.now.tables lists.now) }
-        requires loads { AreLoadsOf (drafted inst.now.tables lists.now) self.now }
-        requires process { p.0 < length lists.now.rows.items }
-        requires here { m.0 ≡ machine_at lists.now.current.items p.0 }
-        ensures one_each { IfOk result (λ row. length row.items ≡ resource_count inst.now.tables) }
-        ensures row { IfOk result (λ row. (e : Drafted) →
-            OneMore e (drafted inst.now.tables lists.now) p.0 → IsUseRow e m.0 row.items) }
-    {
-        let asked = requirements_of(inst, lists, p);
-        Ok(row_without(alloc, self.use_row(inst, m), asked)?)
-    }
-
-    /// The transient use of a machine of a process, its initial or its present one, without the process.
-    fn transient_retired(
-        &self,
-        alloc: Global,
-        inst: &Instance,
-        lists: &Lists,
-        p: Process,
-        m: Machine,
-    ) -> Result<Fixed<u64>, NoMemory>
-        requires sound { IsSoundDraft (drafted inst.now.tables lists.now) }
-        requires loads { AreLoadsOf (drafted inst.now.tables lists.now) self.now }
-        requires process { p.0 < length lists.now.rows.items }
-        requires machine { m.0 < machine_count inst.now.tables }
-        requires there { IsThere (drafted inst.now.tables lists.now) p.0 m.0 }
-        ensures one_each { IfOk result (λ row. length row.items ≡ resource_count inst.now.tables) }
-        ensures row { IfOk result (λ row. (e : Drafted) →
-            OneMore e (drafted inst.now.tables lists.now) p.0 → IsTransientRowOfDraft e m.0 row.items) }
-    {
-        let asked = requirements_of(inst, lists, p);
-        Ok(row_without(alloc, self.transient_row(inst, m), asked)?)
-    }
-
-    /// The use of the machine of a process with other requirements of the process.
-    pub(crate) fn use_resized(
-        &self,
-        alloc: Global,
-        inst: &Instance,
-        lists: &Lists,
-        p: Process,
-        m: Machine,
-        asked: &[u32],
-    ) -> Result<Fixed<u64>, NoMemory>
-        requires sound { IsSoundDraft (drafted inst.now.tables lists.now) }
-        requires loads { AreLoadsOf (drafted inst.now.tables lists.now) self.now }
-        requires process { p.0 < length lists.now.rows.items }
-        requires here { m.0 ≡ machine_at lists.now.current.items p.0 }
-        requires asked { length asked.now ≡ resource_count inst.now.tables }
-        ensures one_each { IfOk result (λ row. length row.items ≡ resource_count inst.now.tables) }
-        ensures row { IfOk result (λ row. (e : Drafted) →
-            HasOther (drafted inst.now.tables lists.now) e p.0 → Asks e p.0 asked.now →
-            IsUseRow e m.0 row.items) }
-    {
-        small(inst, lists);
-        let rests = self.use_retired(alloc, inst, lists, p, m)?;
-        Ok(row_with(alloc, rests.as_slice(), asked)?)
-    }
-
-    /// The transient use of a machine of a process with other requirements of the process.
-    pub(crate) fn transient_resized(
-        &self,
-        alloc: Global,
-        inst: &Instance,
-        lists: &Lists,
-        p: Process,
-        m: Machine,
-        asked: &[u32],
-    ) -> Result<Fixed<u64>, NoMemory>
-        requires sound { IsSoundDraft (drafted inst.now.tables lists.now) }
-        requires loads { AreLoadsOf (drafted inst.now.tables lists.now) self.now }
-        requires process { p.0 < length lists.now.rows.items }
-        requires machine { m.0 < machine_count inst.now.tables }
-        requires there { IsThere (drafted inst.now.tables lists.now) p.0 m.0 }
-        requires asked { length asked.now ≡ resource_count inst.now.tables }
-        ensures one_each { IfOk result (λ row. length row.items ≡ resource_count inst.now.tables) }
-        ensures row { IfOk result (λ row. (e : Drafted) →
-            HasOther (drafted inst.now.tables lists.now) e p.0 → Asks e p.0 asked.now →
-            IsTransientRowOfDraft e m.0 row.items) }
-    {
-        small(inst, lists);
-        let rests = self.transient_retired(alloc, inst, lists, p, m)?;
-        Ok(row_with(alloc, rests.as_slice(), asked)?)
-    }
-
     /// Follows an edit of the lists, which gives these requirements.
     pub(crate) fn follow(&mut self, inst: &Instance, lists: &Lists, edit: Edit, asked: &[u32])
         requires sound { IsSoundDraft (drafted inst.now.tables lists.now) }
@@ -280,9 +140,9 @@ impl Loads {
             Asks e p.0 asked.now → AreLoadsOf e self.new }
     {
         small(inst, lists);
+        self.retire(inst, lists, p);
         let home = machine_of(&lists.initial, p);
         let here = machine_of(&lists.current, p);
-        self.go(home, here, requirements_of(inst, lists, p));
         self.come(home, here, asked);
     }
 

@@ -76,3 +76,23 @@ pub(crate) fn row_without(
     }
     Ok(rests)
 }
+
+/// A row minus some amounts, plus others.
+pub(crate) fn row_changed(
+    alloc: Global,
+    row: &[u64],
+    less: &[u32],
+    more: &[u32],
+) -> Result<Fixed<u64>, NoMemory>
+    requires less { length less.now ≡ length row.now }
+    requires more { length more.now ≡ length row.now }
+    requires each { (r : ℕ) → r < length row.now →
+        (slice_index less.now r ≤ slice_index row.now r) × (slice_index row.now r < 2 ^ 63) }
+    ensures one_each { IfOk result (λ sums. length sums.items ≡ length row.now) }
+    ensures each { IfOk result (λ sums. (r : ℕ) → r < length row.now →
+        slice_index sums.items r + slice_index less.now r ≡
+        slice_index row.now r + slice_index more.now r) }
+{
+    let rests = row_without(alloc, row, less)?;
+    Ok(row_with(alloc, rests.as_slice(), more)?)
+}

@@ -15,6 +15,7 @@ use crate::judging::{added_breaks, resized_breaks, retired_breaks};
 use crate::keeping::Kept;
 use crate::lists::machine_of;
 use crate::moved::service_cost_without;
+use crate::rows::{requirements_of, row_changed, row_with, row_without};
 use crate::scanning::{service_of, small};
 use ra_base::{Cause, Machine, NoMemory, Parts, Process, Service};
 use ra_edit_read::Edit;
@@ -73,8 +74,8 @@ fn judge_added(
     let lists = &kept.lists;
     let loads = &kept.loads;
     small(inst, lists);
-    let used = loads.use_added(alloc, inst, lists, m, asked)?;
-    let between = loads.transient_added(alloc, inst, lists, m, asked)?;
+    let used = row_with(alloc, loads.use_row(inst, m), asked)?;
+    let between = row_with(alloc, loads.transient_row(inst, m), asked)?;
     if let Some(cause) = added_breaks(
         inst,
         &kept.members,
@@ -117,9 +118,10 @@ fn judge_resized(
     let home = machine_of(&lists.initial, p);
     let here = machine_of(&lists.current, p);
     small(inst, lists);
-    let used = loads.use_resized(alloc, inst, lists, p, here, asked)?;
-    let at_home = loads.transient_resized(alloc, inst, lists, p, home, asked)?;
-    let at_here = loads.transient_resized(alloc, inst, lists, p, here, asked)?;
+    let was = requirements_of(inst, lists, p);
+    let used = row_changed(alloc, loads.use_row(inst, here), was, asked)?;
+    let at_home = row_changed(alloc, loads.transient_row(inst, home), was, asked)?;
+    let at_here = row_changed(alloc, loads.transient_row(inst, here), was, asked)?;
     if let Some(cause) = resized_breaks(
         inst,
         home,
@@ -177,7 +179,11 @@ fn parts_without(
     let lists = &kept.lists;
     let loads = &kept.loads;
     small(inst, lists);
-    let used = loads.use_retired(alloc, inst, lists, p, here)?;
+    let used = row_without(
+        alloc,
+        loads.use_row(inst, here),
+        requirements_of(inst, lists, p),
+    )?;
     let costs = costs_with(inst, lists, loads, kept.parts, here, used.as_slice());
     let process = kept.parts.process - moved_share(inst, lists, p);
     let service = service_cost_without(&kept.moved, inst, lists, p);

@@ -16,8 +16,7 @@ use Rattle.ra_edit_read.specs.declared.faults.EditsFault.TheVariants.{Range}
 use Rattle.ra_edit_read.specs.EditLists.{FitsInstance}
 use Rattle.ra_edit_read.specs.EditTexts.{token_value_at, numbers_behind, kind_place, edit_from, IsEdit, IsEditsFile}
 use Rattle.ra_edit_read.specs.EditTexts.{none_left_in_edit, any_test, below_test, any_at, below_at, any_from}
-use Rattle.ra_edit_read.specs.EditTexts.{added_test}
-use Rattle.ra_edit_read.specs.EditTexts.{resized_test, numbers_test, kind_test, found_test, edit_test}
+use Rattle.ra_edit_read.specs.EditTexts.{added_test, resized_test, numbers_test, kind_test, found_test, edit_test}
 use Rattle.ra_edit_read.proofs.NumberLaws.{worth_of, any_within, any_from_there, below_inside}
 use Rattle.ra_edit_read.proofs.EditLaws.{kind_sound, kind_wrong, kind_behind}
 
@@ -73,20 +72,25 @@ pub record HasNumbers (bytes : List ℕ) (i : Tables) (kind n : ℕ) : Type 0 wh
 added_has : (bytes : List ℕ) (i : Tables) (k n : ℕ) → added_test bytes i k n ≡ None → HasNumbers bytes i 1 n
 unfolding added_test edit_from numbers_behind
 added_has bytes i k n none =
-    let service = left_none (below_at bytes k (service_count i) n) _ none in
     let behind = right_none (below_at bytes k (service_count i) n) _ none in
-    let machine = left_none (below_at bytes k (machine_count i) (n + 1)) _ behind in
-    let rest = right_none (below_at bytes k (machine_count i) (n + 1)) _ behind in
-    let cost = right_none (any_from bytes k (n + 2) (resource_count i)) _ rest in
     record {
-      fits = (below_there bytes k (service_count i) n service, below_there bytes k (machine_count i) (n + 1) machine);
-      within = omega (arith, any_there bytes k (n + 2 + resource_count i) cost);
+      fits = (
+        below_there bytes k (service_count i) n (left_none (below_at bytes k
+            (service_count i) n) _ none),
+        below_there bytes k (machine_count i) (n + 1) (left_none (below_at bytes k
+            (machine_count i) (n + 1)) _ behind),
+      );
+      within = omega (
+        arith,
+        any_there bytes k (n + 2 + resource_count i) (right_none (any_from bytes k (n + 2)
+            (resource_count i)) _ (right_none (below_at bytes k (machine_count i) (n + 1)) _ behind)),
+      );
     }
 
 has_added : (bytes : List ℕ) (i : Tables) (k n : ℕ) → HasNumbers bytes i 1 n → added_test bytes i k n ≡ None
 unfolding added_test edit_from numbers_behind
 has_added bytes i k n has =
-    let within : n + (resource_count i + 3) ≤ length (tokens bytes) = has.within in
+    let within = has.within in
     both_none _ _ (below_passes bytes k (service_count i) n (omega arith) has.fits.0)
     (both_none _ _ (below_passes bytes k (machine_count i) (n + 1) (omega arith) has.fits.1)
     (both_none _ _ (any_from_there bytes k (n + 2) (resource_count i) (omega arith))
@@ -104,15 +108,14 @@ any_all bytes k n (suc R) within none =
 resized_has : (bytes : List ℕ) (i : Tables) (k n : ℕ) → resized_test bytes i k n ≡ None → HasNumbers bytes i 3 n
 unfolding resized_test edit_from numbers_behind
 resized_has bytes i k n none =
-    let process = any_there bytes k n (left_none _ _ none) in
-    let all = any_all bytes k (n + 1) (resource_count i) (omega (arith, process))
+    let all = any_all bytes k (n + 1) (resource_count i) (omega (arith, any_there bytes k n (left_none _ _ none)))
     (right_none (any_at bytes k n) _ none) in
     record { fits = tt; within = omega (arith, all) }
 
 has_resized : (bytes : List ℕ) (i : Tables) (k n : ℕ) → HasNumbers bytes i 3 n → resized_test bytes i k n ≡ None
 unfolding resized_test edit_from numbers_behind
 has_resized bytes i k n has =
-    let within : n + (resource_count i + 1) ≤ length (tokens bytes) = has.within in
+    let within = has.within in
     both_none _ _ (any_within bytes k n (omega arith)) (any_from_there bytes k (n + 1) (resource_count i) (omega arith))
 
 retired_has : (bytes : List ℕ) (i : Tables) (k n : ℕ) → any_at bytes k n ≡ None → HasNumbers bytes i 2 n
@@ -122,7 +125,7 @@ retired_has bytes i k n none = record { fits = tt; within = omega (arith, any_th
 has_retired : (bytes : List ℕ) (i : Tables) (k n : ℕ) → HasNumbers bytes i 2 n → any_at bytes k n ≡ None
 unfolding edit_from numbers_behind
 has_retired bytes i k n has =
-    let within : n + 1 ≤ length (tokens bytes) = has.within in any_within bytes k n (omega arith)
+    let within = has.within in any_within bytes k n (omega arith)
 
 -- a kind is 1, 2 or 3
 three : (P : ℕ → Type 0) (kind : ℕ) → 1 ≤ kind → kind ≤ 3 → P 1 → P 2 → P 3 → P kind
@@ -140,10 +143,11 @@ unfolding numbers_test
 numbers_has bytes i k kind n least most = three (λ x. numbers_test bytes i k x n ≡ None → HasNumbers bytes i x n) kind
     least most (added_has bytes i k n) (retired_has bytes i k n) (resized_has bytes i k n)
 
-has_numbers : (bytes : List ℕ) (i : Tables) (k kind n : ℕ) → 1 ≤ kind → kind ≤ 3 → HasNumbers bytes i kind n →
+has_numbers : {bytes : List ℕ} {i : Tables} {kind n : ℕ} (k : ℕ) → 1 ≤ kind → kind ≤ 3 → HasNumbers bytes i kind n →
     numbers_test bytes i k kind n ≡ None
 unfolding numbers_test
-has_numbers bytes i k kind n least most = three (λ x. HasNumbers bytes i x n → numbers_test bytes i k x n ≡ None) kind
+has_numbers {bytes} {i} {kind} {n} k least most = three (λ x. HasNumbers bytes i x n →
+    numbers_test bytes i k x n ≡ None) kind
     least most (has_added bytes i k n) (has_retired bytes i k n) (has_resized bytes i k n)
 
 -- a kind that was tested
@@ -185,10 +189,10 @@ edit_told bytes i k within none =
     let n = kind_place (resource_count i) bytes k in
     let start : Token = record { value = 0; at = 0 } in
     let t = get_or (tokens bytes) n start in
-    let found : slice_get (tokens bytes) n ≡ Some t = slice_get-get_or (tokens bytes) n start within in
+    let found = slice_get-get_or (tokens bytes) n start within in
     let told = found_told bytes i k n t found none in
     let worth : t.value ≡ token_value_at bytes n = sym (worth_of bytes n t found) in
-    let has = subst (λ kind. HasNumbers bytes i kind (suc n)) worth told.1 in
+    let has = rw worth at told.1 in
     record {
       few = told.0.few;
       is = record {
@@ -205,15 +209,15 @@ edit_passes bytes i k has =
     let n = kind_place (resource_count i) bytes k in
     let start : Token = record { value = 0; at = 0 } in
     let t = get_or (tokens bytes) n start in
-    let end : n + suc (numbers_behind (resource_count i) (token_value_at bytes n)) ≤ length (tokens bytes) =
+    let end =
     has.within in
-    let found : slice_get (tokens bytes) n ≡ Some t = slice_get-get_or (tokens bytes) n start (omega arith) in
-    let worth : token_value_at bytes n ≡ t.value = worth_of bytes n t found in
+    let found = slice_get-get_or (tokens bytes) n start (omega arith) in
+    let worth = worth_of bytes n t found in
     let behind =
     subst (λ kind. HasNumbers bytes i kind (suc n)) worth (record { fits = has.is.fits; within = omega arith }) in
     rw found (both_none _ _
     (kind_sound k t has.few (omega (arith, worth, has.is.least)) (omega (arith, worth, has.is.most)))
-    (has_numbers bytes i k t.value (suc n) (omega (arith, worth, has.is.least))
+    (has_numbers k (omega (arith, worth, has.is.least))
     (omega (arith, worth, has.is.most)) behind))
 
 -- a kind comes before those after it
@@ -240,9 +244,9 @@ file_at bytes i c few all sound none = record {
 }
 
 -- each edit of a file passes
-pub each_passes : (bytes : List ℕ) (i : Tables) (c : ℕ) → IsEditsFile bytes i c → (k : ℕ) → k < c →
+pub each_passes : {bytes : List ℕ} {i : Tables} {c : ℕ} → IsEditsFile bytes i c → (k : ℕ) → k < c →
     edit_test bytes i k ≡ None
-each_passes bytes i c file k below = edit_passes bytes i k (record {
+each_passes {bytes} {i} {c} file k below = edit_passes bytes i k (record {
   few = omega (arith, file.few);
   is = file.each k below;
   within = omega (arith, file.all, (kind_before (resource_count i) bytes k c below).1);
@@ -256,20 +260,35 @@ start_place R bytes = refl
 ends : (bytes : List ℕ) (i : Tables) → first 100001 (edit_test bytes i) ≡ None → (k : ℕ) → k ≤ 100000 →
     ((c : ℕ) × (c ≤ k) × (kind_place (resource_count i) bytes c ≡ length (tokens bytes)))
     ⊎ (kind_place (resource_count i) bytes k < length (tokens bytes))
-ends bytes i sound zero few = ⊎_elim
-    (λ (within : kind_place (resource_count i) bytes 0 < length (tokens bytes)). inr within)
-    (λ (past : length (tokens bytes) ≤ kind_place (resource_count i) bytes 0).
-    inl (0, omega arith, omega (arith, past, start_place (resource_count i) bytes)))
-    (cases_lt (kind_place (resource_count i) bytes 0) (length (tokens bytes)))
+ends bytes i sound zero few = elim (cases_lt (kind_place (resource_count i) bytes 0) (length (tokens bytes))) [
+  | inl within ↦ inr within
+  | inr past ↦ inl (
+    0,
+    omega arith,
+    omega (
+      arith,
+      past,
+      start_place
+          (resource_count i) bytes,
+    ),
+  )
+]
 ends bytes i sound (suc k) few = ⊎_elim
     (λ ended. inl (ended.0, omega (arith, ended.1), ended.2))
     (λ (within : kind_place (resource_count i) bytes k < length (tokens bytes)).
-    let has = edit_told bytes i k within (first_none_at k 100001 (edit_test bytes i) (omega arith) sound) in
-    ⊎_elim
-    (λ (more : kind_place (resource_count i) bytes (suc k) < length (tokens bytes)). inr more)
-    (λ (past : length (tokens bytes) ≤ kind_place (resource_count i) bytes (suc k)).
-    inl (suc k, omega arith, omega (arith, past, has.within)))
-    (cases_lt (kind_place (resource_count i) bytes (suc k)) (length (tokens bytes))))
+    elim (cases_lt (kind_place (resource_count i) bytes (suc k)) (length (tokens bytes))) [
+      | inl more ↦ inr more
+      | inr past ↦ inl (
+        suc k,
+        omega arith,
+        omega (
+          arith,
+          past,
+          (edit_told bytes i k within (first_none_at k 100001
+              (edit_test bytes i) (omega arith) sound)).within,
+        ),
+      )
+    ])
     (ends bytes i sound k (omega arith))
 
 pub count_of : (bytes : List ℕ) (i : Tables) → first 100001 (edit_test bytes i) ≡ None → (c : ℕ) × (c ≤ 100000)
@@ -277,6 +296,9 @@ pub count_of : (bytes : List ℕ) (i : Tables) → first 100001 (edit_test bytes
 count_of bytes i sound = ⊎_elim
     (λ ended. ended)
     (λ (within : kind_place (resource_count i) bytes 100000 < length (tokens bytes)).
-    absurd (let has = edit_told bytes i 100000 within
-    (first_none_at 100000 100001 (edit_test bytes i) (omega arith) sound) in omega (arith, has.few)))
+    absurd (omega (
+      arith,
+      (edit_told bytes i 100000 within
+          (first_none_at 100000 100001 (edit_test bytes i) (omega arith) sound)).few,
+    )))
     (ends bytes i sound 100000 (omega arith))

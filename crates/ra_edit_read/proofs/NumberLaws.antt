@@ -1,6 +1,6 @@
 -- From the answers of a token reader to what is wrong with the numbers of an edit.
 use Rattle.std.proofs.Common.{◌≡◌, ℕ, ◌+◌, ◌-◌, ◌<◌, ◌≤◌, ◌⊎◌, List, length, Option, Some, None, Ok, Err, refl, sym, ap}
-use Rattle.std.proofs.Common.{◌∙◌, subst, inl, inr, ⊎_elim, arith, length-take, length-drop, length-append}
+use Rattle.std.proofs.Common.{◌∙◌, inl, inr, ⊎_elim, arith, length-take, length-drop, length-append}
 use Rattle.std.specs.Prelude.{slice_get, nat_lt}
 use Rattle.std.proofs.lemmas.Bool.{cond-true, cond-false, lt-ltb, le-ltb}
 use Rattle.std.proofs.lemmas.List.{length-map}
@@ -17,8 +17,7 @@ use Rattle.ra_edit_read.specs.declared.faults.EditsFault.{EditsFault}
 use Rattle.ra_edit_read.specs.declared.faults.EditsFault.TheVariants.{ReadFault, BadByte, TooLarge, TooLong, Missing}
 use Rattle.ra_edit_read.specs.declared.faults.EditsFault.TheVariants.{Range, TooMany, NoMemory}
 use Rattle.ra_edit_read.specs.EditTexts.{token_value_at, edits_fault, none_left_in_edit, any_test, below_test, any_at}
-use Rattle.ra_edit_read.specs.EditTexts.{below_at}
-use Rattle.ra_edit_read.specs.EditTexts.{any_from}
+use Rattle.ra_edit_read.specs.EditTexts.{below_at, any_from}
 use Rattle.ra_edit_read.specs.Answers.{EditsSays}
 use Rattle.ra_edit_read.specs.Reading.{TakesNumber, TakesValues}
 
@@ -68,18 +67,17 @@ any_fault bytes k n fault answer =
     (⊎_elim (λ (e : fault ≡ told.ReadFault). inl e) (λ (h : GaveAll bytes n × (first_fault bytes ≡ Some fault)).
     inr (rw (past_all bytes n h.0, h.1) refl)) answer)
 
-pub any_stopped : (bytes : List ℕ) (k x : ℕ) (fault : EditsFault) → HasFault edits_fault bytes x fault →
+pub any_stopped : {bytes : List ℕ} {x : ℕ} {fault : EditsFault} (k : ℕ) → HasFault edits_fault bytes x fault →
     EditsSays (any_at bytes k (tokens_before bytes x)) fault
-any_stopped bytes k x fault h = subst (λ (f : EditsFault). EditsSays (any_at bytes k (tokens_before bytes x)) f)
-    (sym h.same) (any_fault bytes k (tokens_before bytes x) h.token_fault h.answer)
+any_stopped {bytes} {x} k h = rw (← h.same) at (any_fault bytes k (tokens_before bytes x) h.token_fault h.answer)
 
 any_ended : (bytes : List ℕ) (k n : ℕ) → IsAnswer bytes n (Ok None) → any_at bytes k n ≡ Some (Missing k)
 unfolding any_at any_test none_left_in_edit
 any_ended bytes k n answer = rw (past_all bytes n answer.0, answer.1) refl
 
-pub any_missing : (bytes : List ℕ) (k x y : ℕ) → HasNext bytes x y None → any_at bytes k (tokens_before bytes x) ≡
+pub any_missing : {bytes : List ℕ} {x y : ℕ} (k : ℕ) → HasNext bytes x y None → any_at bytes k (tokens_before bytes x) ≡
     Some (Missing k)
-any_missing bytes k x y h = any_ended bytes k (tokens_before bytes x) h.answer
+any_missing {bytes} {x} k h = any_ended bytes k (tokens_before bytes x) h.answer
 
 pub any_there : (bytes : List ℕ) (k n : ℕ) (t : Token) → slice_get (tokens bytes) n ≡ Some t → any_at bytes k n ≡ None
 unfolding any_at any_test
@@ -97,15 +95,15 @@ pub worth_of : (bytes : List ℕ) (n : ℕ) (t : Token) → slice_get (tokens by
     token_value_at bytes n ≡ t.value
 unfolding token_value_at
 worth_of bytes n t found =
-    ap (λ (x : Token). x.value) (get_or_from_slice_get (tokens bytes) n t (record { value = 0; at = 0 }) found)
+    cc (get_or_from_slice_get (tokens bytes) n t (record { value = 0; at = 0 }) found)
 
-pub takes_value : (bytes : List ℕ) (x y value : ℕ) → TakesNumber bytes x y value →
+pub takes_value : {bytes : List ℕ} {x y value : ℕ} → TakesNumber bytes x y value →
     token_value_at bytes (tokens_before bytes x) ≡ value
-takes_value bytes x y value h = worth_of bytes (tokens_before bytes x) h.token h.found ∙ sym h.worth
+takes_value {bytes} {x} h = worth_of bytes (tokens_before bytes x) h.token h.found ∙ sym h.worth
 
-pub takes_any : (bytes : List ℕ) (k x y value : ℕ) → TakesNumber bytes x y value →
+pub takes_any : {bytes : List ℕ} {x y value : ℕ} (k : ℕ) → TakesNumber bytes x y value →
     any_at bytes k (tokens_before bytes x) ≡ None
-takes_any bytes k x y value h = any_there bytes k (tokens_before bytes x) h.token h.found
+takes_any {bytes} {x} k h = any_there bytes k (tokens_before bytes x) h.token h.found
 
 -- a number that is to be below a count
 below_fault : (bytes : List ℕ) (k count n : ℕ) (fault : TokenFault) → IsAnswer bytes n (Err fault) →
@@ -116,31 +114,23 @@ below_fault bytes k count n fault answer =
     (⊎_elim (λ (e : fault ≡ told.ReadFault). inl e) (λ (h : GaveAll bytes n × (first_fault bytes ≡ Some fault)).
     inr (rw (past_all bytes n h.0, h.1) refl)) answer)
 
-pub below_stopped : (bytes : List ℕ) (k count x : ℕ) (fault : EditsFault) → HasFault edits_fault bytes x fault →
+pub below_stopped : {bytes : List ℕ} {x : ℕ} {fault : EditsFault} (k count : ℕ) → HasFault edits_fault bytes x fault →
     EditsSays (below_at bytes k count (tokens_before bytes x)) fault
-below_stopped bytes k count x fault h =
-    subst (λ (f : EditsFault). EditsSays (below_at bytes k count (tokens_before bytes x)) f) (sym h.same)
-    (below_fault bytes k count (tokens_before bytes x) h.token_fault h.answer)
+below_stopped {bytes} {x} k count h =
+    rw (← h.same) at (below_fault bytes k count (tokens_before bytes x) h.token_fault h.answer)
 
-below_ended : (bytes : List ℕ) (k count n : ℕ) → IsAnswer bytes n (Ok None) →
-    below_at bytes k count n ≡ Some (Missing k)
-unfolding below_at below_test none_left_in_edit
-below_ended bytes k count n answer = rw (past_all bytes n answer.0, answer.1) refl
-
-pub below_missing : (bytes : List ℕ) (k count x y : ℕ) → HasNext bytes x y None →
+pub below_missing : {bytes : List ℕ} {x y : ℕ} (k count : ℕ) → HasNext bytes x y None →
     below_at bytes k count (tokens_before bytes x) ≡ Some (Missing k)
-below_missing bytes k count x y h = below_ended bytes k count (tokens_before bytes x) h.answer
+unfolding below_at below_test none_left_in_edit
+below_missing {bytes} {x} k count h = rw (past_all bytes (tokens_before bytes x) h.answer.0, h.answer.1) refl
 
-below_token : (bytes : List ℕ) (k count n : ℕ) (t : Token) → slice_get (tokens bytes) n ≡ Some t → count ≤ t.value →
-    below_at bytes k count n ≡ Some (Range t.at t.value 0 (count - 1))
-unfolding below_at below_test
-below_token bytes k count n t found outside =
-    rw found (cond-false (nat_lt t.value count) None (Some (Range t.at t.value 0 (count - 1)))
-    (le-ltb t.value count outside))
-
-pub below_outside : (bytes : List ℕ) (k count x y : ℕ) (t : Token) → HasNext bytes x y (Some t) → count ≤ t.value →
+pub below_outside : {bytes : List ℕ} {x y : ℕ} (k count : ℕ) (t : Token) → HasNext bytes x y (Some t) →
+    count ≤ t.value →
     below_at bytes k count (tokens_before bytes x) ≡ Some (Range t.at t.value 0 (count - 1))
-below_outside bytes k count x y t h outside = below_token bytes k count (tokens_before bytes x) t h.answer outside
+unfolding below_at below_test
+below_outside k count t h outside = rw h.answer (cond-false (nat_lt t.value count) None (Some
+    (Range t.at t.value 0 (count - 1)))
+    (le-ltb t.value count outside))
 
 pub below_inside : (bytes : List ℕ) (k count n : ℕ) (t : Token) → slice_get (tokens bytes) n ≡ Some t →
     t.value < count → below_at bytes k count n ≡ None
@@ -149,9 +139,9 @@ below_inside bytes k count n t found inside =
     rw found (cond-true (nat_lt t.value count) None (Some (Range t.at t.value 0 (count - 1)))
     (lt-ltb t.value count inside))
 
-pub takes_below : (bytes : List ℕ) (k count x y value : ℕ) → TakesNumber bytes x y value → value < count →
+pub takes_below : {bytes : List ℕ} {x y value : ℕ} (k count : ℕ) → TakesNumber bytes x y value → value < count →
     below_at bytes k count (tokens_before bytes x) ≡ None
-takes_below bytes k count x y value h inside =
+takes_below {bytes} {x} k count h inside =
     below_inside bytes k count (tokens_before bytes x) h.token h.found (omega (arith, h.worth, inside))
 
 -- some numbers
@@ -172,48 +162,51 @@ unfolding values_from
 few_values bytes k n all some = grind (arith, length-map, length-take, length-drop)
 
 -- as many values were added as tokens were passed
-added_length : (bytes : List ℕ) (x y n : ℕ) (old new : List ℕ) → AddsValues bytes x y n old new →
+added_length : {bytes : List ℕ} {x y n : ℕ} {old new : List ℕ} → AddsValues bytes x y n old new →
     length new ≡ length old + n → length (values_from bytes (tokens_before bytes x) n) ≡ n
-added_length bytes x y n old new adds all = let e = ap length adds.values
-    ∙ length-append old (values_from bytes (tokens_before bytes x) n) in omega (arith, e, all)
+added_length {bytes} {x} {n} {old} adds all = omega (
+  arith,
+  (ap length adds.values
+      ∙ length-append old (values_from bytes (tokens_before bytes x) n)),
+  all,
+)
 
-pub takes_values : (bytes : List ℕ) (x y n : ℕ) (old new : List ℕ) → AddsValues bytes x y n old new →
+pub takes_values : {bytes : List ℕ} {x y n : ℕ} {old new : List ℕ} → AddsValues bytes x y n old new →
     length new ≡ length old + n → 0 < n → TakesValues bytes x y n old new
-takes_values bytes x y n old new adds all some = record {
-  there = few_values bytes (tokens_before bytes x) n (added_length bytes x y n old new adds all) some;
+takes_values {bytes} {x} {n} adds all some = record {
+  there = few_values bytes (tokens_before bytes x) n (added_length adds all) some;
   values = adds.values;
   next = adds.given;
 }
 
-pub takes_values_any : (bytes : List ℕ) (k x y n : ℕ) (old new : List ℕ) → TakesValues bytes x y n old new →
+pub takes_values_any : {bytes : List ℕ} {x y n : ℕ} {old new : List ℕ} (k : ℕ) → TakesValues bytes x y n old new →
     any_from bytes k (tokens_before bytes x) n ≡ None
-takes_values_any bytes k x y n old new h = any_from_there bytes k (tokens_before bytes x) n h.there
+takes_values_any {bytes} {x} {n} k h = any_from_there bytes k (tokens_before bytes x) n h.there
 
 -- the file ends, or is faulty, before the last of them
-pub values_missing : (bytes : List ℕ) (k x y n R : ℕ) (old new : List ℕ) → AddsValues bytes x y n old new → n < R →
+pub values_missing : {bytes : List ℕ} {x y n : ℕ} {old new : List ℕ} (k R : ℕ) → AddsValues bytes x y n old new →
+    n < R →
     IsAnswer bytes (tokens_before bytes y) (Ok None) → any_from bytes k (tokens_before bytes x) R ≡ Some (Missing k)
-values_missing bytes k x y n R old new adds few answer =
-    let e : tokens_before bytes y ≡ length (tokens bytes) = answer.0 in
-    any_from_at bytes k (tokens_before bytes x) R n (Missing k) few (omega (arith, adds.given, e))
-    (subst (λ m. any_at bytes k m ≡ Some (Missing k)) adds.given (any_ended bytes k (tokens_before bytes y) answer))
+values_missing {bytes} {x} {y} {n} k R adds few answer =
+    any_from_at bytes k (tokens_before bytes x) R n (Missing k) few (omega (arith, adds.given, answer.0))
+    (rw adds.given at (any_ended bytes k (tokens_before bytes y) answer))
 
-values_faulty : (bytes : List ℕ) (k x y n R : ℕ) (old new : List ℕ) (fault : TokenFault) →
+values_faulty : {bytes : List ℕ} {x y n : ℕ} {old new : List ℕ} (k R : ℕ) (fault : TokenFault) →
     AddsValues bytes x y n old new → n < R → IsAnswer bytes (tokens_before bytes y) (Err fault) →
     EditsSays (any_from bytes k (tokens_before bytes x) R) (edits_fault fault)
-values_faulty bytes k x y n R old new fault adds few answer = ⊎_elim
+values_faulty {bytes} {x} {y} {n} k R fault adds few answer = ⊎_elim
     (λ (read : fault ≡ told.ReadFault). says_fault (any_from bytes k (tokens_before bytes x) R) fault (inl read))
     (λ (h : GaveAll bytes (tokens_before bytes y) × (first_fault bytes ≡ Some fault)).
-    let e : tokens_before bytes y ≡ length (tokens bytes) = h.0 in
     says_same (any_at bytes k (tokens_before bytes y)) (any_from bytes k (tokens_before bytes x) R) (edits_fault fault)
     (λ (here : any_at bytes k (tokens_before bytes y) ≡ Some (edits_fault fault)).
-    any_from_at bytes k (tokens_before bytes x) R n (edits_fault fault) few (omega (arith, adds.given, e))
-    (subst (λ m. any_at bytes k m ≡ Some (edits_fault fault)) adds.given here))
+    any_from_at bytes k (tokens_before bytes x) R n (edits_fault fault) few (omega (arith, adds.given, h.0))
+    (rw adds.given at here))
     (any_fault bytes k (tokens_before bytes y) fault answer))
     answer
 
-pub values_stopped : (bytes : List ℕ) (k x y n R : ℕ) (old new : List ℕ) (next : TokenFault) (fault : EditsFault) →
+pub values_stopped : {bytes : List ℕ} {x y n : ℕ} {old new : List ℕ} {fault : EditsFault} (k R : ℕ)
+    (next : TokenFault) →
     AddsValues bytes x y n old new → n < R → IsAnswer bytes (tokens_before bytes y) (Err next) →
     fault ≡ edits_fault next → EditsSays (any_from bytes k (tokens_before bytes x) R) fault
-values_stopped bytes k x y n R old new next fault adds few answer same =
-    subst (λ (f : EditsFault). EditsSays (any_from bytes k (tokens_before bytes x) R) f) (sym same)
-    (values_faulty bytes k x y n R old new next adds few answer)
+values_stopped k R next adds few answer same =
+    rw (← same) at (values_faulty k R next adds few answer)

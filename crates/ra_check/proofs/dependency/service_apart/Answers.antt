@@ -1,4 +1,4 @@
-use Rattle.std.proofs.Common.{◌+◌, ◌<◌, sym, refl, length, get_or, arith}
+use Rattle.std.proofs.Common.{◌+◌, ◌<◌, ◌∙◌, Some, sym, refl, ap, length, get_or, arith}
 use Rattle.ra_base.specs.declared.ids.Service.{Service}
 use Rattle.ra_base.specs.declared.causes.Cause.TheVariants.{Dependency}
 use Rattle.ra_base.proofs.Searches.{first_found, first_more_none}
@@ -6,7 +6,7 @@ use Rattle.ra_model.specs.Numbers.{machine_count, service_count, dependency_coun
 use Rattle.ra_model.specs.Broken.{pair_dependency, service_dependency}
 use Rattle.ra_model.specs.Members.{members_of}
 use Rattle.ra_check.proofs.StampLemmas.{seated}
-use Rattle.ra_check.proofs.DependencyLemmas.{need_within, far_within, pair_some, pair_none}
+use Rattle.ra_check.proofs.DependencyLemmas.{need_within, far_within, pair_found}
 use Rattle.ra_check.proofs.dependency.service_apart.Goals as goal
 
 pub stamp_service-requires-clause-seated : goal.stamp_service-requires-clause-seated
@@ -27,8 +27,8 @@ stamp_service-requires-clause-seated c =
 pub neighbourhood-requires : goal.neighbourhood-requires
 neighbourhood-requires c =
     let i = c.args.inst.now.tables in
-    let needs : Service = get_or c.depends-all_needs.result.now c.loop-k.k (record { 0 = 0 }) in
-    far_within c.stamp_service.new.marks.items (needs.0 + 1) (machine_count i) c.args.places.now.neighbourhoods
+    far_within c.stamp_service.new.marks.items ((get_or c.depends-all_needs.result.now c.loop-k.k
+    (record { 0 = 0 })).0 + 1) (machine_count i) c.args.places.now.neighbourhoods
     c.args.a.now.items (members_of c.args.members.now c.args.service.0) c.in-Some.machine
     (seated i c.args.a.now.items c.args.members.now c.args.service.0 (machine_count i) c.requires.assigned
     c.requires.members c.requires.there refl)
@@ -38,34 +38,29 @@ pub returns-in-Some-clause-cause : goal.returns-in-Some-clause-cause
 unfolding service_dependency
 returns-in-Some-clause-cause c =
     let i = c.args.inst.now.tables in
-    let a = c.args.a.now.items in
     let s = c.args.service.0 in
     let k = c.loop-k.k in
     let needs : Service = get_or c.depends-all_needs.result.now c.loop-k.k (record { 0 = 0 }) in
     let below : c.loop-k.k < dependency_count c.args.inst.now.tables c.args.service.0 =
     omega (arith, c.loop-k-test.true, c.depends-all_needs.ensures.count) in
-    sym (first_found k (dependency_count i s) (pair_dependency i a s)
+    sym (first_found k (dependency_count i s) (pair_dependency i c.args.a.now.items s)
     (Dependency c.args.service needs c.neighbourhood.result) below c.loop-k.invariant.none
-    (pair_some i a c.args.places.now c.args.members.now c.stamp_service.new.marks.items (length c.loop-k.marks.items)
-    c.stamp_service.new.last s k c.neighbourhood.result needs c.in-Some.machine
+    (pair_found s k needs
     c.requires.assigned c.requires.members c.requires.places c.requires.there (c.depends-all_needs.ensures.each k below)
     (need_within i s k c.args.inst.now.well_formed c.requires.there below) c.loop-k.invariant.marks.one_each
-    c.stamp_service.ensures.marks c.stamp_service.ensures.last c.neighbourhood.ensures
-    (rw c.of-own.ensures at c.in-Some.ensures)))
+    c.stamp_service.ensures.marks c.stamp_service.ensures.last (rw c.of-own.ensures at c.in-Some.ensures)
+    ∙ ap (λ l. Some (Dependency c.args.service needs l)) (sym c.neighbourhood.ensures)))
 
 pub loop-k-preserved : goal.loop-k-preserved
 loop-k-preserved c =
     let i = c.args.inst.now.tables in
-    let a = c.args.a.now.items in
     let s = c.args.service.0 in
     let k = c.loop-k.k in
-    let needs : Service = get_or c.depends-all_needs.result.now c.loop-k.k (record { 0 = 0 }) in
     let below : c.loop-k.k < dependency_count c.args.inst.now.tables c.args.service.0 =
     omega (arith, c.loop-k-test.true, c.depends-all_needs.ensures.count) in
     record {
-      none = first_more_none k (pair_dependency i a s) c.loop-k.invariant.none
-          (pair_none i a c.args.places.now c.args.members.now c.stamp_service.new.marks.items
-          (length c.loop-k.marks.items) c.stamp_service.new.last s k needs
+      none = first_more_none k (pair_dependency i c.args.a.now.items s) c.loop-k.invariant.none
+          (pair_found s k (get_or c.depends-all_needs.result.now c.loop-k.k (record { 0 = 0 }))
           c.requires.assigned c.requires.members c.requires.places c.requires.there
           (c.depends-all_needs.ensures.each k below)
           (need_within i s k c.args.inst.now.well_formed c.requires.there below) c.loop-k.invariant.marks.one_each

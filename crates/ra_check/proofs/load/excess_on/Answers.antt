@@ -6,6 +6,6 @@ use Rattle.ra_check.proofs.load.excess_on.Goals as goal
 
 pub returns : goal.returns
 returns c = λ (a : List Machine) sums.
-    c.saturating_sub.ensures ∙ excess_from c.args.inst.now.tables a c.args.used.now.items c.resources.result c.args.m.0
-    c.args.r.0 c.read_cell-used.result c.from.result sums c.resources.ensures c.requires.resource
+    c.saturating_sub.ensures ∙ excess_from c.args.inst.now.tables c.args.m.0
+    c.args.r.0 sums c.resources.ensures c.requires.resource
     c.read_cell-used.ensures (c.from.ensures ∙ c.safety.ensures)

@@ -13,7 +13,7 @@ loop-p-init c = record {
 pub count_process-requires-clause-below : goal.count_process-requires-clause-below
 count_process-requires-clause-below c =
     let few : c.loop-p.p < 50000 = omega (arith, c.args.inst.now.well_formed.few_processes) in
-    moved_below c.args.inst.now.tables c.args.a0.now.items c.args.a.now.items c.loop-p.p c.loop-p.counts.items few
+    moved_below few
     c.loop-p.invariant.counted
 
 pub loop-p-preserved : goal.loop-p-preserved

@@ -1,13 +1,13 @@
 -- One row or two have grown by the transient share.
-use Rattle.std.proofs.Common.{◌≡◌, ◌∙◌, sym, ap, List}
+use Rattle.std.proofs.Common.{◌∙◌, sym, List}
 use Rattle.std.proofs.lemmas.Bool.{eqb-true, eqb-false, not-true, not-false}
 use Rattle.ra_base.specs.declared.ids.Machine.{Machine}
-use Rattle.ra_check.proofs.TableLaws.{below_after, below_grows, transient_stays, transient_moves}
+use Rattle.ra_check.proofs.TableLaws.{below_after, transient_stays, transient_moves}
 use Rattle.ra_check.proofs.usage.add_rows.Goals as goal
 
 pub add_row-requires-then-ne-clause-below : goal.add_row-requires-then-ne-clause-below
 add_row-requires-then-ne-clause-below g c =
-    below_after c.args.inst.now.tables c.args.p.0 c.args.from.0 c.args.table.now.items _ c.args.inst.now.small
+    below_after c.args.p.0 c.args.from.0 c.args.inst.now.small
     c.requires.below c.add_row.ensures.adds
 
 pub returns-then-ne-clause-adds : goal.returns-then-ne-clause-adds

@@ -1,5 +1,5 @@
 -- The table begins as zeros, and each process adds its row.
-use Rattle.std.proofs.Common.{◌≤◌, arith, ap}
+use Rattle.std.proofs.Common.{◌≤◌, arith}
 use Rattle.std.proofs.lemmas.List.{length-replicate}
 use Rattle.ra_model.specs.Numbers.{resource_count}
 use Rattle.ra_model.specs.Usage.{use_share}
@@ -16,7 +16,7 @@ pub add_row-requires-clause-below : goal.add_row-requires-clause-below
 add_row-requires-clause-below g c =
     let i = c.args.inst.now.tables in
     let few : c.loop-p.p ≤ 50000 = omega (arith, c.args.inst.now.well_formed.few_processes) in
-    below_grows (resource_count i) c.loop-p.table.items
+    below_grows _ _
     (tally_below (resource_count i) c.loop-p.p (use_share i) c.args.a.now.items c.loop-p.table.items
     (use_share_small i c.args.inst.now.small) few c.loop-p.invariant.sums)
 

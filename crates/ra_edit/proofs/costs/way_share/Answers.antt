@@ -1,25 +1,23 @@
 -- The way from its initial machine.
 use Rattle.std.proofs.Common.{◌∙◌, ◌*◌, ap₂, arith}
 use Rattle.ra_model.specs.Numbers.{way_cost_of}
-use Rattle.ra_edit.specs.Keeping.{drafted}
-use Rattle.ra_edit.proofs.ScanLaws.{few}
+use Rattle.ra_edit.proofs.SoundLaws.{few_of}
 use Rattle.ra_edit.proofs.VerdictLaws.{here_in, home_in}
 use Rattle.ra_edit.proofs.costs.way_share.Goals as goal
 
 pub machine_of-requires : goal.machine_of-requires
 machine_of-requires c =
-    let f = few c.args.inst.now.tables c.args.lists.now c.requires.sound in omega (arith, f.initial, c.requires.process)
+    omega (arith, (few_of c.requires.sound).initial, c.requires.process)
 
 pub machine_of-requires-2 : goal.machine_of-requires-2
 machine_of-requires-2 c =
-    let f = few c.args.inst.now.tables c.args.lists.now c.requires.sound in omega (arith, f.current, c.requires.process)
+    omega (arith, (few_of c.requires.sound).current, c.requires.process)
 
 pub move_cost-way-requires : goal.move_cost-way-requires
 move_cost-way-requires c =
-    let d = drafted c.args.inst.now.tables c.args.lists.now in
     record {
-      from = omega (arith, c.machine_of.ensures, home_in d c.args.p.0 c.requires.sound c.requires.process);
-      to = omega (arith, c.machine_of-2.ensures, here_in d c.args.p.0 c.requires.sound c.requires.process);
+      from = omega (arith, c.machine_of.ensures, home_in c.args.p.0 c.requires.sound c.requires.process);
+      to = omega (arith, c.machine_of-2.ensures, here_in c.args.p.0 c.requires.sound c.requires.process);
     }
 
 pub returns : goal.returns

@@ -7,29 +7,29 @@ use Rattle.ra_edit.proofs.judging.added_breaks.Goals as goal
 pub returns-in-Some : goal.returns-in-Some
 unfolding added_breaks
 returns-in-Some c = λ d e origin has come used between.
-    found_first _ _ c.in-Some.cause (sym (c.row_capacity.ensures e (come.more.origin ∙ origin) used) ∙ c.in-Some.is)
+    found_first _ c.in-Some.cause (sym (c.row_capacity.ensures e (come.more.origin ∙ origin) used) ∙ c.in-Some.is)
 
 pub returns-in-Some-row_transient : goal.returns-in-Some-row_transient
 unfolding added_breaks
 returns-in-Some-row_transient c = λ d e origin has come used between.
-    found_later _ _ _ (sym (c.row_capacity.ensures e (come.more.origin ∙ origin) used) ∙ c.in_default.is)
-    (found_first _ _ c.in-Some-row_transient.cause (sym (c.row_transient.ensures e (come.more.origin ∙ origin) between)
+    found_later (sym (c.row_capacity.ensures e (come.more.origin ∙ origin) used) ∙ c.in_default.is)
+    (found_first _ c.in-Some-row_transient.cause (sym (c.row_transient.ensures e (come.more.origin ∙ origin) between)
     ∙ c.in-Some-row_transient.is))
 
 pub returns-in-Some-conflict_test : goal.returns-in-Some-conflict_test
 unfolding added_breaks
 returns-in-Some-conflict_test c = λ d e origin has come used between.
-    found_later _ _ _ (sym (c.row_capacity.ensures e (come.more.origin ∙ origin) used) ∙ c.in_default.is)
-    (found_later _ _ _ (sym (c.row_transient.ensures e (come.more.origin ∙ origin) between)
+    found_later (sym (c.row_capacity.ensures e (come.more.origin ∙ origin) used) ∙ c.in_default.is)
+    (found_later (sym (c.row_transient.ensures e (come.more.origin ∙ origin) between)
     ∙ c.in_default-row_transient.is)
-    (found_first _ _ c.in-Some-conflict_test.cause (sym (c.conflict_test.ensures d e has come)
+    (found_first _ c.in-Some-conflict_test.cause (sym (c.conflict_test.ensures d e has come)
     ∙ c.in-Some-conflict_test.is)))
 
 pub returns : goal.returns
 unfolding added_breaks
 returns c = λ d e origin has come used between.
-    found_later _ _ _ (sym (c.row_capacity.ensures e (come.more.origin ∙ origin) used) ∙ c.in_default.is)
-    (found_later _ _ _ (sym (c.row_transient.ensures e (come.more.origin ∙ origin) between)
+    found_later (sym (c.row_capacity.ensures e (come.more.origin ∙ origin) used) ∙ c.in_default.is)
+    (found_later (sym (c.row_transient.ensures e (come.more.origin ∙ origin) between)
     ∙ c.in_default-row_transient.is)
-    (found_later _ _ _ (sym (c.conflict_test.ensures d e has come) ∙ c.in_default-conflict_test.is)
+    (found_later (sym (c.conflict_test.ensures d e has come) ∙ c.in_default-conflict_test.is)
     (c.far_needs.ensures d e origin has come)))

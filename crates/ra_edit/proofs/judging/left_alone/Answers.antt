@@ -1,23 +1,21 @@
 -- None of the service is left, and of another one as many as before.
-use Rattle.std.proofs.Common.{◌∙◌, sym, ap, arith}
-use Rattle.ra_model.specs.Services.{in_neighbourhood}
-use Rattle.ra_edit.specs.Drafts.{instance_of}
+use Rattle.std.proofs.Common.{◌∙◌, sym, arith}
 use Rattle.ra_edit.proofs.ScanLaws.{near_told}
 use Rattle.ra_edit.proofs.TestLaws.{left_some, left_none}
 use Rattle.ra_edit.proofs.judging.left_alone.Goals as goal
 
 pub returns-then-u-s : goal.returns-then-u-s
 returns-then-u-s c = λ d e has left. left_none e c.args.s.0 c.args.label c.args.u.0 0
-    (sym (ap (λ x. in_neighbourhood (instance_of e) e.current x c.args.label) c.if-u-s.true ∙ left.none)) (omega arith)
+    (cc (c.if-u-s.true, left.none)) (omega arith)
 
 pub returns-then-at-gt0 : goal.returns-then-at-gt0
 returns-then-at-gt0 c = λ d e has left.
     left_some e c.args.s.0 c.args.label c.args.u.0 c.at.result left.none
-    (near_told d d.current c.args.u.0 c.args.label c.at.result (c.at.ensures d has)
+    (near_told d d.current c.args.u.0 c.args.label (c.at.ensures d has)
     ∙ sym (left.others c.args.u.0 c.if-u-s.false)) (omega (arith, c.if-at-gt0.true))
 
 pub returns-else-at-gt0 : goal.returns-else-at-gt0
 returns-else-at-gt0 c = λ d e has left.
     left_none e c.args.s.0 c.args.label c.args.u.0 c.at.result
-    (near_told d d.current c.args.u.0 c.args.label c.at.result (c.at.ensures d has)
+    (near_told d d.current c.args.u.0 c.args.label (c.at.ensures d has)
     ∙ sym (left.others c.args.u.0 c.if-u-s.false)) (omega (arith, c.if-at-gt0.false))

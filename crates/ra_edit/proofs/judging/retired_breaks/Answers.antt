@@ -6,9 +6,9 @@ use Rattle.ra_edit.proofs.judging.retired_breaks.Goals as goal
 
 pub returns-in-Some : goal.returns-in-Some
 unfolding retired_breaks
-returns-in-Some c = λ e gone. found_first _ _ c.in-Some.cause (sym (c.spread_test.ensures e gone) ∙ c.in-Some.is)
+returns-in-Some c = λ e gone. found_first _ c.in-Some.cause (sym (c.spread_test.ensures e gone) ∙ c.in-Some.is)
 
 pub returns : goal.returns
 unfolding retired_breaks
-returns c = λ e gone. found_later _ _ _ (sym (c.spread_test.ensures e gone) ∙ c.in_default.is)
+returns c = λ e gone. found_later (sym (c.spread_test.ensures e gone) ∙ c.in_default.is)
     (c.first_left.ensures e gone)

@@ -1,7 +1,5 @@
 -- The resource is transient, or it isn't.
-use Rattle.std.proofs.Common.{◌∙◌, sym, ap}
-use Rattle.ra_model.specs.declared.raw.Tables.{Tables}
-use Rattle.ra_model.specs.Numbers.{transient_at}
+use Rattle.std.proofs.Common.{◌∙◌, sym}
 use Rattle.ra_edit.proofs.TestLaws.{transient_once}
 use Rattle.ra_edit.proofs.judging.transient_test.Goals as goal
 
@@ -10,5 +8,4 @@ over_capacity-requires-clause-transient c = sym c.transient.ensures ∙ c.if-tra
 
 pub returns-else-transient : goal.returns-else-transient
 returns-else-transient c =
-    λ e same is. transient_once e c.args.m.0 c.args.r.0 (ap (λ (j : Tables). transient_at j c.args.r.0) same
-    ∙ sym c.transient.ensures ∙ c.if-transient.false)
+    λ e same is. transient_once e c.args.m.0 c.args.r.0 (cc (c.transient.ensures, c.if-transient.false))

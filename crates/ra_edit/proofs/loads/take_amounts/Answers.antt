@@ -1,5 +1,5 @@
 -- One column after another shrinks.
-use Rattle.std.proofs.Common.{ℕ, ◌+◌, ◌*◌, ◌<◌, ◌≤◌, length, slice_index, sym, ◌∙◌, arith}
+use Rattle.std.proofs.Common.{◌+◌, ◌*◌, ◌<◌, ◌≤◌, length, slice_index, sym, ◌∙◌, arith}
 use Rattle.std.proofs.lemmas.List.{get_or_read}
 use Rattle.ra_base.proofs.Tables.{cell_is}
 use Rattle.ra_edit.proofs.LoadLaws.{part_none, part_lowered, part_all}
@@ -11,14 +11,13 @@ loop-r-init c = part_none _ _ _ _
 pub overflow_sub-rest : goal.overflow_sub-rest
 overflow_sub-rest c =
     let width = length c.args.amounts.now in
-    let place : ℕ = c.args.at.0 * width + c.loop-r.r in
+    let place = c.args.at.0 * width + c.loop-r.r in
     let within : place < length c.loop-r.table.items =
     omega (arith, c.requires.place, c.loop-r-test.true, c.loop-r.invariant.same_length) in
-    let read = get_or_read c.loop-r.table.items place c.get.result within c.get.ensures 0
-    ∙ sym (cell_is width c.loop-r.table.items c.args.at.0 c.loop-r.r) in
     omega (
       arith,
-      read,
+      (get_or_read c.loop-r.table.items place c.get.result within c.get.ensures 0
+          ∙ sym (cell_is width c.loop-r.table.items c.args.at.0 c.loop-r.r)),
       c.loop-r.invariant.rest c.args.at.0 c.loop-r.r c.loop-r-test.true (omega arith),
       c.requires.enough c.loop-r.r c.loop-r-test.true,
       c.from.ensures,
@@ -27,7 +26,7 @@ overflow_sub-rest c =
 pub loop-r-preserved : goal.loop-r-preserved
 loop-r-preserved c =
     let width = length c.args.amounts.now in
-    let place : ℕ = c.args.at.0 * width + c.loop-r.r in
+    let place = c.args.at.0 * width + c.loop-r.r in
     let within : place < length c.loop-r.table.items =
     omega (arith, c.requires.place, c.loop-r-test.true, c.loop-r.invariant.same_length) in
     let read = get_or_read c.loop-r.table.items place c.get.result within c.get.ensures 0

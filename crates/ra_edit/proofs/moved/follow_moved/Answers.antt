@@ -3,19 +3,17 @@ use Rattle.std.proofs.Common.{◌≡◌, ℕ, ⊎_elim}
 use Rattle.ra_base.specs.declared.ids.Machine.{Machine}
 use Rattle.ra_base.specs.declared.ids.Service.{Service}
 use Rattle.ra_edit_read.specs.declared.edits.Edit.TheVariants.{Add, Resize}
-use Rattle.ra_edit.specs.Keeping.{drafted}
 use Rattle.ra_edit.proofs.MovedLaws.{followed_come, followed_other}
 use Rattle.ra_edit.proofs.SoundLaws.{free_retire}
 use Rattle.ra_edit.proofs.moved.follow_moved.Goals as goal
 
 pub returns-in-Add : goal.returns-in-Add
 returns-in-Add c = λ e asked edited.
-    let d = drafted c.args.inst.now.tables c.args.lists.now in
     ⊎_elim
     (λ (added : (s : Service) × (m : Machine) × (x : ℕ) × (c.args.edit ≡ Add s m x)).
-    followed_come d e added.0.0 added.1.0 c.args.moved.now c.requires.moved (rw added.3 at edited).0)
+    followed_come c.requires.moved (rw added.3 at edited).0)
     (λ (resized : (p : ℕ) × (c.args.edit ≡ Resize p)).
-    followed_other d e resized.0 c.args.moved.now c.requires.moved (rw resized.1 at edited).0)
+    followed_other c.requires.moved (rw resized.1 at edited).0)
     c.in-Add.is
 
 pub follow_retired-requires : goal.follow_retired-requires

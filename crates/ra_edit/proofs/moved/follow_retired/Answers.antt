@@ -1,5 +1,4 @@
 -- The counts after the change are those after the edit.
-use Rattle.ra_edit.specs.Keeping.{drafted}
 use Rattle.ra_edit.proofs.MovedLaws.{followed_one, followed_none}
 use Rattle.ra_edit.proofs.moved.follow_retired.Goals as goal
 
@@ -10,12 +9,11 @@ change-requires c =
 
 pub returns-in-Some : goal.returns-in-Some
 returns-in-Some c = λ e gone.
-    let is = rw c.in-Some.is at c.change_without.ensures.change in
-    followed_one (drafted c.args.inst.now.tables c.args.lists.now) e c.args.p.0 c.in-Some.change c.args.moved.now
-    c.change.new.self c.requires.moved gone is.there c.change.ensures.counts
+    followed_one c.in-Some.change
+    c.requires.moved gone (rw c.in-Some.is at c.change_without.ensures.change).there c.change.ensures.counts
     (rw c.in-Some.is at (c.change_without.ensures.counts e gone))
 
 pub returns-in_default : goal.returns-in_default
 returns-in_default c = λ e gone.
-    followed_none (drafted c.args.inst.now.tables c.args.lists.now) e c.args.p.0 c.args.moved.now c.requires.moved gone
+    followed_none c.requires.moved gone
     (rw c.in_default.is at (c.change_without.ensures.counts e gone))

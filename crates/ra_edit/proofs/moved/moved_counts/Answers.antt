@@ -2,7 +2,6 @@
 use Rattle.std.proofs.Common.{◌≡◌, ◌<◌, length, arith}
 use Rattle.std.proofs.lemmas.List.{length-replicate}
 use Rattle.ra_check.proofs.MovedLaws.{moved_start, moved_next}
-use Rattle.ra_edit.specs.Keeping.{drafted, tables_with}
 use Rattle.ra_edit.proofs.MovedLaws.{moved_under, moved_counted}
 use Rattle.ra_edit.proofs.moved.moved_counts.Goals as goal
 
@@ -23,8 +22,8 @@ count_moved-requires-clause-below c =
       c.requires.few,
       c.loop-p.invariant.limit,
     ) in
-    moved_under (tables_with c.args.inst.now.tables c.args.lists.now) c.args.lists.now.initial.items
-    c.args.lists.now.current.items c.loop-p.p c.loop-p.moved.limit c.loop-p.moved.counts under
+    moved_under
+    under
     c.loop-p.invariant.counted
 
 pub count_moved-requires-clause-few : goal.count_moved-requires-clause-few
@@ -40,8 +39,7 @@ loop-p-preserved c = record {
 
 pub returns : goal.returns
 returns c =
-    let i = c.args.inst.now.tables in
     let l = c.args.lists.now in
     let all : c.loop-p.p ≡ length l.rows.items =
     omega (arith, c.loop-p-test.false, c.loop-p.auto.p-end, c.processes-p-end.ensures.value) in
-    moved_counted (drafted i l) c.loop-p.moved (rw all at c.loop-p.invariant.counted) c.loop-p.invariant.slots
+    moved_counted (rw all at c.loop-p.invariant.counted) c.loop-p.invariant.slots

@@ -9,5 +9,5 @@ loop-r-preserved c = record {
   room = c.push.ensures.room ∙ c.loop-r.invariant.room;
   each = each_pushed (λ k x. x ≡ slice_index c.args.row.now k + slice_index c.args.amounts.now k) c.loop-r.sums.items _
       _ c.loop-r.r c.loop-r.invariant.size c.push.ensures.items c.loop-r.invariant.each
-      (ap (λ x. slice_index c.args.row.now c.loop-r.r + x) c.from.ensures);
+      (cc (c.from.ensures));
 }

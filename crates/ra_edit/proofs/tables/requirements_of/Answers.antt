@@ -31,11 +31,11 @@ push-requires g c =
 
 pub requirement-requires-clause-process : goal.requirement-requires-clause-process
 requirement-requires-clause-process g c =
-    row_below c.loop-k.k c.processes.result c.resources-width.result _ c.loop-k-test.true c.processes.ensures
+    row_below c.loop-k.k c.resources-width.result c.loop-k-test.true c.processes.ensures
 
 pub requirement-requires-clause-resource : goal.requirement-requires-clause-resource
 requirement-requires-clause-resource g c =
-    column_below c.loop-k.k c.processes.result c.resources-width.result _ c.loop-k-test.true c.resources-width.ensures
+    column_below c.loop-k.k c.processes.result c.loop-k-test.true c.resources-width.ensures
 
 pub nonzero_div-k : goal.nonzero_div-k
 nonzero_div-k g c = some_width c.loop-k.k c.processes.result c.resources-width.result c.loop-k-test.true

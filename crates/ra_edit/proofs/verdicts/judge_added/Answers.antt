@@ -1,41 +1,51 @@
 -- A process that has come: what it touches, or what it costs.
-use Rattle.std.proofs.Common.{◌∙◌, ◌*◌, length, refl, sym, ap₂, arith}
+use Rattle.std.proofs.Common.{◌∙◌, refl, sym, arith}
 use Rattle.ra_edit.specs.Loads.{draft_in}
-use Rattle.ra_edit.proofs.VerdictLaws.{HasParts, parts_told, come_broken, come_parts, times_small}
+use Rattle.ra_model.proofs.BoundLemmas.{use_under, transient_under}
+use Rattle.ra_edit.proofs.LoadLaws.{row_small, row_more, use_step, transient_step, there_now}
+use Rattle.ra_edit.proofs.VerdictLaws.{parts_told, come_broken, come_parts, times_small}
 use Rattle.ra_edit.proofs.verdicts.judge_added.Goals as goal
 
-pub use_added-requires : goal.use_added-requires
-use_added-requires c = record {
-  sound = c.requires.held.kept.sound;
-  loads = c.requires.held.loads_are;
-  machine = c.requires.machine;
-  asked = c.requires.asked;
+pub use_row-requires-clause-grid : goal.use_row-requires-clause-grid
+use_row-requires-clause-grid c = c.requires.held.loads_are.used_grid
+
+pub row_with-requires : goal.row_with-requires
+row_with-requires c = record {
+  width = c.requires.asked ∙ sym c.use_row.ensures.one_each;
+  below = row_small (c.use_row.ensures.row (draft_in c.args.kept.now) refl c.requires.held.loads_are)
+      (λ r. use_under _ _ c.args.m.0 r c.requires.held.kept.sound.well_formed c.small.ensures);
 }
 
-pub transient_added-requires : goal.transient_added-requires
-transient_added-requires c = record {
-  sound = c.requires.held.kept.sound;
-  loads = c.requires.held.loads_are;
-  machine = c.requires.machine;
-  asked = c.requires.asked;
+pub transient_row-requires-clause-grid : goal.transient_row-requires-clause-grid
+transient_row-requires-clause-grid c = c.requires.held.loads_are.between_grid
+
+pub row_with-requires-2 : goal.row_with-requires-2
+row_with-requires-2 c = record {
+  width = c.requires.asked ∙ sym c.transient_row.ensures.one_each;
+  below = row_small (c.transient_row.ensures.row (draft_in c.args.kept.now) refl c.requires.held.loads_are)
+      (λ r. transient_under _ _ _ c.args.m.0 r c.requires.held.kept.sound.well_formed c.small.ensures);
 }
 
 pub added_breaks-requires : goal.added_breaks-requires
 added_breaks-requires c = record {
   service = c.requires.service;
   machine = c.requires.machine;
-  used = rw c.as_slice.ensures c.in_ok-used.ensures.one_each;
-  between = rw c.as_slice-2.ensures c.in_ok-between.ensures.one_each;
+  used = rw c.as_slice.ensures (c.in_ok-used.ensures.one_each ∙ c.use_row.ensures.one_each);
+  between = rw c.as_slice-2.ensures (c.in_ok-between.ensures.one_each ∙ c.transient_row.ensures.one_each);
 }
 
 pub returns-in-Some : goal.returns-in-Some
 returns-in-Some c = λ e come asks.
     let d = draft_in c.args.kept.now in
-    let n = length c.args.kept.now.lists.rows.items in
-    come_broken d e c.args.kept.now.parts c.args.s.0 c.args.m.0 c.requires.held.kept come
+    let between = row_more (transient_step c.args.m.0 come.more (there_now e _ (sym come.here)))
+    (c.transient_row.ensures.row d refl c.requires.held.loads_are) asks c.in_ok-between.ensures.one_each
+    c.in_ok-between.ensures.each in
+    come_broken c.requires.held.kept come
     ∙ sym (c.added_breaks.ensures d e refl c.requires.held.members_are come
-    (rw c.as_slice.ensures (c.in_ok-used.ensures.row e n come.more come.here asks))
-    (rw c.as_slice-2.ensures (c.in_ok-between.ensures.row e n come.more come.here asks)))
+    (rw c.as_slice.ensures (row_more (use_step come.more come.here)
+    (c.use_row.ensures.row d refl c.requires.held.loads_are) asks
+    c.in_ok-used.ensures.one_each c.in_ok-used.ensures.each))
+    (rw c.as_slice-2.ensures between))
     ∙ c.in-Some.is
 
 pub costs_with-costs-requires : goal.costs_with-costs-requires
@@ -43,24 +53,21 @@ costs_with-costs-requires c = record {
   kept = c.requires.held.kept;
   loads = c.requires.held.loads_are;
   machine = c.requires.machine;
-  one_each = rw c.as_slice-3.ensures c.in_ok-used.ensures.one_each;
+  one_each = rw c.as_slice-3.ensures (c.in_ok-used.ensures.one_each ∙ c.use_row.ensures.one_each);
 }
 
 pub overflow_add-kept : goal.overflow_add-kept
 overflow_add-kept c =
-    let has : HasParts (draft_in c.args.kept.now) c.args.kept.now.parts =
-    parts_told (draft_in c.args.kept.now) c.args.kept.now.parts c.requires.held.kept c.small.ensures in
     omega (
       arith,
-      has.machine_small,
+      (parts_told c.requires.held.kept c.small.ensures).machine_small,
       times_small c.from.result c.from-2.result (omega (arith, c.from.ensures))
           (omega (arith, c.from-2.ensures)),
     )
 
 pub summed-cost-requires : goal.summed-cost-requires
 summed-cost-requires c =
-    let d = draft_in c.args.kept.now in
-    let has : HasParts d c.args.kept.now.parts = parts_told d c.args.kept.now.parts c.requires.held.kept
+    let has = parts_told c.requires.held.kept
     c.small.ensures in
     record {
       load_small = c.costs_with-costs.ensures.load_small;
@@ -78,18 +85,21 @@ summed-cost-requires c =
 pub returns : goal.returns
 returns c = λ e come asks.
     let d = draft_in c.args.kept.now in
-    let n = length c.args.kept.now.lists.rows.items in
-    let has : HasParts d c.args.kept.now.parts = parts_told d c.args.kept.now.parts c.requires.held.kept
-    c.small.ensures in
+    let used = row_more (use_step come.more come.here) (c.use_row.ensures.row d refl c.requires.held.loads_are) asks
+    c.in_ok-used.ensures.one_each c.in_ok-used.ensures.each in
+    let between = row_more (transient_step c.args.m.0 come.more (there_now e _ (sym come.here)))
+    (c.transient_row.ensures.row d refl c.requires.held.loads_are) asks c.in_ok-between.ensures.one_each
+    c.in_ok-between.ensures.each in
     let costs = c.costs_with-costs.ensures.costs e come.more.origin
-    (rw c.as_slice-3.ensures (c.in_ok-used.ensures.row e n come.more come.here asks)) in (
-      come_broken d e c.args.kept.now.parts c.args.s.0 c.args.m.0 c.requires.held.kept come
+    (rw c.as_slice-3.ensures used) in (
+      come_broken c.requires.held.kept come
           ∙ sym (c.added_breaks.ensures d e refl c.requires.held.members_are come
-          (rw c.as_slice.ensures (c.in_ok-used.ensures.row e n come.more come.here asks))
-          (rw c.as_slice-2.ensures (c.in_ok-between.ensures.row e n come.more come.here asks)))
+          (rw c.as_slice.ensures used)
+          (rw c.as_slice-2.ensures between))
           ∙ c.in_default.is,
-      c.summed-cost.ensures ∙ come_parts d e c.args.kept.now.parts c.args.s.0 c.args.m.0 c.costs_with-costs.result.load
-          c.costs_with-costs.result.balance (c.from.result * c.from-2.result) costs.before costs.after
-          c.args.kept.now.inst.now.well_formed has come costs.before_are costs.after_are costs.load costs.balance
-          (ap₂ (λ x y. x * y) (c.from.ensures ∙ c.machine_weight.ensures) (c.from-2.ensures ∙ c.move_cost.ensures)),
+      c.summed-cost.ensures ∙ come_parts c.costs_with-costs.result.load
+          c.costs_with-costs.result.balance
+          c.args.kept.now.inst.now.well_formed (parts_told c.requires.held.kept
+          c.small.ensures) come costs.before_are costs.after_are costs.load costs.balance
+          (cc (c.from.ensures, c.machine_weight.ensures, c.from-2.ensures, c.move_cost.ensures)),
     )

@@ -1,98 +1,130 @@
 -- A process that requires something else: what it touches, or what it costs.
-use Rattle.std.proofs.Common.{◌∙◌, ◌<◌, sym, arith, eq-eqb}
-use Rattle.std.proofs.lemmas.Bool.{or_left, or_right}
+use Rattle.std.proofs.Common.{◌≡◌, ◌∙◌, ◌<◌, refl, sym, arith}
 use Rattle.ra_model.specs.Assignments.{machine_at}
 use Rattle.ra_model.specs.Numbers.{machine_count}
 use Rattle.ra_edit.specs.Loads.{draft_in}
-use Rattle.ra_edit.proofs.VerdictLaws.{HasParts, parts_told, other_broken, other_parts, here_in, home_in}
+use Rattle.ra_model.proofs.BoundLemmas.{use_under, transient_under}
+use Rattle.ra_edit.proofs.LoadLaws.{row_small, row_enough, row_other, use_step, transient_step, there_first, there_now}
+use Rattle.ra_edit.proofs.VerdictLaws.{has_gone, parts_told, other_broken, other_parts, here_in, home_in}
 use Rattle.ra_edit.proofs.SoundLaws.{few_of}
 use Rattle.ra_edit.proofs.verdicts.judge_resized.Goals as goal
 
 pub machine_of-home-requires : goal.machine_of-home-requires
-machine_of-home-requires c = let few = few_of (draft_in c.args.kept.now) c.requires.held.kept.sound in
-    omega (arith, few.initial, c.requires.process)
+machine_of-home-requires c = omega (arith, (few_of c.requires.held.kept.sound).initial, c.requires.process)
 
 pub machine_of-here-requires : goal.machine_of-here-requires
-machine_of-here-requires c = let few = few_of (draft_in c.args.kept.now) c.requires.held.kept.sound in
-    omega (arith, few.current, c.requires.process)
+machine_of-here-requires c = omega (arith, (few_of c.requires.held.kept.sound).current, c.requires.process)
 
-pub use_resized-requires : goal.use_resized-requires
-use_resized-requires c = record {
-  sound = c.requires.held.kept.sound;
-  loads = c.requires.held.loads_are;
-  process = c.requires.process;
-  here = c.machine_of-here.ensures;
-  asked = c.requires.asked;
+pub use_row-requires : goal.use_row-requires
+use_row-requires c = record {
+  machine = omega (
+    arith,
+    c.machine_of-here.ensures,
+    here_in c.args.p.0 c.requires.held.kept.sound c.requires.process,
+  );
+  grid = c.requires.held.loads_are.used_grid;
 }
 
-pub transient_resized-requires : goal.transient_resized-requires
-transient_resized-requires c =
-    let d = draft_in c.args.kept.now in
+pub row_changed-requires : goal.row_changed-requires
+row_changed-requires c =
+    let is = c.use_row.ensures.row (draft_in c.args.kept.now) refl c.requires.held.loads_are in
     record {
-      sound = c.requires.held.kept.sound;
-      loads = c.requires.held.loads_are;
-      process = c.requires.process;
-      machine = omega (
-        arith,
-        c.machine_of-home.ensures,
-        home_in d c.args.p.0 c.requires.held.kept.sound
-            c.requires.process,
+      less = c.requirements_of-was.ensures.one_each ∙ sym c.use_row.ensures.one_each;
+      more = c.requires.asked ∙ sym c.use_row.ensures.one_each;
+      each = λ r w. (
+        row_enough (use_step (has_gone c.args.p.0 c.requires.held.kept.sound c.requires.process).fewer
+            (sym c.machine_of-here.ensures)) is c.requirements_of-was.ensures r w,
+        row_small is (λ q. use_under _ _ _ q c.requires.held.kept.sound.well_formed c.small.ensures) r w,
       );
-      there =
-          or_left _ _ (eq-eqb (machine_at d.initial c.args.p.0) c.machine_of-home.result.0
-          (sym c.machine_of-home.ensures));
-      asked = c.requires.asked;
     }
 
-pub transient_resized-requires-2 : goal.transient_resized-requires-2
-transient_resized-requires-2 c =
-    let d = draft_in c.args.kept.now in
+pub transient_row-requires : goal.transient_row-requires
+transient_row-requires c = record {
+  machine = omega (
+    arith,
+    c.machine_of-home.ensures,
+    home_in c.args.p.0 c.requires.held.kept.sound c.requires.process,
+  );
+  grid = c.requires.held.loads_are.between_grid;
+}
+
+pub row_changed-requires-2 : goal.row_changed-requires-2
+row_changed-requires-2 c =
+    let is = c.transient_row.ensures.row (draft_in c.args.kept.now) refl c.requires.held.loads_are in
     record {
-      sound = c.requires.held.kept.sound;
-      loads = c.requires.held.loads_are;
-      process = c.requires.process;
-      machine = omega (
-        arith,
-        c.machine_of-here.ensures,
-        here_in d c.args.p.0 c.requires.held.kept.sound
-            c.requires.process,
+      less = c.requirements_of-was.ensures.one_each ∙ sym c.transient_row.ensures.one_each;
+      more = c.requires.asked ∙ sym c.transient_row.ensures.one_each;
+      each = λ r w. (
+        row_enough (transient_step _ (has_gone c.args.p.0 c.requires.held.kept.sound c.requires.process).fewer
+            (there_first
+            (draft_in c.args.kept.now) _ c.machine_of-home.ensures)) is c.requirements_of-was.ensures r w,
+        row_small is (λ q. transient_under _ _ _ _ q c.requires.held.kept.sound.well_formed c.small.ensures) r w,
       );
-      there =
-          or_right _ _
-          (eq-eqb (machine_at d.current c.args.p.0) c.machine_of-here.result.0 (sym c.machine_of-here.ensures));
-      asked = c.requires.asked;
+    }
+
+pub transient_row-requires-2 : goal.transient_row-requires-2
+transient_row-requires-2 c = record {
+  machine = omega (
+    arith,
+    c.machine_of-here.ensures,
+    here_in c.args.p.0 c.requires.held.kept.sound c.requires.process,
+  );
+  grid = c.requires.held.loads_are.between_grid;
+}
+
+pub row_changed-requires-3 : goal.row_changed-requires-3
+row_changed-requires-3 c =
+    let is = c.transient_row-2.ensures.row (draft_in c.args.kept.now) refl c.requires.held.loads_are in
+    record {
+      less = c.requirements_of-was.ensures.one_each ∙ sym c.transient_row-2.ensures.one_each;
+      more = c.requires.asked ∙ sym c.transient_row-2.ensures.one_each;
+      each = λ r w. (
+        row_enough (transient_step _ (has_gone c.args.p.0 c.requires.held.kept.sound c.requires.process).fewer
+            (there_now (draft_in c.args.kept.now) _ c.machine_of-here.ensures)) is c.requirements_of-was.ensures r w,
+        row_small is (λ q. transient_under _ _ _ _ q c.requires.held.kept.sound.well_formed c.small.ensures) r w,
+      );
     }
 
 pub resized_breaks-requires : goal.resized_breaks-requires
 resized_breaks-requires c =
-    let d = draft_in c.args.kept.now in
     record {
       home = omega (
         arith,
         c.machine_of-home.ensures,
-        home_in d c.args.p.0 c.requires.held.kept.sound
+        home_in c.args.p.0 c.requires.held.kept.sound
             c.requires.process,
       );
       here = omega (
         arith,
         c.machine_of-here.ensures,
-        here_in d c.args.p.0 c.requires.held.kept.sound
+        here_in c.args.p.0 c.requires.held.kept.sound
             c.requires.process,
       );
-      used = rw c.as_slice.ensures c.in_ok-used.ensures.one_each;
-      at_home = rw c.as_slice-2.ensures c.in_ok-at_home.ensures.one_each;
-      at_here = rw c.as_slice-3.ensures c.in_ok-at_here.ensures.one_each;
+      used = rw c.as_slice.ensures (c.in_ok-used.ensures.one_each ∙ c.use_row.ensures.one_each);
+      at_home = rw c.as_slice-2.ensures (c.in_ok-at_home.ensures.one_each ∙ c.transient_row.ensures.one_each);
+      at_here = rw c.as_slice-3.ensures (c.in_ok-at_here.ensures.one_each ∙ c.transient_row-2.ensures.one_each);
     }
 
 pub returns-in-Some : goal.returns-in-Some
 returns-in-Some c = λ e other asks.
-    other_broken (draft_in c.args.kept.now) e c.args.kept.now.parts c.args.p.0 c.machine_of-home.result.0
-    c.machine_of-here.result.0 c.requires.held.kept other c.machine_of-home.ensures c.machine_of-here.ensures
-    ∙ sym (c.resized_breaks.ensures e (other.after.origin ∙ sym other.before.origin)
-    (rw c.as_slice.ensures (c.in_ok-used.ensures.row e other asks))
-    (rw c.as_slice-2.ensures (c.in_ok-at_home.ensures.row e other asks))
-    (rw c.as_slice-3.ensures (c.in_ok-at_here.ensures.row e other asks)))
-    ∙ c.in-Some.is
+    let d = draft_in c.args.kept.now in
+    let home = c.machine_of-home.ensures in
+    let here = c.machine_of-here.ensures in
+    let home_e : c.machine_of-home.result.0 ≡ machine_at e.initial c.args.p.0 = rw other.initial home in
+    let here_e : c.machine_of-here.result.0 ≡ machine_at e.current c.args.p.0 = rw other.current here in
+    let used = row_other (use_step other.before (sym here)) (use_step other.after (sym here_e))
+    (c.use_row.ensures.row d refl c.requires.held.loads_are)
+    c.requirements_of-was.ensures asks c.in_ok-used.ensures.one_each c.in_ok-used.ensures.each in
+    let at_home = row_other (transient_step _ other.before (there_first d _ home)) (transient_step _ other.after
+    (there_first e _ home_e)) (c.transient_row.ensures.row d refl c.requires.held.loads_are)
+    c.requirements_of-was.ensures asks c.in_ok-at_home.ensures.one_each c.in_ok-at_home.ensures.each in
+    let at_here = row_other (transient_step _ other.before (there_now d _ here)) (transient_step _ other.after
+    (there_now e _ here_e)) (c.transient_row-2.ensures.row d refl c.requires.held.loads_are)
+    c.requirements_of-was.ensures asks c.in_ok-at_here.ensures.one_each c.in_ok-at_here.ensures.each in
+    let broken = other_broken c.requires.held.kept other home here
+    ∙ sym (c.resized_breaks.ensures e (other.after.origin ∙ sym other.before.origin) (rw c.as_slice.ensures used)
+    (rw c.as_slice-2.ensures at_home) (rw c.as_slice-3.ensures at_here)) in
+    broken ∙ c.in-Some.is
 
 pub costs_with-costs-requires : goal.costs_with-costs-requires
 costs_with-costs-requires c =
@@ -102,16 +134,15 @@ costs_with-costs-requires c =
       machine = omega (
         arith,
         c.machine_of-here.ensures,
-        here_in (draft_in c.args.kept.now) c.args.p.0
+        here_in c.args.p.0
             c.requires.held.kept.sound c.requires.process,
       );
-      one_each = rw c.as_slice-4.ensures c.in_ok-used.ensures.one_each;
+      one_each = rw c.as_slice-4.ensures (c.in_ok-used.ensures.one_each ∙ c.use_row.ensures.one_each);
     }
 
 pub summed-cost-requires : goal.summed-cost-requires
 summed-cost-requires c =
-    let d = draft_in c.args.kept.now in
-    let has : HasParts d c.args.kept.now.parts = parts_told d c.args.kept.now.parts c.requires.held.kept
+    let has = parts_told c.requires.held.kept
     c.small.ensures in
     record {
       load_small = c.costs_with-costs.ensures.load_small;
@@ -124,23 +155,28 @@ summed-cost-requires c =
 pub returns : goal.returns
 returns c = λ e other asks.
     let d = draft_in c.args.kept.now in
-    let has : HasParts d c.args.kept.now.parts = parts_told d c.args.kept.now.parts c.requires.held.kept
-    c.small.ensures in
-    let within : c.machine_of-here.result.0 < machine_count c.args.kept.now.inst.now.tables =
-    omega (arith, c.machine_of-here.ensures, here_in d c.args.p.0 c.requires.held.kept.sound c.requires.process) in
+    let home = c.machine_of-home.ensures in
+    let here = c.machine_of-here.ensures in
+    let home_e : c.machine_of-home.result.0 ≡ machine_at e.initial c.args.p.0 = rw other.initial home in
+    let here_e : c.machine_of-here.result.0 ≡ machine_at e.current c.args.p.0 = rw other.current here in
+    let used = row_other (use_step other.before (sym here)) (use_step other.after (sym here_e))
+    (c.use_row.ensures.row d refl c.requires.held.loads_are)
+    c.requirements_of-was.ensures asks c.in_ok-used.ensures.one_each c.in_ok-used.ensures.each in
+    let at_home = row_other (transient_step _ other.before (there_first d _ home)) (transient_step _ other.after
+    (there_first e _ home_e)) (c.transient_row.ensures.row d refl c.requires.held.loads_are)
+    c.requirements_of-was.ensures asks c.in_ok-at_home.ensures.one_each c.in_ok-at_home.ensures.each in
+    let at_here = row_other (transient_step _ other.before (there_now d _ here)) (transient_step _ other.after
+    (there_now e _ here_e)) (c.transient_row-2.ensures.row d refl c.requires.held.loads_are)
+    c.requirements_of-was.ensures asks c.in_ok-at_here.ensures.one_each c.in_ok-at_here.ensures.each in
+    let broken = other_broken c.requires.held.kept other home here
+    ∙ sym (c.resized_breaks.ensures e (other.after.origin ∙ sym other.before.origin) (rw c.as_slice.ensures used)
+    (rw c.as_slice-2.ensures at_home) (rw c.as_slice-3.ensures at_here)) in
+    let within : c.machine_of-here.result.0 < machine_count d.origin =
+    omega (arith, here, here_in c.args.p.0 c.requires.held.kept.sound c.requires.process) in
     let costs = c.costs_with-costs.ensures.costs e (other.after.origin ∙ sym other.before.origin)
-    (rw c.as_slice-4.ensures (c.in_ok-used.ensures.row e other asks)) in (
-      other_broken d e c.args.kept.now.parts c.args.p.0 c.machine_of-home.result.0 c.machine_of-here.result.0
-          c.requires.held.kept
-          other c.machine_of-home.ensures c.machine_of-here.ensures
-          ∙ sym (c.resized_breaks.ensures e (other.after.origin ∙ sym other.before.origin)
-          (rw c.as_slice.ensures (c.in_ok-used.ensures.row e other asks))
-          (rw c.as_slice-2.ensures (c.in_ok-at_home.ensures.row e other asks))
-          (rw c.as_slice-3.ensures (c.in_ok-at_here.ensures.row e other asks)))
-          ∙ c.in_default.is,
-      c.summed-cost.ensures ∙ other_parts d e c.args.kept.now.parts c.args.p.0 c.machine_of-here.result.0
-          c.costs_with-costs.result.load c.costs_with-costs.result.balance costs.before costs.after
-          c.args.kept.now.inst.now.well_formed within c.machine_of-here.ensures has other costs.before_are
-          costs.after_are
-          costs.load costs.balance,
+    (rw c.as_slice-4.ensures used) in (
+      broken ∙ c.in_default.is,
+      c.summed-cost.ensures ∙ other_parts c.costs_with-costs.result.load c.costs_with-costs.result.balance
+          c.args.kept.now.inst.now.well_formed within here (parts_told c.requires.held.kept c.small.ensures) other
+          costs.before_are costs.after_are costs.load costs.balance,
     )

@@ -6,15 +6,15 @@ use Rattle.ra_edit_read.proofs.numbers.number_below.Goals as goal
 pub returns-in_err-token-clause-refuses : goal.returns-in_err-token-clause-refuses
 returns-in_err-token-clause-refuses g c =
     at_exit _ _ _ c.from_residual.ensures
-    (refuses_as c.in_err-token.ensures.refuses (λ bytes x h. below_stopped bytes _ _ x _ h))
+    (refuses_as c.in_err-token.ensures.refuses (λ bytes x h. below_stopped _ _ h))
 
 pub returns-in_default-clause-refuses : goal.returns-in_default-clause-refuses
 returns-in_default-clause-refuses g c = refuses_here (rw c.in_default.is at c.in_ok-token.ensures.gives) (λ e. cc)
-    (λ bytes x y h. below_missing bytes _ _ x y h)
+    (λ bytes x y h. below_missing _ _ h)
 
 pub returns-then-token-count-clause-refuses : goal.returns-then-token-count-clause-refuses
 returns-then-token-count-clause-refuses g c = refuses_here (rw c.in-Some.is at c.in_ok-token.ensures.gives) (λ e. cc)
-    (λ bytes x y h. below_outside bytes _ _ x y c.in-Some.token h (omega arith))
+    (λ bytes x y h. below_outside _ _ c.in-Some.token h (omega arith))
 
 pub returns-clause-gives : goal.returns-clause-gives
 returns-clause-gives g c =

@@ -1,5 +1,4 @@
-use Rattle.std.proofs.Common.{[], ◌∷◌, ◌+◌, length, refl, sym, ap, ◌∙◌, subst, arith, length-append}
-use Rattle.ra_edit_read.specs.EditLists.{AreEditsFor}
+use Rattle.std.proofs.Common.{[], ◌∷◌, length, refl, ap, ◌∙◌, arith, length-append}
 use Rattle.ra_edit.specs.Replies.{after_edits, replies_to}
 use Rattle.ra_edit.proofs.RunLaws.{none_after, none_replied, one_after, one_replied}
 use Rattle.ra_edit.proofs.draft.Draft.edit_all.Goals as goal
@@ -11,8 +10,12 @@ loop-i-preserved c = record {
       c.in_ok-reply.ensures.reply;
   draft_is = one_after c.args.self.now c.loop-i.self _ c.args.edits.now c.loop-i.i c.loop-i.invariant.draft_is
       c.in_ok-reply.ensures.after;
-  size = ap length c.push.ensures.items ∙ length-append c.loop-i.replies.items (c.in_ok-reply.reply ∷ [])
-      ∙ ap (λ n. n + 1) c.loop-i.invariant.size;
+  size = cc (
+    c.push.ensures.items,
+    length-append c.loop-i.replies.items
+        (c.in_ok-reply.reply ∷ []),
+    c.loop-i.invariant.size,
+  );
   room = c.push.ensures.room ∙ c.loop-i.invariant.room;
   origin = c.edit.ensures.origin ∙ c.loop-i.invariant.origin;
 }
@@ -29,7 +32,7 @@ loop-i-init c = record {
 pub edit-requires : goal.edit-requires
 edit-requires c = record {
   edit = omega (arith, c.loop-i-test.true, c.len-i-end.ensures);
-  fits = subst (λ o. AreEditsFor o c.args.edits.now) (sym c.loop-i.invariant.origin) c.requires;
+  fits = rw (← c.loop-i.invariant.origin) at c.requires;
 }
 
 pub returns-clause-replies : goal.returns-clause-replies

@@ -6,4 +6,4 @@ use Rattle.ra_edit.proofs.draft.Draft.parts.Goals as goal
 
 pub returns-clause-feasible : goal.returns-clause-feasible
 returns-clause-feasible c = subst (λ (d : Drafted). Feasible (instance_of d) d.initial d.current) c.self.view_is
-    (kept_feasible _ c.self.inside.kept.parts c.self.invariant.kept)
+    (kept_feasible c.self.invariant.kept)

@@ -4,4 +4,4 @@ use Rattle.ra_edit.proofs.draft.Draft.processes.Goals as goal
 
 pub overflow_cast-result : goal.overflow_cast-result
 overflow_cast-result c =
-    let few = few_rows _ c.self.inside.kept.parts c.self.invariant.kept in omega (arith, few, c.len.ensures.value)
+    omega (arith, few_rows c.self.invariant.kept, c.len.ensures.value)

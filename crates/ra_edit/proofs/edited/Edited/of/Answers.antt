@@ -1,7 +1,6 @@
 -- Only the processes and what they require are other lists.
 use Rattle.std.proofs.Common.{refl}
-use Rattle.ra_model.specs.Numbers.{machine_count, closed_at}
-use Rattle.ra_model.specs.Numbers.{with_processes as processes_replaced}
+use Rattle.ra_model.specs.Numbers.{machine_count, closed_at, with_processes as processes_replaced}
 use Rattle.ra_model.specs.declared.raw.Tables.{Tables}
 use Rattle.ra_edit.specs.declared.edited.Left.{Left}
 use Rattle.ra_edit.specs.Drafts.{with_process_rows, instance_of}
@@ -41,7 +40,7 @@ pub returns-clause-lists : goal.returns-clause-lists
 returns-clause-lists c = rw (c.with_processes.ensures) (same_lists c.args.instance.tables c.args.left)
 
 pub returns-clause-feasible : goal.returns-clause-feasible
-returns-clause-feasible c = same_feasible (left_in c.args.instance.tables c.args.left) c.with_processes.result.tables
+returns-clause-feasible c = same_feasible
     c.requires.sound c.requires.feasible (rw (c.with_processes.ensures) (same_lists c.args.instance.tables c.args.left))
 
 pub returns-clause-parts : goal.returns-clause-parts

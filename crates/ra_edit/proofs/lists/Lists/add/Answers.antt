@@ -10,22 +10,19 @@ push-requires c = omega (arith, c.requires.few, c.requires.room.rows)
 
 pub extend_from_slice-requires : goal.extend_from_slice-requires
 extend_from_slice-requires c =
-    let few = few_of (drafted c.args.inst.now.tables c.args.self.now) c.requires.sound in
-    row_fits _ _ _ _ _ c.requires.few few.table c.requires.width c.requires.room.requirements
+    row_fits _ _ _ _ _ c.requires.few (few_of c.requires.sound).table c.requires.width c.requires.room.requirements
 
 pub push-requires-2 : goal.push-requires-2
 push-requires-2 c =
-    let few = few_of (drafted c.args.inst.now.tables c.args.self.now) c.requires.sound in
-    omega (arith, few.initial, c.requires.few, c.requires.room.initial)
+    omega (arith, (few_of c.requires.sound).initial, c.requires.few, c.requires.room.initial)
 
 pub push-requires-3 : goal.push-requires-3
 push-requires-3 c =
-    let few = few_of (drafted c.args.inst.now.tables c.args.self.now) c.requires.sound in
-    omega (arith, few.current, c.requires.few, c.requires.room.current)
+    omega (arith, (few_of c.requires.sound).current, c.requires.few, c.requires.room.current)
 
 pub returns-clause-lists : goal.returns-clause-lists
 returns-clause-lists c = added_is (drafted c.args.inst.now.tables c.args.self.now) c.args.row c.args.machine
-    c.args.requirements.now _ _ _ _ c.push.ensures.items c.extend_from_slice.ensures.items c.push-2.ensures.items
+    c.args.requirements.now c.push.ensures.items c.extend_from_slice.ensures.items c.push-2.ensures.items
     c.push-3.ensures.items
 
 pub returns-clause-room : goal.returns-clause-room

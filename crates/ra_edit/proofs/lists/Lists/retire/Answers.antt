@@ -8,9 +8,8 @@ use Rattle.ra_edit.proofs.lists.Lists.retire.Goals as goal
 
 pub swap_remove_part-requires : goal.swap_remove_part-requires
 swap_remove_part-requires c =
-    let few = few_of (drafted c.args.inst.now.tables c.args.self.now) c.requires.sound in
     let size : length c.args.self.now.requirements.items ≡ c.len-last.result * c.resources-width.result =
-    cc (few.table, c.len-last.ensures.value, c.resources-width.ensures) in
+    cc ((few_of c.requires.sound).table, c.len-last.ensures.value, c.resources-width.ensures) in
     let within : c.args.process < c.len-last.result = omega (arith, c.requires.process, c.len-last.ensures.value) in
     record {
       within = last_within c.resources-width.result c.len-last.result c.args.process _ size within;
@@ -19,22 +18,18 @@ swap_remove_part-requires c =
 
 pub swap_remove-requires-2 : goal.swap_remove-requires-2
 swap_remove-requires-2 c =
-    let few = few_of (drafted c.args.inst.now.tables c.args.self.now) c.requires.sound in
-    omega (arith, few.initial, c.requires.process)
+    omega (arith, (few_of c.requires.sound).initial, c.requires.process)
 
 pub swap_remove-requires-3 : goal.swap_remove-requires-3
 swap_remove-requires-3 c =
-    let few = few_of (drafted c.args.inst.now.tables c.args.self.now) c.requires.sound in
-    omega (arith, few.current, c.requires.process)
+    omega (arith, (few_of c.requires.sound).current, c.requires.process)
 
 pub returns-clause-lists : goal.returns-clause-lists
 returns-clause-lists c =
-    let few = few_of (drafted c.args.inst.now.tables c.args.self.now) c.requires.sound in
     let size : length c.args.self.now.requirements.items ≡ c.len-last.result * c.resources-width.result =
-    cc (few.table, c.len-last.ensures.value, c.resources-width.ensures) in
-    retired_is (drafted c.args.inst.now.tables c.args.self.now) c.args.process c.resources-width.result
-    c.len-last.result
-    _ _ _ _ (c.swap_remove.ensures.items (process_of (record { 0 = 0 }) 0))
+    cc ((few_of c.requires.sound).table, c.len-last.ensures.value, c.resources-width.ensures) in
+    retired_is (drafted c.args.inst.now.tables c.args.self.now) c.args.process
+    (c.swap_remove.ensures.items (process_of (record { 0 = 0 }) 0))
     (dropped_is c.resources-width.result c.len-last.result c.args.process _ _ size
     (omega (arith, c.requires.process, c.len-last.ensures.value)) c.swap_remove_part.ensures.items)
     c.resources-width.ensures c.len-last.ensures.value (c.swap_remove-2.ensures.items (record { 0 = 0 }))

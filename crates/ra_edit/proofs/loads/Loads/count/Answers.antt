@@ -2,41 +2,39 @@
 use Rattle.std.proofs.Common.{◌≤◌, ◌<◌, slice_index, arith}
 use Rattle.ra_model.specs.Numbers.{machine_count}
 use Rattle.ra_edit.specs.Keeping.{drafted}
+use Rattle.ra_edit.proofs.SoundLaws.{few_of}
 use Rattle.ra_edit.proofs.LoadLaws.{counted_more, used_below, between_below, row_there}
-use Rattle.ra_edit.proofs.ScanLaws.{few}
 use Rattle.ra_edit.proofs.VerdictLaws.{here_in, home_in}
 use Rattle.ra_edit.proofs.loads.Loads.count.Goals as goal
 
 pub machine_of-home-requires : goal.machine_of-home-requires
 machine_of-home-requires c =
-    let f = few c.args.inst.now.tables c.args.lists.now c.requires.sound in omega (arith, f.initial, c.requires.process)
+    omega (arith, (few_of c.requires.sound).initial, c.requires.process)
 
 pub machine_of-here-requires : goal.machine_of-here-requires
 machine_of-here-requires c =
-    let f = few c.args.inst.now.tables c.args.lists.now c.requires.sound in omega (arith, f.current, c.requires.process)
+    omega (arith, (few_of c.requires.sound).current, c.requires.process)
 
 pub come-requires : goal.come-requires
 come-requires c =
     let i = c.args.inst.now.tables in
     let d = drafted i c.args.lists.now in
-    let f = few i c.args.lists.now c.requires.sound in
-    let n : c.args.p.0 ≤ 50000 = omega (arith, f.rows, c.requires.process) in
+    let n : c.args.p.0 ≤ 50000 = omega (arith, (few_of c.requires.sound).rows, c.requires.process) in
     let home : c.machine_of-home.result.0 < machine_count i =
-    omega (arith, c.machine_of-home.ensures, home_in d c.args.p.0 c.requires.sound c.requires.process) in
+    omega (arith, c.machine_of-home.ensures, home_in c.args.p.0 c.requires.sound c.requires.process) in
     let here : c.machine_of-here.result.0 < machine_count i =
-    omega (arith, c.machine_of-here.ensures, here_in d c.args.p.0 c.requires.sound c.requires.process) in
+    omega (arith, c.machine_of-here.ensures, here_in c.args.p.0 c.requires.sound c.requires.process) in
     rw c.requirements_of.ensures.one_each (record {
-      used = row_there (machine_count i) _ _ _ c.requires.counted.used_grid here;
-      home = row_there (machine_count i) _ _ _ c.requires.counted.between_grid home;
-      here = row_there (machine_count i) _ _ _ c.requires.counted.between_grid here;
+      used = row_there (machine_count i) _ _ c.requires.counted.used_grid here;
+      home = row_there (machine_count i) _ _ c.requires.counted.between_grid home;
+      here = row_there (machine_count i) _ _ c.requires.counted.between_grid here;
       used_below = used_below d c.args.p.0 c.args.self.now n c.small.ensures c.requires.counted;
       between_below = between_below d c.args.p.0 c.args.self.now n c.small.ensures c.requires.counted;
     })
 
 pub returns : goal.returns
 returns c =
-    let d = drafted c.args.inst.now.tables c.args.lists.now in
-    counted_more d c.args.p.0 c.machine_of-home.result.0 c.machine_of-here.result.0
-    (slice_index c.requirements_of.result.now) c.args.self.now _ c.requires.counted c.machine_of-home.ensures
+    counted_more
+    (slice_index c.requirements_of.result.now) c.requires.counted c.machine_of-home.ensures
     c.machine_of-here.ensures c.requirements_of.ensures.each
     (rw c.requirements_of.ensures.one_each at c.come.ensures)

@@ -1,12 +1,11 @@
 -- The tables begin as zeros, and each process is counted.
-use Rattle.std.proofs.Common.{◌≡◌, ◌*◌, ap₂, length, arith}
-use Rattle.ra_edit.specs.Keeping.{drafted}
+use Rattle.std.proofs.Common.{◌≡◌, length, arith}
 use Rattle.ra_edit.proofs.LoadLaws.{counted_none}
 use Rattle.ra_edit.proofs.loads.Loads.of.Goals as goal
 
 pub loop-p-init : goal.loop-p-init
-loop-p-init c = counted_none (drafted c.args.inst.now.tables c.args.lists.now) _ _ c.in_ok-used.ensures
-    c.in_ok-between.ensures (ap₂ (λ x y. x * y) c.machines.ensures c.resources.ensures)
+loop-p-init c = counted_none c.in_ok-used.ensures
+    c.in_ok-between.ensures (cc (c.machines.ensures, c.resources.ensures))
 
 pub returns : goal.returns
 returns c =

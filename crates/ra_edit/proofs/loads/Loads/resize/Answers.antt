@@ -1,88 +1,45 @@
 -- One process less, and the same one more, which requires something else.
-use Rattle.std.proofs.Common.{◌<◌, ◌^◌, ◌∙◌, List, length, slice_index, refl, sym, ap, subst, arith, eq-eqb}
-use Rattle.std.proofs.lemmas.Bool.{or_left, or_right}
-use Rattle.ra_base.specs.declared.ids.Machine.{Machine}
-use Rattle.ra_model.specs.declared.raw.Tables.{Tables}
-use Rattle.ra_model.specs.Assignments.{machine_at}
-use Rattle.ra_model.specs.Numbers.{resource_count, machine_count}
+use Rattle.std.proofs.Common.{◌<◌, slice_index, arith}
+use Rattle.ra_model.specs.Numbers.{machine_count}
 use Rattle.ra_edit.specs.Editing.{retired}
 use Rattle.ra_edit.specs.Keeping.{drafted}
-use Rattle.ra_edit.proofs.LoadLaws.{loads_less, loads_more, used_below, between_below, used_less, between_less, go_used}
-use Rattle.ra_edit.proofs.LoadLaws.{go_between, row_there}
-use Rattle.ra_edit.proofs.ScanLaws.{few}
+use Rattle.ra_edit.proofs.SoundLaws.{few_of}
+use Rattle.ra_edit.proofs.LoadLaws.{loads_more, used_below_less, between_below_less, row_there}
 use Rattle.ra_edit.proofs.VerdictLaws.{has_gone, here_in, home_in}
 use Rattle.ra_edit.proofs.loads.Loads.resize.Goals as goal
 
 pub machine_of-home-requires : goal.machine_of-home-requires
-machine_of-home-requires c =
-    let f = few c.args.inst.now.tables c.args.lists.now c.requires.sound in omega (arith, f.initial, c.requires.process)
+machine_of-home-requires c = omega (arith, (few_of c.requires.sound).initial, c.requires.process)
 
 pub machine_of-here-requires : goal.machine_of-here-requires
-machine_of-here-requires c =
-    let f = few c.args.inst.now.tables c.args.lists.now c.requires.sound in omega (arith, f.current, c.requires.process)
-
-pub go-requires : goal.go-requires
-go-requires c =
-    let i = c.args.inst.now.tables in
-    let d = drafted i c.args.lists.now in
-    let gone = has_gone d (retired d c.args.p.0) c.args.p.0 c.requires.sound c.requires.process refl in
-    let home : c.machine_of-home.result.0 < machine_count i =
-    omega (arith, c.machine_of-home.ensures, home_in d c.args.p.0 c.requires.sound c.requires.process) in
-    let here : c.machine_of-here.result.0 < machine_count i =
-    omega (arith, c.machine_of-here.ensures, here_in d c.args.p.0 c.requires.sound c.requires.process) in
-    rw c.requirements_of.ensures.one_each (record {
-      used = row_there (machine_count i) _ _ _ c.requires.loads.used_grid here;
-      home = row_there (machine_count i) _ _ _ c.requires.loads.between_grid home;
-      here = row_there (machine_count i) _ _ _ c.requires.loads.between_grid here;
-      used_enough = λ r w. go_used (retired d c.args.p.0) d c.args.p.0 c.machine_of-here.result.0 r
-          c.requirements_of.result.now c.args.self.now c.requires.loads gone.fewer c.machine_of-here.ensures
-          c.requirements_of.ensures w;
-      home_enough = λ r w. go_between (retired d c.args.p.0) d c.args.p.0 c.machine_of-home.result.0 r
-          c.requirements_of.result.now c.args.self.now c.requires.loads gone.fewer
-          (or_left _ _
-          (eq-eqb (machine_at d.initial c.args.p.0) c.machine_of-home.result.0 (sym c.machine_of-home.ensures)))
-          c.requirements_of.ensures w;
-      here_enough = λ r w. go_between (retired d c.args.p.0) d c.args.p.0 c.machine_of-here.result.0 r
-          c.requirements_of.result.now c.args.self.now c.requires.loads gone.fewer
-          (or_right _ _
-          (eq-eqb (machine_at d.current c.args.p.0) c.machine_of-here.result.0 (sym c.machine_of-here.ensures)))
-          c.requirements_of.ensures w;
-    })
+machine_of-here-requires c = omega (arith, (few_of c.requires.sound).current, c.requires.process)
 
 pub come-requires : goal.come-requires
+unfolding retired
 come-requires c =
     let i = c.args.inst.now.tables in
-    let d = drafted i c.args.lists.now in
-    let f = few i c.args.lists.now c.requires.sound in
+    let gone = has_gone c.args.p.0 c.requires.sound c.requires.process in
+    let are = c.retire.ensures (retired (drafted i c.args.lists.now) c.args.p.0) gone in
+    let well = c.requires.sound.well_formed in
     let home : c.machine_of-home.result.0 < machine_count i =
-    omega (arith, c.machine_of-home.ensures, home_in d c.args.p.0 c.requires.sound c.requires.process) in
+    omega (arith, c.machine_of-home.ensures, home_in c.args.p.0 c.requires.sound c.requires.process) in
     let here : c.machine_of-here.result.0 < machine_count i =
-    omega (arith, c.machine_of-here.ensures, here_in d c.args.p.0 c.requires.sound c.requires.process) in
-    let less = rw c.requirements_of.ensures.one_each at c.go.ensures in
+    omega (arith, c.machine_of-here.ensures, here_in c.args.p.0 c.requires.sound c.requires.process) in
     rw c.requires.asked (record {
-      used = row_there (machine_count i) _ _ _ (sym less.used.same_length ∙ c.requires.loads.used_grid) here;
-      home = row_there (machine_count i) _ _ _ (sym less.between.same_length ∙ c.requires.loads.between_grid) home;
-      here = row_there (machine_count i) _ _ _ (sym less.between.same_length ∙ c.requires.loads.between_grid) here;
-      used_below =
-          used_less _ _ _ _ _ (2 ^ 62)
-          (used_below d (length d.rows) c.args.self.now f.rows c.small.ensures c.requires.loads) less.used;
-      between_below =
-          between_less _ _ _ _ _ _ (2 ^ 62)
-          (between_below d (length d.rows) c.args.self.now f.rows c.small.ensures c.requires.loads) less.between;
+      used = row_there (machine_count i) _ _ are.used_grid here;
+      home = row_there (machine_count i) _ _ are.between_grid home;
+      here = row_there (machine_count i) _ _ are.between_grid here;
+      used_below = used_below_less are gone.fewer well c.small.ensures;
+      between_below = between_below_less are gone.fewer well c.small.ensures;
     })
 
 pub returns : goal.returns
 unfolding retired
 returns c = λ e other asks.
-    let d = drafted c.args.inst.now.tables c.args.lists.now in
-    let low = retired d c.args.p.0 in
-    let less = loads_less low d c.args.p.0 c.machine_of-home.result.0 c.machine_of-here.result.0
-    (slice_index c.requirements_of.result.now) _ c.args.self.now c.requires.loads other.before
-    c.machine_of-home.ensures c.machine_of-here.ensures c.requirements_of.ensures.each
-    (rw c.requirements_of.ensures.one_each at c.go.ensures) in
-    loads_more low e c.args.p.0 c.machine_of-home.result.0 c.machine_of-here.result.0 (slice_index c.args.asked.now) _ _
-    less other.after
-    (c.machine_of-home.ensures ∙ ap (λ (a : List Machine). machine_at a c.args.p.0) (sym other.initial))
-    (c.machine_of-here.ensures ∙ ap (λ (a : List Machine). machine_at a c.args.p.0) (sym other.current))
-    (λ r w. asks.each r (subst (λ (i : Tables). r < resource_count i) (sym other.after.origin) w))
+    loads_more c.machine_of-here.result.0 (slice_index c.args.asked.now)
+    (c.retire.ensures (retired (drafted c.args.inst.now.tables c.args.lists.now) c.args.p.0)
+    (has_gone c.args.p.0 c.requires.sound c.requires.process)) other.after
+    (cc (c.machine_of-home.ensures, other.initial))
+    (cc (c.machine_of-here.ensures, other.current))
+    (λ r w. asks.each r (rw (← other.after.origin) at w))
     (rw c.requires.asked at c.come.ensures)

@@ -6,12 +6,12 @@ use Rattle.ra_edit.proofs.loads.Loads.use_row.Goals as goal
 
 pub read_row-requires : goal.read_row-requires
 read_row-requires c =
-    rw c.resources.ensures (row_there (machine_count c.args.inst.now.tables) _ _ _ c.requires.grid c.requires.machine)
+    rw c.resources.ensures (row_there (machine_count c.args.inst.now.tables) _ _ c.requires.grid c.requires.machine)
 
 pub returns-clause-one_each : goal.returns-clause-one_each
 returns-clause-one_each c = c.read_row.ensures.one_each ∙ c.resources.ensures
 
 pub returns-clause-row : goal.returns-clause-row
-returns-clause-row c = λ d same are. use_row_kept d c.args.inst.now.tables c.args.self.now c.args.m.0
-    c.read_row.result.now same are (c.read_row.ensures.one_each ∙ c.resources.ensures)
+returns-clause-row c = λ d same are. use_row_kept
+    c.args.m.0 same are (c.read_row.ensures.one_each ∙ c.resources.ensures)
     (rw c.resources.ensures at c.read_row.ensures.each)

@@ -8,7 +8,7 @@ pub returns-then-before-eq0-clause-numbered : goal.returns-then-before-eq0-claus
 returns-then-before-eq0-clause-numbered c =
     let low = c.args.self.now.counts in
     let none : count_in low c.args.s.0 c.args.label ≡ 0 = omega (arith, c.at-before.ensures, c.if-before-eq0.true) in
-    numbered_written _ c.args.s.0 (c.number-more.result + 1) c.args.self.now _ c.requires.numbered c.requires.service
+    numbered_written c.args.s.0 (c.number-more.result + 1) c.requires.numbered c.requires.service
     c.set.ensures.items
     (omega (
       arith,
@@ -19,6 +19,6 @@ returns-then-before-eq0-clause-numbered c =
     (λ t apart. labels_other low c.come.new.self c.args.s.0 c.args.label t c.come.ensures apart)
 
 pub returns-else-before-eq0-clause-numbered : goal.returns-else-before-eq0-clause-numbered
-returns-else-before-eq0-clause-numbered c = numbered_kept _ c.args.self.now _ c.requires.numbered refl
+returns-else-before-eq0-clause-numbered c = numbered_kept c.requires.numbered refl
     (labels_still c.args.self.now.counts c.come.new.self c.args.s.0 c.args.label (omega arith) c.come.ensures
     (omega (arith, c.at-before.ensures, c.if-before-eq0.false)))

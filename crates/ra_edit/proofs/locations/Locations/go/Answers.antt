@@ -18,7 +18,7 @@ pub returns-then-at-eq0-clause-numbered : goal.returns-then-at-eq0-clause-number
 returns-then-at-eq0-clause-numbered c =
     let high = c.args.self.now.counts in
     let none : count_in c.go.new.self c.args.s.0 c.args.label ≡ 0 = omega (arith, c.at.ensures, c.if-at-eq0.true) in
-    numbered_written _ c.args.s.0 (c.number-fewer.result - 1) c.args.self.now _ c.requires.numbered c.requires.service
+    numbered_written c.args.s.0 (c.number-fewer.result - 1) c.requires.numbered c.requires.service
     c.set.ensures.items
     (omega (
       arith,
@@ -29,6 +29,6 @@ returns-then-at-eq0-clause-numbered c =
     (λ t apart. sym (labels_other c.go.new.self high c.args.s.0 c.args.label t c.go.ensures apart))
 
 pub returns-else-at-eq0-clause-numbered : goal.returns-else-at-eq0-clause-numbered
-returns-else-at-eq0-clause-numbered c = numbered_kept _ c.args.self.now _ c.requires.numbered refl
+returns-else-at-eq0-clause-numbered c = numbered_kept c.requires.numbered refl
     (λ t. sym (labels_still c.go.new.self c.args.self.now.counts c.args.s.0 c.args.label (omega arith) c.go.ensures
     (omega (arith, c.at.ensures, c.if-at-eq0.false)) t))

@@ -1,5 +1,4 @@
 -- Each kind of edit is followed by itself.
-use Rattle.ra_edit.specs.Keeping.{drafted}
 use Rattle.ra_edit.proofs.MemberLaws.{members_resized}
 use Rattle.ra_edit.proofs.SoundLaws.{free_retire}
 use Rattle.ra_edit.proofs.members.Members.follow.Goals as goal
@@ -15,5 +14,5 @@ retire-requires-clause-process c = (free_retire _ _ (rw c.in-Retire.is at c.requ
 
 pub returns-in-Resize-clause-after : goal.returns-in-Resize-clause-after
 returns-in-Resize-clause-after c = rw c.in-Resize.is (λ e asked edited.
-    members_resized (drafted c.args.inst.now.tables c.args.lists.now) e c.in-Resize.process c.args.self.now
+    members_resized
     c.requires.members edited.0)

@@ -5,4 +5,4 @@ use Rattle.ra_edit.proofs.members.Members.locations.Goals as goal
 
 pub returns : goal.returns
 returns c = λ d has. c.number.ensures
-    ∙ locations_told d c.args.self.now c.args.s.0 (omega (arith, c.requires, has.numbered.one_each)) has
+    ∙ locations_told c.args.s.0 (omega (arith, c.requires, has.numbered.one_each)) has
