@@ -37,22 +37,25 @@ says_same found other (NoMachine process value) same says = same says
 says_same found other (Extra at) same says = same says
 says_same found other NoMemory same says = tt
 
-refusal_at : (bytes : List ℕ) (i : Tables) (n : ℕ) (fault : AssignFault) → n < process_count i →
-    first n (process_test bytes i) ≡ None → process_test bytes i n ≡ Some fault → assign_refusal bytes i ≡ Some fault
-unfolding assign_refusal
-refusal_at bytes i n fault within before here =
-    rw (first_found n (process_count i) (process_test bytes i) fault within before here) (or_else_some fault _)
-
 -- a fault of a token that was found is what its refusal says
 pub says_fault : (found : Option AssignFault) (fault : TokenFault) → (fault ≡ told.ReadFault)
     ⊎ (found ≡ Some (assign_fault fault)) → AssignSays found (assign_fault fault)
 unfolding assign_fault
 says_fault found told.ReadFault h = tt
 says_fault found (told.BadByte at byte) h =
-    ⊎_elim (λ (e : told.BadByte at byte ≡ told.ReadFault). cc) (λ (e : found ≡ Some (BadByte at byte)). e) h
+    elim h [
+      | inl e ↦ cc
+      | inr e ↦ e
+    ]
 says_fault found (told.TooLarge at) h =
-    ⊎_elim (λ (e : told.TooLarge at ≡ told.ReadFault). cc) (λ (e : found ≡ Some (TooLarge at)). e) h
-says_fault found told.TooLong h = ⊎_elim (λ (e : told.TooLong ≡ told.ReadFault). cc) (λ (e : found ≡ Some TooLong). e) h
+    elim h [
+      | inl e ↦ cc
+      | inr e ↦ e
+    ]
+says_fault found told.TooLong h = elim h [
+  | inl e ↦ cc
+  | inr e ↦ e
+]
 says_fault found told.NoMemory h = tt
 
 -- if no token is found, the tokens have ended
@@ -62,98 +65,21 @@ past_none ts n none = ⊎_elim
     (λ past. past.0)
     (slice_get_cases ts n).1
 
--- after the last token there is none
-past_all : (bytes : List ℕ) (n : ℕ) → GaveAll bytes n → slice_get (tokens bytes) n ≡ None
-past_all bytes n all = slice_get_past (tokens bytes) n (omega (arith, all))
-
--- the fault of the file instead of the machine of process n
-pub process_fault : (bytes : List ℕ) (i : Tables) (n : ℕ) (fault : TokenFault) → IsAnswer bytes n (Err fault) →
-    AssignSays (process_test bytes i n) (assign_fault fault)
-unfolding process_test machine_test none_left
-process_fault bytes i n fault answer =
-    says_fault (process_test bytes i n) fault
-    (⊎_elim (λ (e : fault ≡ told.ReadFault). inl e) (λ (h : GaveAll bytes n × (first_fault bytes ≡ Some fault)).
-    inr (rw (past_all bytes n h.0, h.1) refl)) answer)
-
--- the end of the file instead of the machine of process n
-pub process_missing : (bytes : List ℕ) (i : Tables) (n : ℕ) → IsAnswer bytes n (Ok None) →
-    process_test bytes i n ≡ Some (Missing (record { 0 = n }))
-unfolding process_test machine_test none_left
-process_missing bytes i n answer = rw (past_all bytes n answer.0, answer.1) refl
-
--- a machine that doesn't exist, and one that does
-pub process_outside : (bytes : List ℕ) (i : Tables) (n : ℕ) (t : Token) → IsAnswer bytes n (Ok (Some t)) →
-    machine_count i ≤ t.value → process_test bytes i n ≡ Some (NoMachine (record { 0 = n }) t.value)
-unfolding process_test machine_test
-process_outside bytes i n t answer outside =
-    rw answer (cond-false (nat_lt t.value (machine_count i)) None (Some (NoMachine (record { 0 = n }) t.value))
-    (le-ltb t.value (machine_count i) outside))
-
-pub process_inside : (bytes : List ℕ) (i : Tables) (n : ℕ) (t : Token) → IsAnswer bytes n (Ok (Some t)) →
-    t.value < machine_count i → process_test bytes i n ≡ None
-unfolding process_test machine_test
-process_inside bytes i n t answer inside =
-    rw answer (cond-true (nat_lt t.value (machine_count i)) None (Some (NoMachine (record { 0 = n }) t.value))
-    (lt-ltb t.value (machine_count i) inside))
-
--- after the last process
-pub end_fault : (bytes : List ℕ) (n : ℕ) (fault : TokenFault) → IsAnswer bytes n (Err fault) →
-    AssignSays (end_test bytes n) (assign_fault fault)
-unfolding end_test behind_test
-end_fault bytes n fault answer =
-    says_fault (end_test bytes n) fault
-    (⊎_elim (λ (e : fault ≡ told.ReadFault). inl e) (λ (h : GaveAll bytes n × (first_fault bytes ≡ Some fault)).
-    inr (rw (past_all bytes n h.0, h.1) refl)) answer)
-
-pub end_sound : (bytes : List ℕ) (n : ℕ) → IsAnswer bytes n (Ok None) → end_test bytes n ≡ None
-unfolding end_test behind_test
-end_sound bytes n answer = rw (past_all bytes n answer.0, answer.1) refl
-
 behind_token : (fault : Option TokenFault) (t : Token) → behind_test fault (Some t) ≡ Some (Extra t.at)
 unfolding behind_test
 behind_token None t = refl
 behind_token (Some fault) t = refl
-
-pub end_extra : (bytes : List ℕ) (n : ℕ) (t : Token) → IsAnswer bytes n (Ok (Some t)) →
-    end_test bytes n ≡ Some (Extra t.at)
-unfolding end_test
-end_extra bytes n t answer = rw answer (behind_token (first_fault bytes) t)
-
--- one more machine was taken
-pub taken_more : (bytes : List ℕ) (i : Tables) (place after n : ℕ) (a : List Machine) (m : Machine) →
-    HasTakenMachines bytes i place n a → TakesMachine bytes i place after m →
-    HasTakenMachines bytes i after (n + 1) (a ++ m ∷ [])
-taken_more bytes i place after n a m before takes =
-    let there : n < length (tokens bytes) =
-    slice_get_within (tokens bytes) n takes.token (rw before.given at takes.found) in
-    record {
-      given = takes.next ∙ ap (λ (k : ℕ). k + 1) before.given;
-      sound = first_more_none n (process_test bytes i) before.sound (rw before.given at takes.tested);
-      machines = rw (
-        before.machines,
-        takes.machine,
-        take_more (tokens bytes) n takes.token there,
-        get_or_from_slice_get (tokens bytes) n takes.token takes.token (rw before.given at takes.found),
-      )
-          (sym (map-append machine_of (take n (tokens bytes)) (takes.token ∷ [])));
-    }
 
 -- a machine that was tested exists
 machine_names : (i : Tables) (fault : Option TokenFault) (p : ℕ) (found : Option Token) →
     machine_test i fault p found ≡ None → (t : Token) × (found ≡ Some t) × (t.value < machine_count i)
 unfolding machine_test
 machine_names i fault p None none = absurd (let e : Some (none_left fault p) ≡ None = none in cc)
-machine_names i fault p (Some t) none = ⊎_elim
-    (λ (inside : t.value < machine_count i). (t, refl, inside))
-    (λ (outside : machine_count i ≤ t.value).
-    absurd (let e = cond-false (nat_lt t.value (machine_count i)) None
-    (Some (NoMachine (record { 0 = p }) t.value)) (le-ltb t.value (machine_count i) outside) in cc))
-    (cases_lt t.value (machine_count i))
-
-process_names : (bytes : List ℕ) (i : Tables) (p : ℕ) → process_test bytes i p ≡ None → (t : Token)
-    × (slice_get (tokens bytes) p ≡ Some t) × (t.value < machine_count i)
-unfolding process_test
-process_names bytes i p none = machine_names i (first_fault bytes) p (slice_get (tokens bytes) p) none
+machine_names i fault p (Some t) none = elim (cases_lt t.value (machine_count i)) [
+  | inl inside ↦ (t, refl, inside)
+  | inr outside ↦ absurd (let e = cond-false (nat_lt t.value (machine_count i)) None
+      (Some (NoMachine (record { 0 = p }) t.value)) (le-ltb t.value (machine_count i) outside) in cc)
+]
 
 behind_none : (fault : Option TokenFault) (next : Option Token) → behind_test fault next ≡ None → (fault ≡ None)
     × (next ≡ None)
@@ -162,78 +88,164 @@ behind_none None None none = (refl, refl)
 behind_none (Some fault) None none = absurd (let e : Some (assign_fault fault) ≡ None = none in cc)
 behind_none fault (Some t) none = absurd (let e = sym (behind_token fault t) ∙ none in cc)
 
-end_none : (bytes : List ℕ) (n : ℕ) → end_test bytes n ≡ None → (first_fault bytes ≡ None)
-    × (slice_get (tokens bytes) n ≡ None)
-unfolding end_test
-end_none bytes n none = behind_none (first_fault bytes) (slice_get (tokens bytes) n) none
+module _ (bytes : List ℕ) where
+  module _ (n : ℕ) where
+    -- after the last token there is none
+    past_all : GaveAll bytes n → slice_get (tokens bytes) n ≡ None
+    past_all all = slice_get_past (tokens bytes) n (omega (arith, all))
 
--- if no process lacks its machine, there are as many tokens
-many : (bytes : List ℕ) (i : Tables) (n : ℕ) → first n (process_test bytes i) ≡ None → n ≤ length (tokens bytes)
-many bytes i zero sound = omega arith
-many bytes i (suc n) sound =
-    let named = process_names bytes i n (first_none_at n (suc n) (process_test bytes i) (omega arith) sound) in
-    let there : n < length (tokens bytes) = slice_get_within (tokens bytes) n named.0 named.1 in
-    omega arith
+    -- after the last process
+    pub end_fault : (fault : TokenFault) → IsAnswer bytes n (Err fault) →
+        AssignSays (end_test bytes n) (assign_fault fault)
+    unfolding end_test behind_test
+    end_fault fault answer =
+        says_fault (end_test bytes n) fault
+        (⊎_elim (λ (e : fault ≡ told.ReadFault). inl e) (λ (h : GaveAll bytes n × (first_fault bytes ≡ Some fault)).
+        inr (rw (past_all h.0, h.1) refl)) answer)
 
--- nothing is refused exactly if the bytes are an assignment file
-pub assign_accepts : (bytes : List ℕ) (i : Tables) → (assign_refusal bytes i ≡ None) ↔ IsAssignmentFile bytes i
-unfolding assign_refusal
-assign_accepts bytes i = (there, back)
-  where
-    there : or_else (first (process_count i) (process_test bytes i)) (end_test bytes (process_count i)) ≡ None →
-        IsAssignmentFile bytes i
-    there none =
-        let all = left_none _ _ none in
-        let end = end_none bytes (process_count i)
-        (right_none (first (process_count i) (process_test bytes i)) _ none) in
-        let past = past_none (tokens bytes) (process_count i) end.1 in
+    pub end_sound : IsAnswer bytes n (Ok None) → end_test bytes n ≡ None
+    unfolding end_test behind_test
+    end_sound answer = rw (past_all answer.0, answer.1) refl
+
+    pub end_extra : (t : Token) → IsAnswer bytes n (Ok (Some t)) → end_test bytes n ≡ Some (Extra t.at)
+    unfolding end_test
+    end_extra t answer = rw answer (behind_token (first_fault bytes) t)
+
+    end_none : end_test bytes n ≡ None → (first_fault bytes ≡ None)
+        × (slice_get (tokens bytes) n ≡ None)
+    unfolding end_test
+    end_none none = behind_none (first_fault bytes) (slice_get (tokens bytes) n) none
+
+  module _ (i : Tables) (n : ℕ) where
+    refusal_at : (fault : AssignFault) → n < process_count i → first n (process_test bytes i) ≡ None →
+        process_test bytes i n ≡ Some fault → assign_refusal bytes i ≡ Some fault
+    unfolding assign_refusal
+    refusal_at fault within before here =
+        rw (first_found n (process_count i) (process_test bytes i) fault within before here) (or_else_some fault _)
+
+    -- the fault of the file instead of the machine of process n
+    pub process_fault : (fault : TokenFault) → IsAnswer bytes n (Err fault) →
+        AssignSays (process_test bytes i n) (assign_fault fault)
+    unfolding process_test machine_test none_left
+    process_fault fault answer =
+        says_fault (process_test bytes i n) fault
+        (⊎_elim (λ (e : fault ≡ told.ReadFault). inl e) (λ (h : GaveAll bytes n × (first_fault bytes ≡ Some fault)).
+        inr (rw (past_all n h.0, h.1) refl)) answer)
+
+    -- the end of the file instead of the machine of process n
+    pub process_missing : IsAnswer bytes n (Ok None) → process_test bytes i n ≡ Some (Missing (record { 0 = n }))
+    unfolding process_test machine_test none_left
+    process_missing answer = rw (past_all n answer.0, answer.1) refl
+
+    module _ (t : Token) (answer : IsAnswer bytes n (Ok (Some t))) where
+      -- a machine that doesn't exist, and one that does
+      pub process_outside : machine_count i ≤ t.value →
+          process_test bytes i n ≡ Some (NoMachine (record { 0 = n }) t.value)
+      unfolding process_test machine_test
+      process_outside outside =
+          rw answer (cond-false (nat_lt t.value (machine_count i)) None (Some (NoMachine (record { 0 = n }) t.value))
+          (le-ltb t.value (machine_count i) outside))
+
+      pub process_inside : t.value < machine_count i → process_test bytes i n ≡ None
+      unfolding process_test machine_test
+      process_inside inside =
+          rw answer (cond-true (nat_lt t.value (machine_count i)) None (Some (NoMachine (record { 0 = n }) t.value))
+          (lt-ltb t.value (machine_count i) inside))
+
+  module _ (i : Tables) where
+    -- one more machine was taken
+    pub taken_more : (place after n : ℕ) (a : List Machine) (m : Machine) → HasTakenMachines bytes i place n a →
+        TakesMachine bytes i place after m → HasTakenMachines bytes i after (n + 1) (a ++ m ∷ [])
+    taken_more place after n a m before takes =
+        let there : n < length (tokens bytes) =
+        slice_get_within (tokens bytes) n takes.token (rw before.given at takes.found) in
         record {
-          sound = end.0;
-          one_each = omega (arith, past, many bytes i (process_count i) all);
-          exist = λ k d within.
-              let named = process_names bytes i k
-              (first_none_at k (process_count i) (process_test bytes i) (omega (arith, past, within)) all) in
-              subst (λ (t : Token). t.value < machine_count i)
-              (sym (get_or_from_slice_get (tokens bytes) k named.0 d named.1)) named.2;
+          given = takes.next ∙ ap (λ (k : ℕ). k + 1) before.given;
+          sound = first_more_none n (process_test bytes i) before.sound (rw before.given at takes.tested);
+          machines = rw (
+            before.machines,
+            takes.machine,
+            take_more (tokens bytes) n takes.token there,
+            get_or_from_slice_get (tokens bytes) n takes.token takes.token (rw before.given at takes.found),
+          )
+              (sym (map-append machine_of (take n (tokens bytes)) (takes.token ∷ [])));
         }
 
-    back : IsAssignmentFile bytes i → or_else (first (process_count i) (process_test bytes i))
-        (end_test bytes (process_count i)) ≡ None
-    back file =
-        let none : Token = record { value = 0; at = 0 } in
-        both_none _ _
-        (first_none_from (process_count i) (process_test bytes i) (λ p below.
-        let within : p < length (tokens bytes) = omega (arith, file.one_each, below) in
-        process_inside bytes i p (get_or (tokens bytes) p none) (slice_get-get_or (tokens bytes) p none within)
-        (file.exist p none within)))
-        (end_sound bytes (process_count i) (sym file.one_each, file.sound))
+    process_names : (p : ℕ) → process_test bytes i p ≡ None → (t : Token)
+        × (slice_get (tokens bytes) p ≡ Some t) × (t.value < machine_count i)
+    unfolding process_test
+    process_names p none = machine_names i (first_fault bytes) p (slice_get (tokens bytes) p) none
 
--- all machines were taken, and nothing is left
-pub taken_all : (bytes : List ℕ) (i : Tables) (place : ℕ) (a : List Machine) →
-    HasTakenMachines bytes i place (process_count i) a → HasEnded bytes place → IsAssignmentOf bytes i a
-unfolding assign_refusal
-taken_all bytes i place a taken ended =
-    record {
-      file = (assign_accepts bytes i).0 (both_none _ _ taken.sound (rw taken.given at ended.sound));
-      machines = taken.machines
-          ∙ ap (map machine_of)
-          (take_all (process_count i) (tokens bytes)
-          (let e : process_count i ≡ length (tokens bytes) = rw taken.given at ended.all in omega arith));
-    }
+    -- if no process lacks its machine, there are as many tokens
+    many : (n : ℕ) → first n (process_test bytes i) ≡ None → n ≤ length (tokens bytes)
+    many zero sound = omega arith
+    many (suc n) sound =
+        let named = process_names n (first_none_at n (suc n) (process_test bytes i) (omega arith) sound) in
+        let there : n < length (tokens bytes) = slice_get_within (tokens bytes) n named.0 named.1 in
+        omega arith
 
--- what is wrong with the machine of process n is the refusal
-pub refused_at : (bytes : List ℕ) (i : Tables) (place n : ℕ) (a : List Machine) (fault : AssignFault) →
-    n < process_count i → HasTakenMachines bytes i place n a →
-    AssignSays (process_test bytes i (tokens_before bytes place)) fault → AssignSays (assign_refusal bytes i) fault
-refused_at bytes i place n a fault within taken says = says_same (process_test bytes i (tokens_before bytes place))
-    (assign_refusal bytes i) fault (λ (e : process_test bytes i (tokens_before bytes place) ≡ Some fault).
-    refusal_at bytes i n fault within taken.sound (rw taken.given at e)) says
+    -- nothing is refused exactly if the bytes are an assignment file
+    pub assign_accepts : (assign_refusal bytes i ≡ None) ↔ IsAssignmentFile bytes i
+    unfolding assign_refusal
+    assign_accepts = (there, back)
+      where
+        there : or_else (first (process_count i) (process_test bytes i)) (end_test bytes (process_count i)) ≡ None →
+            IsAssignmentFile bytes i
+        there none =
+            let all = left_none _ _ none in
+            let end = end_none (process_count i)
+            (right_none (first (process_count i) (process_test bytes i)) _ none) in
+            let past = past_none (tokens bytes) (process_count i) end.1 in
+            record {
+              sound = end.0;
+              one_each = omega (arith, past, many (process_count i) all);
+              exist = λ k d within.
+                  let named = process_names k
+                  (first_none_at k (process_count i) (process_test bytes i) (omega (arith, past, within)) all) in
+                  subst (λ (t : Token). t.value < machine_count i)
+                  (sym (get_or_from_slice_get (tokens bytes) k named.0 d named.1)) named.2;
+            }
 
--- what is wrong after the last process is the refusal
-pub refused_behind : (bytes : List ℕ) (i : Tables) (place : ℕ) (a : List Machine) (fault : AssignFault) →
-    HasTakenMachines bytes i place (process_count i) a → AssignSays (end_test bytes (tokens_before bytes place)) fault →
-    AssignSays (assign_refusal bytes i) fault
-unfolding assign_refusal
-refused_behind bytes i place a fault taken says = says_same (end_test bytes (tokens_before bytes place))
-    (assign_refusal bytes i) fault (λ (e : end_test bytes (tokens_before bytes place) ≡ Some fault).
-    rw taken.sound (or_else_none _ ∙ (rw taken.given at e))) says
+        back : IsAssignmentFile bytes i → or_else (first (process_count i) (process_test bytes i))
+            (end_test bytes (process_count i)) ≡ None
+        back file =
+            let none : Token = record { value = 0; at = 0 } in
+            both_none _ _
+            (first_none_from (process_count i) (process_test bytes i) (λ p below.
+            let within : p < length (tokens bytes) = omega (arith, file.one_each, below) in
+            process_inside i p (get_or (tokens bytes) p none) (slice_get-get_or (tokens bytes) p none within)
+            (file.exist p none within)))
+            (end_sound (process_count i) (sym file.one_each, file.sound))
+
+  module _ (i : Tables) (place n : ℕ) (a : List Machine) where
+    -- what is wrong with the machine of process n is the refusal
+    pub refused_now : (fault : AssignFault) → n < process_count i → HasTakenMachines bytes i place n a →
+        (tokens_before bytes place ≡ n → AssignSays (process_test bytes i n) fault) →
+        AssignSays (assign_refusal bytes i) fault
+    refused_now fault within taken stop =
+        says_same (process_test bytes i n) (assign_refusal bytes i) fault (refusal_at i n fault within taken.sound)
+        (stop taken.given)
+
+    -- what is wrong after the last process is the refusal
+    pub refused_then : (fault : AssignFault) → n ≡ process_count i → HasTakenMachines bytes i place n a →
+        AssignSays (end_test bytes (tokens_before bytes place)) fault → AssignSays (assign_refusal bytes i) fault
+    unfolding assign_refusal
+    refused_then fault last taken says =
+        let all = rw last at taken in
+        says_same (end_test bytes (tokens_before bytes place)) (assign_refusal bytes i) fault
+        (λ (e : end_test bytes (tokens_before bytes place) ≡ Some fault).
+        rw all.sound (or_else_none _ ∙ (rw all.given at e))) says
+
+    -- all machines were taken, and nothing is left
+    pub all_taken : n ≡ process_count i → HasTakenMachines bytes i place n a → HasEnded bytes place →
+        IsAssignmentOf bytes i a
+    unfolding assign_refusal
+    all_taken last taken ended =
+        let all = rw last at taken in
+        record {
+          file = (assign_accepts i).0 (both_none _ _ all.sound (rw all.given at ended.sound));
+          machines = all.machines
+              ∙ ap (map machine_of)
+              (take_all (process_count i) (tokens bytes)
+              (let e : process_count i ≡ length (tokens bytes) = rw all.given at ended.all in omega arith));
+        }

@@ -44,57 +44,29 @@ says_fault : (found : Option ClosedFault) (fault : TokenFault) → (fault ≡ to
 unfolding closed_fault
 says_fault found told.ReadFault h = tt
 says_fault found (told.BadByte at byte) h =
-    ⊎_elim (λ (e : told.BadByte at byte ≡ told.ReadFault). cc) (λ (e : found ≡ Some (BadByte at byte)). e) h
+    elim h [
+      | inl e ↦ cc
+      | inr e ↦ e
+    ]
 says_fault found (told.TooLarge at) h =
-    ⊎_elim (λ (e : told.TooLarge at ≡ told.ReadFault). cc) (λ (e : found ≡ Some (TooLarge at)). e) h
-says_fault found told.TooLong h = ⊎_elim (λ (e : told.TooLong ≡ told.ReadFault). cc) (λ (e : found ≡ Some TooLong). e) h
+    elim h [
+      | inl e ↦ cc
+      | inr e ↦ e
+    ]
+says_fault found told.TooLong h = elim h [
+  | inl e ↦ cc
+  | inr e ↦ e
+]
 says_fault found told.NoMemory h = tt
-
--- a token that names a machine, and one that names none
-pub token_inside : (bytes : List ℕ) (i : Tables) (n : ℕ) (t : Token) → IsAnswer bytes n (Ok (Some t)) →
-    t.value < machine_count i → token_test bytes i n ≡ None
-unfolding token_test machine_test
-token_inside bytes i n t answer inside =
-    rw answer (cond-true (nat_lt t.value (machine_count i)) None (Some (NoMachine t.at t.value))
-    (lt-ltb t.value (machine_count i) inside))
-
-pub token_outside : (bytes : List ℕ) (i : Tables) (n : ℕ) (t : Token) → IsAnswer bytes n (Ok (Some t)) →
-    machine_count i ≤ t.value → token_test bytes i n ≡ Some (NoMachine t.at t.value)
-unfolding token_test machine_test
-token_outside bytes i n t answer outside =
-    rw answer (cond-false (nat_lt t.value (machine_count i)) None (Some (NoMachine t.at t.value))
-    (le-ltb t.value (machine_count i) outside))
-
--- what is wrong with token n is the refusal
-pub closed_refused_at : (bytes : List ℕ) (i : Tables) (place : ℕ) (flags : List Bool) (t : Token) →
-    HasFlagged bytes i place flags → slice_get (tokens bytes) (tokens_before bytes place) ≡ Some t →
-    token_test bytes i (tokens_before bytes place) ≡ Some (NoMachine t.at t.value) →
-    ClosedSays (closed_refusal bytes i) (NoMachine t.at t.value)
-unfolding closed_refusal
-closed_refused_at bytes i place flags t flagged found here =
-    rw (first_found (tokens_before bytes place) (length (tokens bytes)) (token_test bytes i) (NoMachine t.at t.value)
-    (slice_get_within (tokens bytes) (tokens_before bytes place) t found) flagged.sound here)
-    (or_else_some (NoMachine t.at t.value) (file_fault (first_fault bytes)))
-
--- the fault of the file is the refusal, if all tokens were taken
-pub closed_refused_end : (bytes : List ℕ) (i : Tables) (place : ℕ) (flags : List Bool) (fault : TokenFault) →
-    HasFlagged bytes i place flags → IsAnswer bytes (tokens_before bytes place) (Err fault) →
-    ClosedSays (closed_refusal bytes i) (closed_fault fault)
-unfolding closed_refusal file_fault
-closed_refused_end bytes i place flags fault flagged answer =
-    says_fault (closed_refusal bytes i) fault
-    (⊎_elim (λ (e : fault ≡ told.ReadFault). inl e)
-    (λ (h : GaveAll bytes (tokens_before bytes place) × (first_fault bytes ≡ Some fault)).
-    inr (rw (sym h.0, flagged.sound, h.1) (or_else_none (Some (closed_fault fault))))) answer)
 
 -- the tokens of a file are no more than its bytes
 pub few_tokens : (bytes : List ℕ) (place : ℕ) → IsBetween bytes place → tokens_before bytes place ≤ PLACE_LIMIT
 unfolding tokens_before fault_at
-few_tokens bytes place between = ⊎_elim
-    (λ (past : PLACE_LIMIT < place). let none = first_none_at PLACE_LIMIT place (fault_at bytes) past between.sound in
-    absurd (let e : Some told.TooLong ≡ None = none in cc))
-    (λ (within : place ≤ PLACE_LIMIT). omega (arith, count_le place (ends_at bytes)))
-    (cases_lt PLACE_LIMIT place)
+few_tokens bytes place between = elim (cases_lt PLACE_LIMIT place) [
+  | inl past ↦ let none = first_none_at PLACE_LIMIT place (fault_at bytes) past between.sound in
+      absurd (let e : Some told.TooLong ≡ None = none in cc)
+  | inr within ↦ omega (arith, count_le place (ends_at bytes))
+]
 
 or_yes : (x y : Bool) → y ≡ true → (x || (y || false)) ≡ true
 or_yes true y e = refl
@@ -111,62 +83,33 @@ names_more : (ts : List Token) (t : Token) (k : ℕ) →
     names_machine (ts ++ t ∷ []) k ≡ (names_machine ts k || (eqb t.value k || false))
 names_more ts t k = list_any-append (λ (x : Token). eqb x.value k) ts (t ∷ [])
 
-take_next : (bytes : List ℕ) (n : ℕ) (t : Token) → slice_get (tokens bytes) n ≡ Some t →
-    take (n + 1) (tokens bytes) ≡ take n (tokens bytes) ++ t ∷ []
-take_next bytes n t found = take_more (tokens bytes) n t (slice_get_within (tokens bytes) n t found)
-    ∙ ap (λ (x : Token). take n (tokens bytes) ++ x ∷ []) (get_or_from_slice_get (tokens bytes) n t t found)
+module _ (bytes : List ℕ) (n : ℕ) where
+  take_next : (t : Token) → slice_get (tokens bytes) n ≡ Some t →
+      take (n + 1) (tokens bytes) ≡ take n (tokens bytes) ++ t ∷ []
+  take_next t found = take_more (tokens bytes) n t (slice_get_within (tokens bytes) n t found)
+      ∙ ap (λ (x : Token). take n (tokens bytes) ++ x ∷ []) (get_or_from_slice_get (tokens bytes) n t t found)
 
-flag_more : (bytes : List ℕ) (n : ℕ) (flags : List Bool) (t : Token) (k : ℕ) → slice_get (tokens bytes) n ≡ Some t →
-    t.value < length flags → get_or flags k false ≡ names_machine (take n (tokens bytes)) k →
-    get_or (set flags t.value true) k false ≡ names_machine (take (n + 1) (tokens bytes)) k
-flag_more bytes n flags t k found within before =
-    rw (take_next bytes n t found, names_more (take n (tokens bytes)) t k) (⊎_elim
-    (λ (e : k ≡ t.value).
-    (ap (λ (j : ℕ). get_or (set flags t.value true) j false) e
-    ∙ get_or-set_same flags t.value true false within) ∙ sym (or_yes _ _ (eq-eqb t.value k (sym e))))
-    (λ (d : k ≢ t.value). (get_or-set_other flags t.value k true false d ∙ before)
-    ∙ sym (or_no _ _ (ne_eqb t.value k (λ (e : t.value ≡ k). d (sym e)))))
-    (cases_eq k t.value))
-
--- one more machine is flagged
-pub flagged_more : (bytes : List ℕ) (i : Tables) (place after : ℕ) (flags : List Bool) (m : Machine) →
-    HasFlagged bytes i place flags → TakesClosed bytes i place after m → m.0 < length flags →
-    HasFlagged bytes i after (set flags m.0 true)
-flagged_more bytes i place after flags m before takes within =
-    let same : m.0 ≡ takes.token.value = ap (λ (x : Machine). x.0) takes.machine in
-    record {
-      sound =
-          rw takes.next (first_more_none (tokens_before bytes place) (token_test bytes i) before.sound takes.tested);
-      named = λ k inside.
-          rw (takes.next, same)
-          (flag_more bytes (tokens_before bytes place) flags takes.token k takes.found (rw same at within)
-          (before.named k inside));
-    }
-
--- at the start no machine is flagged
-pub flagged_none : (bytes : List ℕ) (i : Tables) (place : ℕ) → tokens_before bytes place ≡ 0 →
-    HasFlagged bytes i place (replicate (machine_count i) false)
-unfolding first
-flagged_none bytes i place start = record {
-  sound = rw start refl;
-  named = λ k inside. rw start (get_or-replicate (machine_count i) k false false inside);
-}
+  flag_more : (flags : List Bool) (t : Token) (k : ℕ) → slice_get (tokens bytes) n ≡ Some t → t.value < length flags →
+      get_or flags k false ≡ names_machine (take n (tokens bytes)) k →
+      get_or (set flags t.value true) k false ≡ names_machine (take (n + 1) (tokens bytes)) k
+  flag_more flags t k found within before =
+      rw (take_next t found, names_more (take n (tokens bytes)) t k) (⊎_elim
+      (λ (e : k ≡ t.value).
+      (ap (λ (j : ℕ). get_or (set flags t.value true) j false) e
+      ∙ get_or-set_same flags t.value true false within) ∙ sym (or_yes _ _ (eq-eqb t.value k (sym e))))
+      (λ (d : k ≢ t.value). (get_or-set_other flags t.value k true false d ∙ before)
+      ∙ sym (or_no _ _ (ne_eqb t.value k (λ (e : t.value ≡ k). d (sym e)))))
+      (cases_eq k t.value))
 
 -- a token that was tested names a machine
 test_names : (i : Tables) (found : Option Token) (t : Token) → found ≡ Some t → machine_test i found ≡ None →
     t.value < machine_count i
 unfolding machine_test
-test_names i found t is none = ⊎_elim
-    (λ (inside : t.value < machine_count i). inside)
-    (λ (outside : machine_count i ≤ t.value).
-    absurd (let e = cond-false (nat_lt t.value (machine_count i)) None (Some (NoMachine t.at t.value))
-    (le-ltb t.value (machine_count i) outside) in let n = rw is at none in cc))
-    (cases_lt t.value (machine_count i))
-
-token_names : (bytes : List ℕ) (i : Tables) (k : ℕ) (t : Token) → slice_get (tokens bytes) k ≡ Some t →
-    token_test bytes i k ≡ None → t.value < machine_count i
-unfolding token_test
-token_names bytes i k t found none = test_names i (slice_get (tokens bytes) k) t found none
+test_names i found t is none = elim (cases_lt t.value (machine_count i)) [
+  | inl inside ↦ inside
+  | inr outside ↦ absurd (let e = cond-false (nat_lt t.value (machine_count i)) None (Some (NoMachine t.at t.value))
+      (le-ltb t.value (machine_count i) outside) in let n = rw is at none in cc)
+]
 
 no_fault : (fault : Option TokenFault) → file_fault fault ≡ None → fault ≡ None
 unfolding file_fault
@@ -177,39 +120,106 @@ no_fault_none : (fault : Option TokenFault) → fault ≡ None → file_fault fa
 unfolding file_fault
 no_fault_none fault none = rw none refl
 
--- nothing is refused exactly if the bytes are a closed list
-pub closed_accepts : (bytes : List ℕ) (i : Tables) → (closed_refusal bytes i ≡ None) ↔ IsClosedFile bytes i
-unfolding closed_refusal
-closed_accepts bytes i = (there, back)
-  where
-    there : or_else (first (length (tokens bytes)) (token_test bytes i)) (file_fault (first_fault bytes)) ≡ None →
-        IsClosedFile bytes i
-    there none = record {
-      sound = no_fault (first_fault bytes) (right_none (first (length (tokens bytes)) (token_test bytes i)) _ none);
-      exist = λ k d within. token_names bytes i k (get_or (tokens bytes) k d)
-          (slice_get-get_or (tokens bytes) k d within)
-          (first_none_at k (length (tokens bytes)) (token_test bytes i) within (left_none _ _ none));
+module _ (bytes : List ℕ) (i : Tables) where
+  module _ (n : ℕ) (t : Token) (answer : IsAnswer bytes n (Ok (Some t))) where
+    -- a token that names a machine, and one that names none
+    pub token_inside : t.value < machine_count i → token_test bytes i n ≡ None
+    unfolding token_test machine_test
+    token_inside inside =
+        rw answer (cond-true (nat_lt t.value (machine_count i)) None (Some (NoMachine t.at t.value))
+        (lt-ltb t.value (machine_count i) inside))
+
+    pub token_outside : machine_count i ≤ t.value → token_test bytes i n ≡ Some (NoMachine t.at t.value)
+    unfolding token_test machine_test
+    token_outside outside =
+        rw answer (cond-false (nat_lt t.value (machine_count i)) None (Some (NoMachine t.at t.value))
+        (le-ltb t.value (machine_count i) outside))
+
+  module _ (place : ℕ) where
+    -- what is wrong with token n is the refusal
+    pub closed_refused_at : (flags : List Bool) (t : Token) → HasFlagged bytes i place flags →
+        slice_get (tokens bytes) (tokens_before bytes place) ≡ Some t →
+        token_test bytes i (tokens_before bytes place) ≡ Some (NoMachine t.at t.value) →
+        ClosedSays (closed_refusal bytes i) (NoMachine t.at t.value)
+    unfolding closed_refusal
+    closed_refused_at flags t flagged found here =
+        rw (first_found (tokens_before bytes place) (length (tokens bytes)) (token_test bytes i)
+        (NoMachine t.at t.value)
+        (slice_get_within (tokens bytes) (tokens_before bytes place) t found) flagged.sound here)
+        (or_else_some (NoMachine t.at t.value) (file_fault (first_fault bytes)))
+
+    -- the fault of the file is the refusal, if all tokens were taken
+    pub closed_refused_end : (flags : List Bool) (fault : TokenFault) → HasFlagged bytes i place flags →
+        IsAnswer bytes (tokens_before bytes place) (Err fault) →
+        ClosedSays (closed_refusal bytes i) (closed_fault fault)
+    unfolding closed_refusal file_fault
+    closed_refused_end flags fault flagged answer =
+        says_fault (closed_refusal bytes i) fault
+        (⊎_elim (λ (e : fault ≡ told.ReadFault). inl e)
+        (λ (h : GaveAll bytes (tokens_before bytes place) × (first_fault bytes ≡ Some fault)).
+        inr (rw (sym h.0, flagged.sound, h.1) (or_else_none (Some (closed_fault fault))))) answer)
+
+    -- one more machine is flagged
+    pub flagged_more : (after : ℕ) (flags : List Bool) (m : Machine) → HasFlagged bytes i place flags →
+        TakesClosed bytes i place after m → m.0 < length flags → HasFlagged bytes i after (set flags m.0 true)
+    flagged_more after flags m before takes within =
+        let same : m.0 ≡ takes.token.value = ap (λ (x : Machine). x.0) takes.machine in
+        record {
+          sound =
+              rw takes.next
+              (first_more_none (tokens_before bytes place) (token_test bytes i) before.sound takes.tested);
+          named = λ k inside.
+              rw (takes.next, same)
+              (flag_more bytes (tokens_before bytes place) flags takes.token k takes.found (rw same at within)
+              (before.named k inside));
+        }
+
+    -- at the start no machine is flagged
+    pub flagged_none : tokens_before bytes place ≡ 0 → HasFlagged bytes i place (replicate (machine_count i) false)
+    unfolding first
+    flagged_none start = record {
+      sound = rw start refl;
+      named = λ k inside. rw start (get_or-replicate (machine_count i) k false false inside);
     }
 
-    back : IsClosedFile bytes i → or_else (first (length (tokens bytes)) (token_test bytes i))
-        (file_fault (first_fault bytes)) ≡ None
-    back file =
-        let none : Token = record { value = 0; at = 0 } in
-        both_none _ _
-        (first_none_from (length (tokens bytes)) (token_test bytes i)
-        (λ k within. token_inside bytes i k (get_or (tokens bytes) k none)
-        (slice_get-get_or (tokens bytes) k none within) (file.exist k none within)))
-        (no_fault_none (first_fault bytes) file.sound)
+  token_names : (k : ℕ) (t : Token) → slice_get (tokens bytes) k ≡ Some t → token_test bytes i k ≡ None →
+      t.value < machine_count i
+  unfolding token_test
+  token_names k t found none = test_names i (slice_get (tokens bytes) k) t found none
 
--- all tokens were taken and the file has no fault
-pub flagged_all : (bytes : List ℕ) (i : Tables) (place : ℕ) (flags : List Bool) → HasFlagged bytes i place flags →
-    length flags ≡ machine_count i → IsAnswer bytes (tokens_before bytes place) (Ok None) → IsClosedOf bytes i flags
-unfolding closed_refusal file_fault
-flagged_all bytes i place flags flagged one_each answer = record {
-  file = (closed_accepts bytes i).0 (rw (sym answer.0, flagged.sound, answer.1) (or_else_none None));
-  one_each = one_each;
-  named = λ k inside. flagged.named k inside
-      ∙ ap (λ (ts : List Token). names_machine ts k)
-      (take_all (tokens_before bytes place) (tokens bytes)
-      (let e : tokens_before bytes place ≡ length (tokens bytes) = answer.0 in omega arith));
-}
+  -- nothing is refused exactly if the bytes are a closed list
+  pub closed_accepts : (closed_refusal bytes i ≡ None) ↔ IsClosedFile bytes i
+  unfolding closed_refusal
+  closed_accepts = (there, back)
+    where
+      there : or_else (first (length (tokens bytes)) (token_test bytes i)) (file_fault (first_fault bytes)) ≡ None →
+          IsClosedFile bytes i
+      there none = record {
+        sound = no_fault (first_fault bytes) (right_none (first (length (tokens bytes)) (token_test bytes i)) _ none);
+        exist = λ k d within. token_names k (get_or (tokens bytes) k d)
+            (slice_get-get_or (tokens bytes) k d within)
+            (first_none_at k (length (tokens bytes)) (token_test bytes i) within (left_none _ _ none));
+      }
+
+      back : IsClosedFile bytes i → or_else (first (length (tokens bytes)) (token_test bytes i))
+          (file_fault (first_fault bytes)) ≡ None
+      back file =
+          let none : Token = record { value = 0; at = 0 } in
+          both_none _ _
+          (first_none_from (length (tokens bytes)) (token_test bytes i)
+          (λ k within. token_inside k (get_or (tokens bytes) k none)
+          (slice_get-get_or (tokens bytes) k none within) (file.exist k none within)))
+          (no_fault_none (first_fault bytes) file.sound)
+
+  -- all tokens were taken and the file has no fault
+  pub flagged_all : (place : ℕ) (flags : List Bool) → HasFlagged bytes i place flags → length flags ≡ machine_count i →
+      IsAnswer bytes (tokens_before bytes place) (Ok None) → IsClosedOf bytes i flags
+  unfolding closed_refusal file_fault
+  flagged_all place flags flagged one_each answer = record {
+    file = (closed_accepts).0 (rw (sym answer.0, flagged.sound, answer.1) (or_else_none None));
+    one_each = one_each;
+    named = λ k inside. flagged.named k inside
+        ∙ ap (λ (ts : List Token). names_machine ts k)
+        (take_all (tokens_before bytes place) (tokens bytes)
+        (let e : tokens_before bytes place ≡ length (tokens bytes) = answer.0 in omega arith));
+  }

@@ -25,20 +25,22 @@ unfolding text_from assignment_bytes more_machines_text
 all_written zero text a e = e
 all_written (suc p) text a e = e
 
--- one more machine
-pub more_written : (p : ℕ) (text after : List ℕ) (a : List Machine) (m d : Machine) → p < length a →
-    text ++ text_from p (drop p a) ≡ assignment_bytes a → m ≡ get_or a p d → after ≡ text ++ assigned_text p m →
-    after ++ text_from (p + 1) (drop (p + 1) a) ≡ assignment_bytes a
-more_written p text after a m d within before read e =
-    rw (add-one, e, read) (append_assoc text (assigned_text p (get_or a p d)) (text_from (suc p) (drop (suc p) a))
-    ∙ (ap (λ (r : List ℕ). text ++ r) (sym (text_step p (get_or a p d) (drop (suc p) a)))
-    ∙ (ap (λ (r : List Machine). text ++ text_from p r) (sym (drop-cons a p d within)) ∙ before)))
+module _ (p : ℕ) (text : List ℕ) where
+  module _ (after : List ℕ) (a : List Machine) where
+    -- one more machine
+    pub more_written : (m d : Machine) → p < length a → text ++ text_from p (drop p a) ≡ assignment_bytes a →
+        m ≡ get_or a p d → after ≡ text ++ assigned_text p m →
+        after ++ text_from (p + 1) (drop (p + 1) a) ≡ assignment_bytes a
+    more_written m d within before read e =
+        rw (add-one, e, read) (append_assoc text (assigned_text p (get_or a p d)) (text_from (suc p) (drop (suc p) a))
+        ∙ (ap (λ (r : List ℕ). text ++ r) (sym (text_step p (get_or a p d) (drop (suc p) a)))
+        ∙ (ap (λ (r : List Machine). text ++ text_from p r) (sym (drop-cons a p d within)) ∙ before)))
 
--- the end of the loop
-pub written : (p : ℕ) (text after : List ℕ) (a : List Machine) → length a ≤ p →
-    text ++ text_from p (drop p a) ≡ assignment_bytes a → after ≡ text ++ 10 ∷ [] → after ≡ assignment_bytes a
-written p text after a past before e =
-    e ∙ all_written p text a (ap (λ (r : List Machine). text ++ text_from p r) (sym (drop_all p a past)) ∙ before)
+    -- the end of the loop
+    pub written : length a ≤ p → text ++ text_from p (drop p a) ≡ assignment_bytes a → after ≡ text ++ 10 ∷ [] →
+        after ≡ assignment_bytes a
+    written past before e =
+        e ∙ all_written p text a (ap (λ (r : List Machine). text ++ text_from p r) (sym (drop_all p a past)) ∙ before)
 
 -- a machine after others, and the first
 pub pushed_later : (p : ℕ) (m : Machine) (before between after : List ℕ) → 0 < p → between ≡ before ++ 32 ∷ [] →

@@ -18,17 +18,24 @@ use Rattle.ra_model_read.proofs.Limited.{limited_fits}
 abbrev pub before : List Token → Left → Left
 before ts after = record { tokens = ts ++ after.tokens; fault = after.fault }
 
--- tokens of these values are taken, and mean x
+abbrev pub nothing : Left
+nothing = record { tokens = []; fault = None }
+
+-- tokens of these values are taken, up to what is left after them, and mean x
+pub record AcceptsTo {X : Type 0} (after : Left) (f : Format X) (text : List ℕ) (x : X) : Type 0 where
+  pub takes : (ts : List Token) → map value_of ts ≡ text → f (before ts after) ≡ Read x after
+
+-- whatever is left after them
 pub record Accepts {X : Type 0} (f : Format X) (text : List ℕ) (x : X) : Type 0 where
-  pub takes : (ts : List Token) (after : Left) → map value_of ts ≡ text → f (before ts after) ≡ Read x after
+  pub to : (after : Left) → AcceptsTo after f text x
 
 pub accepts_pure : {X : Type 0} (x : X) → Accepts (pure x) [] x
 unfolding pure
-accepts_pure x = record { takes = none }
+accepts_pure x = record { to = λ after. record { takes = none after } }
   where
-    none : (ts : List Token) (after : Left) → map value_of ts ≡ [] → Read x (before ts after) ≡ Read x after
-    none [] after e = refl
-    none (t ∷ ts) after e = cc
+    none : (after : Left) (ts : List Token) → map value_of ts ≡ [] → Read x (before ts after) ≡ Read x after
+    none after [] e = refl
+    none after (t ∷ ts) e = cc
 
 front_of : (ts : List Token) (u v : List ℕ) → map value_of ts ≡ u ++ v → map value_of (take (length u) ts) ≡ u
 front_of ts u v e = sym (take-map value_of (length u) ts) ∙ ap (take (length u)) e ∙ take-append_seam u v
@@ -46,38 +53,45 @@ split_before : (n : ℕ) (ts : List Token) (after : Left) →
 split_before n ts after = ap (λ all. record { tokens = all; fault = after.fault })
     (ap (λ all. all ++ after.tokens) (sym (take-append-drop n ts)) ∙ append_assoc (take n ts) (drop n ts) after.tokens)
 
-pub accepts_bind : {X Y : Type 0} {f : Format X} (next : X → Format Y) {u v : List ℕ} {x : X} {y : Y} → Accepts f u x →
-    Accepts (next x) v y → Accepts (f >>= next) (u ++ v) y
-accepts_bind {X} {Y} {f} next {u} {v} {x} {y} one two = record {
-  takes = λ ts after e.
+pub bind_to : {X Y : Type 0} {f : Format X} (next : X → Format Y) {u v : List ℕ} {x : X} {y : Y} {after : Left} →
+    Accepts f u x → AcceptsTo after (next x) v y → AcceptsTo after (f >>= next) (u ++ v) y
+bind_to {X} {Y} {f} next {u} {v} {x} {y} {after} one two = record {
+  takes = λ ts e.
       ap (f >>= next) (split_before (length u) ts after)
       ∙ bind_read f next (before (take (length u) ts) (before (drop (length u) ts) after))
       (before (drop (length u) ts) after) x
-      (one.takes (take (length u) ts) (before (drop (length u) ts) after) (front_of ts u v e))
-      ∙ two.takes (drop (length u) ts) after (back_of ts u v e);
+      ((one.to (before (drop (length u) ts) after)).takes (take (length u) ts) (front_of ts u v e))
+      ∙ two.takes (drop (length u) ts) (back_of ts u v e);
+}
+
+pub accepts_bind : {X Y : Type 0} {f : Format X} (next : X → Format Y) {u v : List ℕ} {x : X} {y : Y} → Accepts f u x →
+    Accepts (next x) v y → Accepts (f >>= next) (u ++ v) y
+accepts_bind next one two = record { to = λ after. bind_to next one (two.to after) }
+
+pub then_to : {X Y : Type 0} {f : Format X} (next : X → Format Y) {u : List ℕ} {x : X} {y : Y} {after : Left} →
+    AcceptsTo after f u x → next x ≡ pure y → AcceptsTo after (f >>= next) u y
+unfolding pure
+then_to {X} {Y} {f} next {u} {x} {y} {after} one made = record {
+  takes = λ ts e. bind_read f next (before ts after) after x (one.takes ts e) ∙ ap (λ g. g after) made;
 }
 
 pub accepts_then : {X Y : Type 0} {f : Format X} (next : X → Format Y) {u : List ℕ} {x : X} {y : Y} → Accepts f u x →
     next x ≡ pure y → Accepts (f >>= next) u y
-unfolding pure
-accepts_then {X} {Y} {f} next {u} {x} {y} one made = record {
-  takes = λ ts after e.
-      bind_read f next (before ts after) after x (one.takes ts after e) ∙ ap (λ g. g after) made;
-}
+accepts_then next one made = record { to = λ after. then_to next (one.to after) made }
 
 -- one token
 
 accepts_token : {X : Type 0} (what : Field) (item v : ℕ) (next : Token → Format X) (x : X) →
     ((t : Token) → t.value ≡ v → next t ≡ pure x) → Accepts (next_token what item >>= next) (v ∷ []) x
 unfolding next_token take_token pure
-accepts_token {X} what item v next x made = record { takes = one }
+accepts_token {X} what item v next x made = record { to = λ after. record { takes = one after } }
   where
-    one : (ts : List Token) (after : Left) → map value_of ts ≡ v ∷ [] →
+    one : (after : Left) (ts : List Token) → map value_of ts ≡ v ∷ [] →
         (next_token what item >>= next) (before ts after) ≡ Read x after
-    one [] after e = cc
-    one (t ∷ []) after e = let same : t.value ≡ v = cc in
+    one after [] e = cc
+    one after (t ∷ []) e = let same : t.value ≡ v = cc in
         bind_read (next_token what item) next (before (t ∷ []) after) after t refl ∙ ap (λ g. g after) (made t same)
-    one (t ∷ (s ∷ ts)) after e = cc
+    one after (t ∷ (s ∷ ts)) e = cc
 
 pub accepts_any : (what : Field) (item v : ℕ) → Accepts (any what item) (v ∷ []) v
 unfolding any
@@ -108,38 +122,13 @@ accepts_along step made text zero each = accepts_pure (made 0)
 accepts_along step made text (suc n) each =
     accepts_bind (step n) (accepts_along step made text n (λ k within. each k (omega arith))) (each n (omega arith))
 
--- the whole file
+-- the end of the file
 
-pub record AcceptsAll {X : Type 0} (f : Format X) (text : List ℕ) (x : X) : Type 0 where
-  pub takes : (ts : List Token) → map value_of ts ≡ text → f (record { tokens = ts; fault = None }) ≡
-      Read x (record { tokens = []; fault = None })
-
-pub all_bind : {X Y : Type 0} {f : Format X} (next : X → Format Y) {u v : List ℕ} {x : X} {y : Y} → Accepts f u x →
-    AcceptsAll (next x) v y → AcceptsAll (f >>= next) (u ++ v) y
-all_bind {X} {Y} {f} next {u} {v} {x} {y} one two = record {
-  takes = λ ts e.
-      ap (λ all. (f >>= next) (record { tokens = all; fault = None })) (sym (take-append-drop (length u) ts))
-      ∙ bind_read f next (before (take (length u) ts) (record { tokens = drop (length u) ts; fault = None }))
-      (record { tokens = drop (length u) ts; fault = None }) x
-      (one.takes (take (length u) ts) (record { tokens = drop (length u) ts; fault = None }) (front_of ts u v e))
-      ∙ two.takes (drop (length u) ts) (back_of ts u v e);
-}
-
-pub all_ends : {Y : Type 0} (next : Unit {0} → Format Y) (y : Y) → next tt ≡ pure y → AcceptsAll (ends >>= next) [] y
+pub ends_to : {Y : Type 0} (next : Unit {0} → Format Y) (y : Y) → next tt ≡ pure y →
+    AcceptsTo nothing (ends >>= next) [] y
 unfolding ends take_end pure
-all_ends {Y} next y made = record { takes = none }
+ends_to {Y} next y made = record { takes = none }
   where
-    none : (ts : List Token) → map value_of ts ≡ [] → (ends >>= next) (record { tokens = ts; fault = None }) ≡
-        Read y (record { tokens = []; fault = None })
-    none [] e = bind_read ends next (record { tokens = []; fault = None }) (record { tokens = []; fault = None }) tt
-        refl ∙ ap (λ g. g (record { tokens = []; fault = None })) made
+    none : (ts : List Token) → map value_of ts ≡ [] → (ends >>= next) (before ts nothing) ≡ Read y nothing
+    none [] e = bind_read ends next nothing nothing tt refl ∙ ap (λ g. g nothing) made
     none (t ∷ ts) e = cc
-
-pub all_then : {X Y : Type 0} {f : Format X} (next : X → Format Y) {u : List ℕ} {x : X} {y : Y} → AcceptsAll f u x →
-    next x ≡ pure y → AcceptsAll (f >>= next) u y
-unfolding pure
-all_then {X} {Y} {f} next {u} {x} {y} one made = record {
-  takes = λ ts e.
-      bind_read f next (record { tokens = ts; fault = None }) (record { tokens = []; fault = None }) x (one.takes ts e)
-      ∙ ap (λ g. g (record { tokens = []; fault = None })) made;
-}

@@ -8,9 +8,7 @@ pub mod WholeTables
 pub mod Acceptance
 pub mod TextAccepted
 pub mod Inversion
-pub mod Parts
+pub mod ModelSteps
 pub mod TextTaken
-pub mod TextTakenParts
-pub mod ReadLimits
 pub mod ModelLimits
 pub mod Meaning

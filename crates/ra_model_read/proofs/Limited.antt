@@ -9,20 +9,21 @@ use Rattle.ra_token.specs.Moments.{Here, Stands}
 use Rattle.ra_model_read.specs.Reading.{FormatRefuses}
 use Rattle.ra_model_read.proofs.Steps.{refuses_here}
 
-pub limited_fits : (what : Field) (least most : ℕ) (t : Token) → least ≤ t.value → t.value ≤ most →
-    limited what least most t ≡ pure t.value
-unfolding limited
-limited_fits what least most t low high = grind arith
+module _ (what : Field) (least : ℕ) where
+  module _ (most : ℕ) (t : Token) where
+    pub limited_fits : least ≤ t.value → t.value ≤ most → limited what least most t ≡ pure t.value
+    unfolding limited
+    limited_fits low high = grind arith
 
-pub limited_out : (what : Field) (least most : ℕ) (t : Token) → (t.value < least) ⊎ (most < t.value) →
-    limited what least most t ≡ refuse (Range what t.at t.value least most)
-unfolding limited
-limited_out what least most t out = grind arith
+    pub limited_out : (t.value < least) ⊎ (most < t.value) →
+        limited what least most t ≡ refuse (Range what t.at t.value least most)
+    unfolding limited
+    limited_out out = grind arith
 
-pub limited_refuses : (what : Field) (least most : ℕ) (t : Token) (a : Here) → Stands a → (t.value < least)
-    ⊎ (most < t.value) → FormatRefuses (limited what least most t) a a (Range what t.at t.value least most)
-limited_refuses what least most t a stands out =
-    refuses_here _ (Range what t.at t.value least most) stands (limited_out what least most t out) (λ e. cc)
+    pub limited_refuses : (a : Here) → Stands a → (t.value < least)
+        ⊎ (most < t.value) → FormatRefuses (limited what least most t) a a (Range what t.at t.value least most)
+    limited_refuses a stands out =
+        refuses_here _ (Range what t.at t.value least most) stands (limited_out out) (λ e. cc)
 
 flag_out : (value : ℕ) (fault : ModelFault) → value ≢ 0 → value ≢ 1 → flag_value value fault ≡ refuse fault
 unfolding flag_value

@@ -15,7 +15,7 @@ use Rattle.ra_model_read.specs.FieldOrder.{IsTextOf}
 use Rattle.ra_model_read.specs.Texts.{ModelIsItsNumbers}
 use Rattle.ra_model_read.proofs.ModelLimits.{model_well_formed}
 use Rattle.ra_model_read.proofs.TextAccepted.{text_accepted}
-use Rattle.ra_model_read.proofs.TextTakenParts.{text_taken}
+use Rattle.ra_model_read.proofs.TextTaken.{text_taken}
 use Rattle.ra_token.specs.Moments.{Here}
 use Rattle.ra_model_read.specs.Reading.{left_from, left_of, Gives, FormatRefuses, is_by_content}
 
@@ -23,15 +23,16 @@ all_left : (place : ℕ) (bytes : List ℕ) → tokens_before bytes place ≡ 0 
 unfolding left_from all_of
 all_left place bytes start = rw start refl
 
-meant_by : (bytes : List ℕ) (place : ℕ) (lists : Lists) (after : Left) → tokens_before bytes place ≡ 0 →
-    model (left_from place bytes) ≡ Read lists after → model_of bytes ≡ Ok lists
-unfolding model_of answer_of
-meant_by bytes place lists after start e = rw (← all_left place bytes start, e) refl
+module _ (bytes : List ℕ) (place : ℕ) where
+  meant_by : (lists : Lists) (after : Left) → tokens_before bytes place ≡ 0 →
+      model (left_from place bytes) ≡ Read lists after → model_of bytes ≡ Ok lists
+  unfolding model_of answer_of
+  meant_by lists after start e = rw (← all_left place bytes start, e) refl
 
-refused_by : (bytes : List ℕ) (place : ℕ) (fault : ModelFault) → tokens_before bytes place ≡ 0 →
-    model (left_from place bytes) ≡ Refused fault → model_refusal bytes ≡ Some fault
-unfolding model_refusal model_of answer_of
-refused_by bytes place fault start e = rw (← all_left place bytes start, e) refl
+  refused_by : (fault : ModelFault) → tokens_before bytes place ≡ 0 → model (left_from place bytes) ≡ Refused fault →
+      model_refusal bytes ≡ Some fault
+  unfolding model_refusal model_of answer_of
+  refused_by fault start e = rw (← all_left place bytes start, e) refl
 
 told_lists : (told : Option (List ℕ)) (place : ℕ) (lists : Lists) (after : Option Left) →
     ((bytes : List ℕ) → tokens_before bytes place ≡ 0) → option_map model (option_map (left_from place) told) ≡
@@ -49,20 +50,19 @@ told_refusal None place fault start e = tt
 told_refusal (Some bytes) place fault start e = let refused : model (left_from place bytes) ≡ Refused fault = cc in
     refused_by bytes place fault (start bytes) refused
 
-pub means : (a b : Here) (name : List ℕ) (lists : Lists) → a.tokens.name ≡ name →
-    ((bytes : List ℕ) → tokens_before bytes a.tokens.place ≡ 0) → Gives model a b lists →
-    IfSome (a.held name) (λ bytes. model_of bytes ≡ Ok lists)
-unfolding left_of
-means a b name lists e start gives =
-    rw (← e) (told_lists (a.held a.tokens.name) a.tokens.place lists (left_of b) start gives.value)
+module _ (a b : Here) (name : List ℕ) where
+  pub means : (lists : Lists) → a.tokens.name ≡ name → ((bytes : List ℕ) → tokens_before bytes a.tokens.place ≡ 0) →
+      Gives model a b lists → IfSome (a.held name) (λ bytes. model_of bytes ≡ Ok lists)
+  unfolding left_of
+  means lists e start gives =
+      rw (← e) (told_lists (a.held a.tokens.name) a.tokens.place lists (left_of b) start gives.value)
 
-pub refuses_as : (a b : Here) (name : List ℕ) (fault : ModelFault) → a.tokens.name ≡ name →
-    ((bytes : List ℕ) → tokens_before bytes a.tokens.place ≡ 0) → FormatRefuses model a b fault →
-    is_by_content fault ≡ true →
-    IfSome (a.held name) (λ bytes. model_refusal bytes ≡ Some fault)
-unfolding left_of
-refuses_as a b name fault e start refuses by_content =
-    rw (← e) (told_refusal (a.held a.tokens.name) a.tokens.place fault start (refuses.told by_content))
+  pub refuses_as : (fault : ModelFault) → a.tokens.name ≡ name →
+      ((bytes : List ℕ) → tokens_before bytes a.tokens.place ≡ 0) → FormatRefuses model a b fault →
+      is_by_content fault ≡ true → IfSome (a.held name) (λ bytes. model_refusal bytes ≡ Some fault)
+  unfolding left_of
+  refuses_as fault e start refuses by_content =
+      rw (← e) (told_refusal (a.held a.tokens.name) a.tokens.place fault start (refuses.told by_content))
 
 pub is_model : (told : Option (List ℕ)) (raw : RawInstance) (i : Tables) → i ≡ all_open raw →
     IfSome told (λ bytes. model_of bytes ≡ Ok (lists_of raw)) → IfSome told (λ bytes. IsModel bytes i)

@@ -1,21 +1,25 @@
 -- What the next token makes of what is left.
 use Rattle.std.proofs.Common.{◌≡◌, ℕ, suc, ◌+◌, refl, ap, ◌∙◌, ⊎_elim, true, List, [], ◌∷◌, drop, Option, Some, None}
-use Rattle.std.proofs.Common.{Ok, Err, IfSome, add-one, drop-cons, arith}
+use Rattle.std.proofs.Common.{Result, Ok, Err, IfSome, add-one, drop-cons, arith}
 use Rattle.std.specs.Prelude.{option_map, slice_get}
 use Rattle.std.proofs.lemmas.List.{drop_all}
 use Rattle.std.proofs.lemmas.Option.{slice_get_within, get_or_from_slice_get}
+use Rattle.ra_base.specs.Listed.{Listed}
 use Rattle.ra_io.specs.Faults.{Rose}
 use Rattle.ra_token.specs.declared.answers.Token.{Token}
 use Rattle.ra_token.specs.declared.answers.TokenFault.{TokenFault}
 use Rattle.ra_token.specs.declared.answers.TokenFault.TheVariants as told
 use Rattle.ra_token.specs.Faults.{first_fault}
-use Rattle.ra_token.specs.TokenList.{tokens, tokens_before, GaveAll, IsAnswer}
+use Rattle.ra_token.specs.Finds.{Outside, GivesNext, GivesValues}
+use Rattle.ra_token.specs.Moments.{Here, here, Goes}
+use Rattle.ra_token.specs.Standing.{Standing}
+use Rattle.ra_token.specs.TokenList.{tokens, tokens_before, IsAnswer}
+use Rattle.ra_token.proofs.ToldLemmas.{told_then, told_both}
 use Rattle.ra_model_read.specs.declared.faults.Field.{Field}
 use Rattle.ra_model_read.specs.declared.faults.ModelFault.{ModelFault}
 use Rattle.ra_model_read.specs.declared.faults.ModelFault.TheVariants.{Missing, Extra, ReadFault}
 use Rattle.ra_model_read.specs.Formats.{Read, Refused, Format, next_token, take_token, fault_or, token_fault, take_end}
 use Rattle.ra_model_read.specs.Formats.{ends}
-use Rattle.ra_token.specs.Moments.{Here, Goes}
 use Rattle.ra_model_read.specs.Reading.{left_from, left_of, Gives, FormatRefuses, is_by_content}
 
 -- a token is the first of those left, and the others come after it
@@ -31,24 +35,67 @@ unfolding next_token take_token left_from
 token_read what item place after t bytes next more =
     rw (drop_from (tokens bytes) (tokens_before bytes place) t next, more) refl
 
-none_left : (bytes : List ℕ) (place : ℕ) → GaveAll bytes (tokens_before bytes place) →
-    drop (tokens_before bytes place) (tokens bytes) ≡ []
-none_left bytes place all = drop_all (tokens_before bytes place) (tokens bytes) (omega (arith, all))
+-- no token is left, and this is the fault of the bytes
+record Ended (bytes : List ℕ) (place : ℕ) (fault : Option TokenFault) : Type 0 where
+  pub none : drop (tokens_before bytes place) (tokens bytes) ≡ []
+  pub shows : first_fault bytes ≡ fault
 
-pub token_missing : (what : Field) (item place : ℕ) (bytes : List ℕ) → GaveAll bytes (tokens_before bytes place) →
-    next_token what item (left_from place bytes) ≡ Refused (fault_or (first_fault bytes) (Missing what item))
-unfolding next_token take_token left_from
-token_missing what item place bytes all = rw (none_left bytes place all) refl
+ended : (bytes : List ℕ) (place : ℕ) → IsAnswer bytes (tokens_before bytes place) (Ok None) → Ended bytes place None
+ended bytes place answer = record {
+  none = drop_all (tokens_before bytes place) (tokens bytes) (omega (arith, answer.0));
+  shows = answer.1;
+}
 
-end_read : (place : ℕ) (bytes : List ℕ) → GaveAll bytes (tokens_before bytes place) → first_fault bytes ≡ None →
-    ends (left_from place bytes) ≡ Read tt (left_from place bytes)
+content_not_read : (fault : TokenFault) → is_by_content (token_fault fault) ≡ true → fault ≡ told.ReadFault → ⊥
+unfolding token_fault is_by_content
+content_not_read told.ReadFault by_content e = cc
+content_not_read (told.BadByte at byte) by_content e = cc
+content_not_read (told.TooLarge at) by_content e = cc
+content_not_read told.TooLong by_content e = cc
+content_not_read told.NoMemory by_content e = cc
+
+-- the fault of a token that is not a failed fetch
+by_content_read : (fault : TokenFault) → token_fault fault ≡ ReadFault → fault ≡ told.ReadFault
+unfolding token_fault
+by_content_read told.ReadFault e = refl
+by_content_read (told.BadByte at byte) e = cc
+by_content_read (told.TooLarge at) e = cc
+by_content_read told.TooLong e = cc
+by_content_read told.NoMemory e = cc
+
+ended_by : (bytes : List ℕ) (place : ℕ) (fault : TokenFault) → is_by_content (token_fault fault) ≡ true →
+    IsAnswer bytes (tokens_before bytes place) (Err fault) → Ended bytes place (Some fault)
+ended_by bytes place fault by_content answer = ⊎_elim
+    (λ (failed : fault ≡ told.ReadFault). absurd (content_not_read fault by_content failed))
+    (λ shows. record {
+      none = drop_all (tokens_before bytes place) (tokens bytes) (omega (arith, shows.0));
+      shows = shows.1;
+    }) answer
+
+module _ (what : Field) (item place : ℕ) (bytes : List ℕ) where
+  pub token_missing : IsAnswer bytes (tokens_before bytes place) (Ok None) →
+      next_token what item (left_from place bytes) ≡ Refused (Missing what item)
+  unfolding next_token take_token left_from fault_or
+  token_missing answer = let end = ended bytes place answer in rw (end.none, end.shows) refl
+
+  pub token_fails : (fault : TokenFault) → is_by_content (token_fault fault) ≡ true →
+      IsAnswer bytes (tokens_before bytes place) (Err fault) →
+      next_token what item (left_from place bytes) ≡ Refused (token_fault fault)
+  unfolding next_token take_token left_from fault_or
+  token_fails fault by_content answer =
+      let end = ended_by bytes place fault by_content answer in rw (end.none, end.shows) refl
+
+end_read : (place after : ℕ) (bytes : List ℕ) → after ≡ place → IsAnswer bytes (tokens_before bytes place) (Ok None) →
+    ends (left_from place bytes) ≡ Read tt (left_from after bytes)
 unfolding ends take_end left_from
-end_read place bytes all sound = rw (none_left bytes place all, sound) refl
+end_read place after bytes stays answer =
+    let end = ended bytes place answer in rw (stays, end.none, end.shows) refl
 
-end_fault : (place : ℕ) (bytes : List ℕ) (fault : TokenFault) → GaveAll bytes (tokens_before bytes place) →
-    first_fault bytes ≡ Some fault → ends (left_from place bytes) ≡ Refused (token_fault fault)
+end_fails : (place : ℕ) (bytes : List ℕ) (fault : TokenFault) → is_by_content (token_fault fault) ≡ true →
+    IsAnswer bytes (tokens_before bytes place) (Err fault) → ends (left_from place bytes) ≡ Refused (token_fault fault)
 unfolding ends take_end left_from
-end_fault place bytes fault all shows = rw (none_left bytes place all, shows) refl
+end_fails place bytes fault by_content answer =
+    let end = ended_by bytes place fault by_content answer in rw (end.none, end.shows) refl
 
 extra_first : (fault : Option TokenFault) (first : Token) (rest : List Token) →
     take_end fault (first ∷ rest) ≡ Refused (Extra first.at)
@@ -64,7 +111,7 @@ end_extra place bytes t next = rw (drop_from (tokens bytes) (tokens_before bytes
 
 -- if the bytes are told
 
-pub told_read : {X : Type 0} → (f : Format X) (x : X) (before now : Option (List ℕ)) (place after : ℕ) → now ≡ before →
+told_read : {X : Type 0} → (f : Format X) (x : X) (before now : Option (List ℕ)) (place after : ℕ) → now ≡ before →
     IfSome before (λ bytes. f (left_from place bytes) ≡ Read x (left_from after bytes)) →
     option_map f (option_map (left_from place) before) ≡ option_map (Read x) (option_map (left_from after) now)
 told_read f x None None place after same here = refl
@@ -72,133 +119,97 @@ told_read f x None (Some bytes) place after same here = cc
 told_read f x (Some bytes) None place after same here = cc
 told_read f x (Some bytes) (Some other) place after same here = let e : other ≡ bytes = cc in rw e (ap Some here)
 
-pub told_refused : {X : Type 0} → (f : Format X) (fault : ModelFault) (before : Option (List ℕ)) (place : ℕ) →
+told_refused : {X : Type 0} → (f : Format X) (fault : ModelFault) (before : Option (List ℕ)) (place : ℕ) →
     IfSome before (λ bytes. f (left_from place bytes) ≡ Refused fault) →
     option_map f (option_map (left_from place) before) ≡ option_map (λ _. Refused fault)
     (option_map (left_from place) before)
 told_refused f fault None place here = refl
 told_refused f fault (Some bytes) place here = ap Some here
 
-pub if_both : {P Q R : List ℕ → Type 0} → (told : Option (List ℕ)) → ((bytes : List ℕ) → P bytes → Q bytes → R bytes) →
-    IfSome told P → IfSome told Q → IfSome told R
-if_both None made p q = tt
-if_both (Some bytes) made p q = made bytes p q
-
-pub if_one : {P R : List ℕ → Type 0} → (told : Option (List ℕ)) → ((bytes : List ℕ) → P bytes → R bytes) →
-    IfSome told P → IfSome told R
-if_one None made p = tt
-if_one (Some bytes) made p = made bytes p
-
-pub same_file : (a b : Here) → Goes a b → b.held b.tokens.name ≡ a.held a.tokens.name
-same_file a b goes = ap b.held goes.name ∙ goes.kept a.tokens.name
-
-pub gives_token : (what : Field) (item : ℕ) (a b : Here) (t : Token) → Goes a b →
-    IfSome (a.held a.tokens.name) (λ bytes. IsAnswer bytes (tokens_before bytes a.tokens.place) (Ok (Some t))) →
-    IfSome (a.held a.tokens.name) (λ bytes. tokens_before bytes b.tokens.place ≡ tokens_before bytes a.tokens.place
-    + 1) → Gives (next_token what item) a b t
+pub gives_told : {X : Type 0} {f : Format X} {a b : Here} {x : X} → Goes a b → IfSome (a.held a.tokens.name)
+    (λ bytes. f (left_from a.tokens.place bytes) ≡ Read x (left_from b.tokens.place bytes)) → Gives f a b x
 unfolding left_of
-gives_token what item a b t goes answer more = record {
+gives_told {X} {f} {a} {b} {x} goes here = record {
   goes = goes;
-  value = told_read (next_token what item) t (a.held a.tokens.name) (b.held b.tokens.name) a.tokens.place b.tokens.place
-      (same_file a b goes)
-      (if_both (a.held a.tokens.name)
-      (λ bytes next one_more. token_read what item a.tokens.place b.tokens.place t bytes next
-      (one_more ∙ add-one _)) answer more);
+  value = told_read f x (a.held a.tokens.name) (b.held b.tokens.name) a.tokens.place b.tokens.place
+      (ap b.held goes.name ∙ goes.kept a.tokens.name) here;
 }
 
-pub no_fault : (fault : Option TokenFault) (otherwise : ModelFault) → fault ≡ None →
-    fault_or fault otherwise ≡ otherwise
-unfolding fault_or
-no_fault fault otherwise e = rw e refl
-
--- no token is left, and no fault
-pub refuses_missing : (what : Field) (item : ℕ) (a b : Here) → Goes a b →
-    IfSome (a.held a.tokens.name) (λ bytes. IsAnswer bytes (tokens_before bytes a.tokens.place) (Ok None)) →
-    FormatRefuses (next_token what item) a b (Missing what item)
+-- a refusal that no failed fetch explains
+pub refuses_told : {X : Type 0} {f : Format X} {a b : Here} {fault : ModelFault} → Goes a b → (fault ≡ ReadFault → ⊥) →
+    IfSome (a.held a.tokens.name) (λ bytes. f (left_from a.tokens.place bytes) ≡ Refused fault) →
+    FormatRefuses f a b fault
 unfolding left_of
-refuses_missing what item a b goes answer = record {
+refuses_told {X} {f} {a} {b} {fault} goes no_read here = record {
   goes = goes;
-  rose = λ e. cc;
-  told = λ by_content. told_refused (next_token what item) (Missing what item) (a.held a.tokens.name) a.tokens.place
-      (if_one (a.held a.tokens.name) (λ bytes ended. token_missing what item a.tokens.place bytes ended.0
-      ∙ ap Refused (no_fault (first_fault bytes) (Missing what item) ended.1)) answer);
+  rose = λ e. absurd (no_read e);
+  told = λ by_content. told_refused f fault (a.held a.tokens.name) a.tokens.place here;
 }
 
--- the fault of a token that is not a failed fetch
-pub by_content_read : (fault : TokenFault) → token_fault fault ≡ ReadFault → fault ≡ told.ReadFault
-unfolding token_fault
-by_content_read told.ReadFault e = refl
-by_content_read (told.BadByte at byte) e = cc
-by_content_read (told.TooLarge at) e = cc
-by_content_read told.TooLong e = cc
-by_content_read told.NoMemory e = cc
-
-pub content_not_read : (fault : TokenFault) → is_by_content (token_fault fault) ≡ true → fault ≡ told.ReadFault → ⊥
-unfolding token_fault is_by_content
-content_not_read told.ReadFault by_content e = cc
-content_not_read (told.BadByte at byte) by_content e = cc
-content_not_read (told.TooLarge at) by_content e = cc
-content_not_read told.TooLong by_content e = cc
-content_not_read told.NoMemory by_content e = cc
-
-pub shown_fault : (fault : TokenFault) (shown : Option TokenFault) (otherwise : ModelFault) → shown ≡ Some fault →
-    fault_or shown otherwise ≡ token_fault fault
-unfolding fault_or
-shown_fault fault shown otherwise e = rw e refl
-
-pub refuses_token : (what : Field) (item : ℕ) (a b : Here) (fault : TokenFault) (told_as : ModelFault) →
+-- a fault of the tokens
+pub refuses_by : {X : Type 0} {f : Format X} {a b : Here} {fault : TokenFault} {told_as : ModelFault} →
     told_as ≡ token_fault fault → Goes a b →
-    IfSome (a.held a.tokens.name) (λ bytes. IsAnswer bytes (tokens_before bytes a.tokens.place) (Err fault)) →
     (fault ≡ told.ReadFault → Rose (a.faults a.tokens.name) (b.faults a.tokens.name)) →
-    FormatRefuses (next_token what item) a b told_as
+    (is_by_content (token_fault fault) ≡ true → IfSome (a.held a.tokens.name)
+    (λ bytes. f (left_from a.tokens.place bytes) ≡ Refused (token_fault fault))) → FormatRefuses f a b told_as
 unfolding left_of
-refuses_token what item a b fault told_as as_model goes answer rose = rw as_model record {
+refuses_by {X} {f} {a} {b} {fault} as_model goes rose here = rw as_model record {
   goes = goes;
   rose = λ e. rose (by_content_read fault e);
-  told = λ by_content. told_refused (next_token what item) (token_fault fault) (a.held a.tokens.name) a.tokens.place
-      (if_one (a.held a.tokens.name) (λ bytes why. ⊎_elim
-      (λ (failed : fault ≡ told.ReadFault). absurd (content_not_read fault by_content failed))
-      (λ (shows : GaveAll bytes (tokens_before bytes a.tokens.place) × (first_fault bytes ≡ Some fault)).
-      token_missing what item a.tokens.place bytes shows.0
-      ∙ ap Refused (shown_fault fault (first_fault bytes) (Missing what item) shows.1))
-      why) answer);
+  told = λ by_content. told_refused f (token_fault fault) (a.held a.tokens.name) a.tokens.place (here by_content);
 }
 
--- the end
+-- what every call of the reader leaves
 
-pub gives_end : (a b : Here) → Goes a b → b.tokens.place ≡ a.tokens.place →
-    IfSome (a.held a.tokens.name) (λ bytes. IsAnswer bytes (tokens_before bytes a.tokens.place) (Ok None)) →
-    Gives ends a b tt
-unfolding left_of
-gives_end a b goes stays answer = record {
-  goes = goes;
-  value = told_read ends tt (a.held a.tokens.name) (b.held b.tokens.name) a.tokens.place b.tokens.place
-      (same_file a b goes)
-      (if_one (a.held a.tokens.name) (λ bytes ended. rw stays (end_read a.tokens.place bytes ended.0 ended.1)) answer);
-}
+pub goes_next : {o : Outside} {before after : Standing} {said : Result (Option Token) TokenFault} →
+    GivesNext o before after said → Goes (here o.held o.faults before) (here o.held_after o.faults_after after)
+goes_next given = record { name = given.name; stands = given.reads; kept = given.kept; never_fall = given.never_fall }
 
-pub refuses_extra : (a b : Here) (t : Token) → Goes a b →
-    IfSome (a.held a.tokens.name) (λ bytes. IsAnswer bytes (tokens_before bytes a.tokens.place) (Ok (Some t))) →
-    FormatRefuses ends a b (Extra t.at)
-unfolding left_of
-refuses_extra a b t goes answer = record {
-  goes = goes;
-  rose = λ e. cc;
-  told = λ by_content. told_refused ends (Extra t.at) (a.held a.tokens.name) a.tokens.place
-      (if_one (a.held a.tokens.name) (λ bytes next. end_extra a.tokens.place bytes t next) answer);
-}
+pub goes_values : {o : Outside} {before after : Standing} {count : ℕ} {old new : Listed ℕ} {said : Result ℕ TokenFault}
+    → GivesValues o before after count old new said →
+    Goes (here o.held o.faults before) (here o.held_after o.faults_after after)
+goes_values given = record { name = given.name; stands = given.reads; kept = given.kept; never_fall = given.never_fall }
 
-pub refuses_end : (a b : Here) (fault : TokenFault) (told_as : ModelFault) → told_as ≡ token_fault fault → Goes a b →
-    IfSome (a.held a.tokens.name) (λ bytes. IsAnswer bytes (tokens_before bytes a.tokens.place) (Err fault)) →
-    (fault ≡ told.ReadFault → Rose (a.faults a.tokens.name) (b.faults a.tokens.name)) → FormatRefuses ends a b told_as
-unfolding left_of
-refuses_end a b fault told_as as_model goes answer rose = rw as_model record {
-  goes = goes;
-  rose = λ e. rose (by_content_read fault e);
-  told = λ by_content. told_refused ends (token_fault fault) (a.held a.tokens.name) a.tokens.place
-      (if_one (a.held a.tokens.name) (λ bytes why. ⊎_elim
-      (λ (failed : fault ≡ told.ReadFault). absurd (content_not_read fault by_content failed))
-      (λ (shows : GaveAll bytes (tokens_before bytes a.tokens.place) × (first_fault bytes ≡ Some fault)).
-      end_fault a.tokens.place bytes fault shows.0 shows.1)
-      why) answer);
-}
+module _ (what : Field) (item : ℕ) (a b : Here) where
+  -- the next token
+
+  pub gives_token : (t : Token) → Goes a b →
+      IfSome (a.held a.tokens.name) (λ bytes. IsAnswer bytes (tokens_before bytes a.tokens.place) (Ok (Some t))) →
+      IfSome (a.held a.tokens.name) (λ bytes. tokens_before bytes b.tokens.place ≡
+      tokens_before bytes a.tokens.place + 1) → Gives (next_token what item) a b t
+  gives_token t goes answer more = gives_told goes (told_both _ answer more
+      (λ bytes next one_more. token_read what item a.tokens.place b.tokens.place t bytes next (one_more ∙ add-one _)))
+
+  pub refuses_missing : Goes a b →
+      IfSome (a.held a.tokens.name) (λ bytes. IsAnswer bytes (tokens_before bytes a.tokens.place) (Ok None)) →
+      FormatRefuses (next_token what item) a b (Missing what item)
+  refuses_missing goes answer =
+      refuses_told goes (λ e. cc) (told_then _ answer (token_missing what item a.tokens.place))
+
+  pub refuses_token : (fault : TokenFault) (told_as : ModelFault) → told_as ≡ token_fault fault → Goes a b →
+      IfSome (a.held a.tokens.name) (λ bytes. IsAnswer bytes (tokens_before bytes a.tokens.place) (Err fault)) →
+      (fault ≡ told.ReadFault → Rose (a.faults a.tokens.name) (b.faults a.tokens.name)) →
+      FormatRefuses (next_token what item) a b told_as
+  refuses_token fault told_as as_model goes answer rose = refuses_by as_model goes rose (λ by_content.
+      told_then _ answer (λ bytes why. token_fails what item a.tokens.place bytes fault by_content why))
+
+module _ (a b : Here) where
+  -- the end
+
+  pub gives_end : Goes a b → b.tokens.place ≡ a.tokens.place →
+      IfSome (a.held a.tokens.name) (λ bytes. IsAnswer bytes (tokens_before bytes a.tokens.place) (Ok None)) →
+      Gives ends a b tt
+  gives_end goes stays answer =
+      gives_told goes (told_then _ answer (λ bytes. end_read a.tokens.place b.tokens.place bytes stays))
+
+  pub refuses_extra : (t : Token) → Goes a b →
+      IfSome (a.held a.tokens.name) (λ bytes. IsAnswer bytes (tokens_before bytes a.tokens.place) (Ok (Some t))) →
+      FormatRefuses ends a b (Extra t.at)
+  refuses_extra t goes answer =
+      refuses_told goes (λ e. cc) (told_then _ answer (λ bytes next. end_extra a.tokens.place bytes t next))
+
+  pub refuses_end : (fault : TokenFault) (told_as : ModelFault) → told_as ≡ token_fault fault → Goes a b →
+      IfSome (a.held a.tokens.name) (λ bytes. IsAnswer bytes (tokens_before bytes a.tokens.place) (Err fault)) →
+      (fault ≡ told.ReadFault → Rose (a.faults a.tokens.name) (b.faults a.tokens.name)) → FormatRefuses ends a b told_as
+  refuses_end fault told_as as_model goes answer rose = refuses_by as_model goes rose (λ by_content.
+      told_then _ answer (λ bytes why. end_fails a.tokens.place bytes fault by_content why))

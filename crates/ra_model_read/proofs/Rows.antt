@@ -1,6 +1,6 @@
 -- One row more at the end of a list of rows.
-use Rattle.std.proofs.Common.{◌≡◌, ℕ, zero, suc, ◌+◌, ◌*◌, ◌^◌, ◌<◌, ◌≤◌, refl, ap, ◌∙◌, sym, subst, List, [], ◌∷◌}
-use Rattle.std.proofs.Common.{◌++◌, length, map, arith, add-one, ⊎_elim}
+use Rattle.std.proofs.Common.{inl, inr, ◌≡◌, ℕ, zero, suc, ◌+◌, ◌*◌, ◌^◌, ◌<◌, ◌≤◌, refl, ap, ◌∙◌, sym, subst, List, [], ◌∷◌}
+use Rattle.std.proofs.Common.{◌++◌, length, map, get_or, arith, add-one}
 use Rattle.std.proofs.lemmas.List.{map-append, length-map, get_or_append_left, length_push, nil_from_length}
 use Rattle.std.proofs.lemmas.Bool.{cases_lt}
 use Rattle.std.proofs.Math.Nat.{mul-le-mul_right}
@@ -10,38 +10,19 @@ use Rattle.ra_base.specs.declared.ids.Service.{Service}
 use Rattle.ra_model.specs.declared.raw.BalanceRow.{BalanceRow}
 use Rattle.ra_model.specs.declared.raw.MachineRow.{MachineRow}
 use Rattle.ra_model.specs.declared.raw.ProcessRow.{ProcessRow}
-use Rattle.ra_model.specs.declared.raw.ResourceRow.{ResourceRow}
 use Rattle.ra_model.specs.declared.raw.ServiceRow.{ServiceRow}
 use Rattle.ra_model_read.specs.declared.tables.MachineTables.{MachineTables}
 use Rattle.ra_model_read.specs.declared.tables.ServiceTables.{ServiceTables}
 use Rattle.ra_model_read.specs.declared.tables.ProcessTables.{ProcessTables}
-use Rattle.ra_model_read.specs.Lists.{of_resource, of_machine, service_numbers_of, of_process, of_balance}
-use Rattle.ra_model_read.specs.TableShapes.{machine_lists, service_lists, process_lists, HasMachines, HasProcesses}
-use Rattle.ra_model_read.specs.TableShapes.{IsMachines, IsServices, IsProcesses, dependency_end_in, dependency_start_in}
-use Rattle.ra_model_read.specs.TableShapes.{needed_in}
-use Rattle.ra_model_read.specs.TableShapes.{AreServices, HasDependencies, HasServices, row_service_in, first_in}
-use Rattle.ra_model_read.specs.TableShapes.{second_in}
+use Rattle.ra_model_read.specs.TableShapes.{machine_lists, service_lists, process_lists, zero_process, zero_balance}
+use Rattle.ra_model_read.specs.TableShapes.{HasMachines, HasProcesses, IsMachines, IsServices, IsProcesses}
+use Rattle.ra_model_read.specs.TableShapes.{dependency_end_in, dependency_start_in, needed_in, AreServices}
+use Rattle.ra_model_read.specs.TableShapes.{HasDependencies, HasServices, row_service_in, first_in, second_in}
 use Rattle.ra_model_read.specs.TableShapes.{AreBalances, HasBalances}
 
-pub resource_pushed : (rows new : List ResourceRow) (row : ResourceRow) → new ≡ rows ++ row ∷ [] →
-    map of_resource new ≡ map of_resource rows ++ of_resource row ∷ []
-resource_pushed rows new row e = ap (map of_resource) e ∙ map-append of_resource rows (row ∷ [])
-
-pub machine_pushed : (rows new : List MachineRow) (row : MachineRow) → new ≡ rows ++ row ∷ [] →
-    map of_machine new ≡ map of_machine rows ++ of_machine row ∷ []
-machine_pushed rows new row e = ap (map of_machine) e ∙ map-append of_machine rows (row ∷ [])
-
-pub service_pushed : (rows new : List ServiceRow) (row : ServiceRow) → new ≡ rows ++ row ∷ [] →
-    map service_numbers_of new ≡ map service_numbers_of rows ++ service_numbers_of row ∷ []
-service_pushed rows new row e = ap (map service_numbers_of) e ∙ map-append service_numbers_of rows (row ∷ [])
-
-pub process_pushed : (rows new : List ProcessRow) (row : ProcessRow) → new ≡ rows ++ row ∷ [] →
-    map of_process new ≡ map of_process rows ++ of_process row ∷ []
-process_pushed rows new row e = ap (map of_process) e ∙ map-append of_process rows (row ∷ [])
-
-pub balance_pushed : (rows new : List BalanceRow) (row : BalanceRow) → new ≡ rows ++ row ∷ [] →
-    map of_balance new ≡ map of_balance rows ++ of_balance row ∷ []
-balance_pushed rows new row e = ap (map of_balance) e ∙ map-append of_balance rows (row ∷ [])
+pub rows_pushed : {X Y : Type 0} (f : X → Y) (rows new : List X) (row : X) → new ≡ rows ++ row ∷ [] →
+    map f new ≡ map f rows ++ f row ∷ []
+rows_pushed f rows new row e = ap (map f) e ∙ map-append f rows (row ∷ [])
 
 -- a count of rows is a count of what is in them
 pub counted : {X Y : Type 0} (f : X → Y) (rows : List X) (n : ℕ) → n ≡ length rows → n ≡ length (map f rows)
@@ -50,95 +31,75 @@ counted f rows n e = e ∙ sym (length-map rows f)
 -- what holds of each of n, and of the next
 below_next : (P : ℕ → Type 0) (n : ℕ) → ((k : ℕ) → k < n → P k) → P n → (k : ℕ) → k < n + 1 → P k
 below_next P n before here k within =
-    ⊎_elim (λ (h : k < n). before k h) (λ (h : n ≤ k). let e : n ≡ k = omega arith in subst P e here) (cases_lt k n)
+    elim (cases_lt k n) [
+      | inl h ↦ before k h
+      | inr h ↦ let e : n ≡ k = omega arith in subst P e here
+    ]
 
--- machines
+-- what holds of each row, and of the next
+each_pushed : {X : Type 0} (P : X → Type 0) (d : X) (xs : List X) (x : X) (n : ℕ) → length xs ≡ n →
+    ((k : ℕ) → k < n → P (get_or xs k d)) → P x → (k : ℕ) → k < n + 1 → P (get_or (xs ++ x ∷ []) k d)
+each_pushed P d xs x n full before here = below_next (λ k. P (get_or (xs ++ x ∷ []) k d)) n
+    (λ k within. subst P (sym (get_or_append_left xs (x ∷ []) d k (omega arith))) (before k within))
+    (subst (λ k. P (get_or (xs ++ x ∷ []) k d)) full (subst P (sym (get_or-append_seam xs x [] d)) here))
 
-pub row_within : (R M m n room : ℕ) → n ≡ m * R → room ≡ M * R → m < M → n + R ≤ room
-row_within R M m n room items all below =
-    let wide : (m + 1) * R ≤ M * R = mul-le-mul_right R (omega arith) in omega (arith, items, all, wide)
+module _ (R M m : ℕ) where
+  -- machines
 
-pub row_fits : (R M m : ℕ) → m < M → M ≤ 5000 → R ≤ 5000 → m * R + R < 2 ^ 64
-row_fits R M m below few narrow = let wide : m * R ≤ 5000 * R = mul-le-mul_right R (omega arith) in omega (arith, wide)
+  pub row_within : (n room : ℕ) → n ≡ m * R → room ≡ M * R → m < M → n + R ≤ room
+  row_within n room items all below =
+      let wide : (m + 1) * R ≤ M * R = mul-le-mul_right R (omega arith) in omega (arith, items, all, wide)
 
-pub has_machine : (R M m : ℕ) (t new : MachineTables) (row : MachineRow) → HasMachines R M m t →
-    new.rows.items ≡ t.rows.items ++ row ∷ []
-    → length new.capacities.items ≡ length t.capacities.items + R → length new.safeties.items ≡ length t.safeties.items
-    + R → length new.move_costs.items ≡ length t.move_costs.items + M
-    → new.rows.room ≡ t.rows.room → new.capacities.room ≡ t.capacities.room → new.safeties.room ≡ t.safeties.room →
-    new.move_costs.room ≡ t.move_costs.room → HasMachines R M (m + 1) new
-has_machine R M m t new row h e capacities safeties move_costs rows_room capacities_room safeties_room move_costs_room =
-    record {
-      few_resources = h.few_resources;
-      few = h.few;
-      rows = ap length e ∙ length_push t.rows.items row ∙ ap (λ n. n + 1) h.rows;
-      capacities = omega (arith, h.capacities, capacities);
-      safeties = omega (arith, h.safeties, safeties);
-      move_costs = omega (arith, h.move_costs, move_costs);
-      rows_room = rows_room ∙ h.rows_room;
-      capacities_room = capacities_room ∙ h.capacities_room;
-      safeties_room = safeties_room ∙ h.safeties_room;
-      move_costs_room = move_costs_room ∙ h.move_costs_room;
-    }
+  pub row_fits : m < M → M ≤ 5000 → R ≤ 5000 → m * R + R < 2 ^ 64
+  row_fits below few narrow = let wide : m * R ≤ 5000 * R = mul-le-mul_right R (omega arith) in omega (arith, wide)
 
--- the services of processes
+  pub has_machine : (t new : MachineTables) (row : MachineRow) → HasMachines R M m t →
+      new.rows.items ≡ t.rows.items ++ row ∷ [] → length new.capacities.items ≡ length t.capacities.items + R →
+      length new.safeties.items ≡ length t.safeties.items + R →
+      length new.move_costs.items ≡ length t.move_costs.items + M → new.rows.room ≡ t.rows.room →
+      new.capacities.room ≡ t.capacities.room → new.safeties.room ≡ t.safeties.room →
+      new.move_costs.room ≡ t.move_costs.room → HasMachines R M (m + 1) new
+  has_machine t new row h e capacities safeties move_costs rows_room capacities_room safeties_room move_costs_room =
+      record {
+        few_resources = h.few_resources;
+        few = h.few;
+        rows = ap length e ∙ length_push t.rows.items row ∙ ap (λ n. n + 1) h.rows;
+        capacities = omega (arith, h.capacities, capacities);
+        safeties = omega (arith, h.safeties, safeties);
+        move_costs = omega (arith, h.move_costs, move_costs);
+        rows_room = rows_room ∙ h.rows_room;
+        capacities_room = capacities_room ∙ h.capacities_room;
+        safeties_room = safeties_room ∙ h.safeties_room;
+        move_costs_room = move_costs_room ∙ h.move_costs_room;
+      }
 
-service_before : (rows : List ProcessRow) (row : ProcessRow) (k : ℕ) → k < length rows →
-    row_service_in (rows ++ row ∷ []) k ≡ row_service_in rows k
-unfolding row_service_in
-service_before rows row k within = ap (λ r. r.service.0) (get_or_append_left rows (row ∷ []) _ k within)
-
-service_here : (rows : List ProcessRow) (row : ProcessRow) →
-    row_service_in (rows ++ row ∷ []) (length rows) ≡ row.service.0
-unfolding row_service_in
-service_here rows row = ap (λ r. r.service.0) (get_or-append_seam rows row [] _)
+-- processes
 
 pub has_process : (S R P p : ℕ) (t new : ProcessTables) (row : ProcessRow) → HasProcesses S R P p t →
     new.rows.items ≡ t.rows.items ++ row ∷ [] → length new.requirements.items ≡ length t.requirements.items + R →
     row.service.0 < S → new.rows.room ≡ t.rows.room → new.requirements.room ≡ t.requirements.room →
     HasProcesses S R P (p + 1) new
-has_process S R P p t new row h e wider here rows_room room = let full : length t.rows.items ≡ p = h.rows in record {
+unfolding row_service_in
+has_process S R P p t new row h e wider here rows_room room = record {
   few_resources = h.few_resources;
   few = h.few;
   rows = ap length e ∙ length_push t.rows.items row ∙ ap (λ n. n + 1) h.rows;
   requirements = omega (arith, h.requirements, wider);
   rows_room = rows_room ∙ h.rows_room;
   requirements_room = room ∙ h.requirements_room;
-  services = rw e (below_next (λ k. row_service_in (t.rows.items ++ row ∷ []) k < S) p
-      (λ k within. omega (arith, service_before t.rows.items row k (omega arith), h.services k within))
-      (omega (arith, service_here t.rows.items row, ap (row_service_in (t.rows.items ++ row ∷ [])) full)));
+  services = rw e (each_pushed (λ r. r.service.0 < S) zero_process _ row _ h.rows h.services here);
 }
 
--- the resources of balance objectives
-
-first_before : (rows : List BalanceRow) (row : BalanceRow) (k : ℕ) → k < length rows →
-    first_in (rows ++ row ∷ []) k ≡ first_in rows k
-unfolding first_in
-first_before rows row k within = ap (λ r. r.first.0) (get_or_append_left rows (row ∷ []) _ k within)
-
-first_here : (rows : List BalanceRow) (row : BalanceRow) → first_in (rows ++ row ∷ []) (length rows) ≡ row.first.0
-unfolding first_in
-first_here rows row = ap (λ r. r.first.0) (get_or-append_seam rows row [] _)
-
-second_before : (rows : List BalanceRow) (row : BalanceRow) (k : ℕ) → k < length rows →
-    second_in (rows ++ row ∷ []) k ≡ second_in rows k
-unfolding second_in
-second_before rows row k within = ap (λ r. r.second.0) (get_or_append_left rows (row ∷ []) _ k within)
-
-second_here : (rows : List BalanceRow) (row : BalanceRow) → second_in (rows ++ row ∷ []) (length rows) ≡ row.second.0
-unfolding second_in
-second_here rows row = ap (λ r. r.second.0) (get_or-append_seam rows row [] _)
+-- balance objectives
 
 balances_pushed : (rows new : List BalanceRow) (row : BalanceRow) (R : ℕ) → new ≡ rows ++ row ∷ [] →
     AreBalances R rows → row.first.0 < R → row.second.0 < R → AreBalances R new
-balances_pushed rows new row R e before one two = rw e record {
-  firsts = rw (length_push rows row) (below_next (λ k. first_in (rows ++ row ∷ []) k < R) (length rows)
-      (λ k within. omega (arith, first_before rows row k within, before.firsts k within))
-      (omega (arith, first_here rows row)));
-  seconds = rw (length_push rows row) (below_next (λ k. second_in (rows ++ row ∷ []) k < R) (length rows)
-      (λ k within. omega (arith, second_before rows row k within, before.seconds k within))
-      (omega (arith, second_here rows row)));
-}
+unfolding first_in second_in
+balances_pushed rows new row R e before one two = rw (e) (record {
+  firsts = rw (length_push rows row) (each_pushed (λ r. r.first.0 < R) zero_balance rows row _ refl before.firsts one);
+  seconds = rw (length_push rows row)
+      (each_pushed (λ r. r.second.0 < R) zero_balance rows row _ refl before.seconds two);
+})
 
 pub has_balance : (R b : ℕ) (old new : Listed BalanceRow) (row : BalanceRow) → HasBalances R b old →
     new.items ≡ old.items ++ row ∷ [] → row.first.0 < R → row.second.0 < R → HasBalances R (b + 1) new
@@ -158,24 +119,13 @@ has_no_balance R none e = record {
 no_dependency : (S : ℕ) (none : List Service) → none ≡ [] → AreServices S none
 no_dependency S none e = rw e (record { each = λ place within. absurd (omega arith) })
 
-needed_before : (dependencies : List Service) (one : Service) (k : ℕ) → k < length dependencies →
-    needed_in (dependencies ++ one ∷ []) k ≡ needed_in dependencies k
-unfolding needed_in
-needed_before dependencies one k within = ap (λ r. r.0) (get_or_append_left dependencies (one ∷ []) _ k within)
-
-needed_here : (dependencies : List Service) (one : Service) →
-    needed_in (dependencies ++ one ∷ []) (length dependencies) ≡ one.0
-unfolding needed_in
-needed_here dependencies one = ap (λ r. r.0) (get_or-append_seam dependencies one [] _)
-
 dependency_pushed : (dependencies new : List Service) (one : Service) (S : ℕ) → new ≡ dependencies ++ one ∷ [] →
     AreServices S dependencies → one.0 < S → AreServices S new
-dependency_pushed dependencies new one S e before here = rw e record {
+unfolding needed_in
+dependency_pushed dependencies new one S e before here = rw (e) (record {
   each = rw (length_push dependencies one)
-      (below_next (λ k. needed_in (dependencies ++ one ∷ []) k < S) (length dependencies)
-      (λ k within. omega (arith, needed_before dependencies one k within, before.each k within))
-      (omega (arith, needed_here dependencies one)));
-}
+      (each_pushed (λ s. s.0 < S) (record { 0 = 0 }) dependencies one _ refl before.each here);
+})
 
 pub has_dependency : (S : ℕ) (old new : Listed Service) (one : Service) → HasDependencies S old →
     new.items ≡ old.items ++ one ∷ [] → new.room ≡ old.room → length old.items < 100000 → one.0 < S →
@@ -186,27 +136,26 @@ has_dependency S old new one h e room below here = record {
   needs = dependency_pushed old.items new.items one S e h.needs here;
 }
 
--- where the dependencies of services end
+module _ (rows : List ServiceRow) where
+  module _ (row : ServiceRow) where
+    -- where the dependencies of services end
 
-end_before : (rows : List ServiceRow) (row : ServiceRow) (k : ℕ) → k < length rows →
-    dependency_end_in (rows ++ row ∷ []) k ≡ dependency_end_in rows k
-unfolding dependency_end_in
-end_before rows row k within = ap (λ r. r.dependency_end) (get_or_append_left rows (row ∷ []) _ k within)
+    end_before : (k : ℕ) → k < length rows → dependency_end_in (rows ++ row ∷ []) k ≡ dependency_end_in rows k
+    unfolding dependency_end_in
+    end_before k within = ap (λ r. r.dependency_end) (get_or_append_left rows (row ∷ []) _ k within)
 
-end_here : (rows : List ServiceRow) (row : ServiceRow) →
-    dependency_end_in (rows ++ row ∷ []) (length rows) ≡ row.dependency_end
-unfolding dependency_end_in
-end_here rows row = ap (λ r. r.dependency_end) (get_or-append_seam rows row [] _)
+    end_here : dependency_end_in (rows ++ row ∷ []) (length rows) ≡ row.dependency_end
+    unfolding dependency_end_in
+    end_here = ap (λ r. r.dependency_end) (get_or-append_seam rows row [] _)
 
-start_before : (rows : List ServiceRow) (row : ServiceRow) (k : ℕ) → k ≤ length rows →
-    dependency_start_in (rows ++ row ∷ []) k ≡ dependency_start_in rows k
-unfolding dependency_start_in
-start_before rows row zero within = refl
-start_before rows row (suc k) within = end_before rows row k (omega arith)
+    start_before : (k : ℕ) → k ≤ length rows → dependency_start_in (rows ++ row ∷ []) k ≡ dependency_start_in rows k
+    unfolding dependency_start_in
+    start_before zero within = refl
+    start_before (suc k) within = end_before k (omega arith)
 
-start_next : (rows : List ServiceRow) (s : ℕ) → dependency_start_in rows (s + 1) ≡ dependency_end_in rows s
-unfolding dependency_start_in
-start_next rows s = rw add-one refl
+  start_next : (s : ℕ) → dependency_start_in rows (s + 1) ≡ dependency_end_in rows s
+  unfolding dependency_start_in
+  start_next s = rw add-one refl
 
 pub has_none : (S : ℕ) (t : ServiceTables) → t.rows.items ≡ [] → t.dependencies.items ≡ [] → t.rows.room ≡ S →
     t.dependencies.room ≡ 100000 → HasServices S 0 t
@@ -284,24 +233,14 @@ no_processes S R P t h =
     rw (nil_from_length t.rows.items h.rows, nil_from_length t.requirements.items (omega (arith, h.requirements))) refl
 
 pub all_machines : (R M m : ℕ) (t : MachineTables) → HasMachines R M m t → M ≤ m → m ≤ M → 1 ≤ M → IsMachines R t
-all_machines R M m t h low high some = let full : M ≡ length t.rows.items = omega (arith, h.rows) in
-    let last : m ≡ length t.rows.items = omega (arith, h.rows) in record {
-      some = omega arith;
-      has = subst (λ n. HasMachines R n (length t.rows.items) t) full (subst (λ k. HasMachines R M k t) last h);
-    }
+all_machines R M m t h low high some = let full : M ≡ m = omega arith in
+    record { some = omega (arith, h.rows); has = rw h.rows (rw full at h) }
 
 pub all_services : (S s : ℕ) (t : ServiceTables) → HasServices S s t → S ≤ s → s ≤ S → 1 ≤ S → S ≤ 50000 → IsServices t
-all_services S s t h low high some few = let full : S ≡ length t.rows.items = omega (arith, h.rows) in
-    let last : s ≡ length t.rows.items = omega (arith, h.rows) in record {
-      some = omega arith;
-      few = omega arith;
-      has = subst (λ n. HasServices n (length t.rows.items) t) full (subst (λ k. HasServices S k t) last h);
-    }
+all_services S s t h low high some few = let full : S ≡ s = omega arith in
+    record { some = omega (arith, h.rows); few = omega (arith, h.rows); has = rw h.rows (rw full at h) }
 
 pub all_processes : (S R P p : ℕ) (t : ProcessTables) → HasProcesses S R P p t → P ≤ p → p ≤ P → 1 ≤ P →
     IsProcesses S R t
-all_processes S R P p t h low high some = let full : P ≡ length t.rows.items = omega (arith, h.rows) in
-    let last : p ≡ length t.rows.items = omega (arith, h.rows) in record {
-      some = omega arith;
-      has = subst (λ n. HasProcesses S R n (length t.rows.items) t) full (subst (λ k. HasProcesses S R P k t) last h);
-    }
+all_processes S R P p t h low high some = let full : P ≡ p = omega arith in
+    record { some = omega (arith, h.rows); has = rw h.rows (rw full at h) }

@@ -1,6 +1,6 @@
 -- Formats that are read from a file one after another.
-use Rattle.std.proofs.Common.{◌≡◌, ℕ, zero, suc, ◌+◌, ◌-◌, ◌^◌, ◌<◌, ◌≤◌, inl, inr, ⊎_elim, refl, ◌∙◌, sym, subst}
-use Rattle.std.proofs.Common.{Option, Some, None, Result, Ok, Err, IfErr, IsErr, IsErrAnd, arith, add-one}
+use Rattle.std.proofs.Common.{◌≡◌, ℕ, zero, suc, ◌+◌, ◌<◌, ◌≤◌, inl, inr, refl, ◌∙◌, sym, subst}
+use Rattle.std.proofs.Common.{Option, Some, None, Result, IfErr, IsErr, IsErrAnd, arith, add-one}
 use Rattle.std.specs.Prelude.{option_map}
 use Rattle.std.proofs.lemmas.Bool.{cases_lt}
 use Rattle.ra_io.specs.Faults.{Rose}
@@ -8,6 +8,7 @@ use Rattle.ra_model_read.specs.declared.faults.ModelFault.{ModelFault}
 use Rattle.ra_model_read.specs.declared.faults.ModelFault.TheVariants.{NoMemory, ReadFault}
 use Rattle.ra_model_read.specs.Formats.{Left, Read, Refused, Format, pure, refuse, ◌>>=◌, along}
 use Rattle.ra_token.specs.Moments.{Here, Stands, Goes}
+use Rattle.ra_token.proofs.ToldLemmas.{at_exit}
 use Rattle.ra_model_read.specs.Reading.{left_of, Gives, FormatRefuses, is_by_content}
 use Rattle.ra_model_read.proofs.Outcomes.{told_bind, told_refused_first, told_refused_next}
 
@@ -55,7 +56,10 @@ refuses_first {X} {Y} {f} next {a} {b} {fault} one = record {
 }
 
 rose_later : (m n k : ℕ) → m ≤ n → Rose n k → Rose m k
-rose_later m n k grew rose = ⊎_elim (λ (h : n < k). inl (omega arith)) (λ (h : k ≡ 2 ^ 64 - 1). inr h) rose
+rose_later m n k grew rose = elim rose [
+  | inl h ↦ inl (omega arith)
+  | inr h ↦ inr h
+]
 
 pub refuses_next : {X Y : Type 0} {f : Format X} (next : X → Format Y) {a b c : Here} {x : X} {fault : ModelFault} →
     Gives f a b x → FormatRefuses (next x) b c fault → FormatRefuses (f >>= next) a c fault
@@ -87,24 +91,17 @@ pub refuses_step : {X : Type 0} (step : ℕ → X → Format X) (n k : ℕ) (x :
     FormatRefuses (along n step x) a c fault
 unfolding along
 refuses_step step zero k x within so_far here = absurd (omega arith)
-refuses_step step (suc n) k x {a} {b} {c} {y} {fault} within so_far here = ⊎_elim
-    (λ (before : k < n). refuses_first (step n) (refuses_step step n k x before so_far here))
-    (λ (last : n ≤ k).
-    let e : k ≡ n = omega arith in
-    refuses_next (step n) (subst (λ j. Gives (along j step x) a b y) e so_far)
-    (subst (λ j. FormatRefuses (step j y) b c fault) e here))
-    (cases_lt k n)
+refuses_step step (suc n) k x {a} {b} {c} {y} {fault} within so_far here = elim (cases_lt k n) [
+  | inl before ↦ refuses_first (step n) (refuses_step step n k x before so_far here)
+  | inr last ↦ let e : k ≡ n = omega arith in
+      refuses_next (step n) (subst (λ j. Gives (along j step x) a b y) e so_far)
+      (subst (λ j. FormatRefuses (step j y) b c fault) e here)
+]
 
 -- the exit of a `?`
-pub at_exit : {T : Type 0} (r : Result T ModelFault) (Q : ModelFault → Type 0) (fault : ModelFault) → IsErr r
-    × IsErrAnd r (λ e. e ≡ fault) → Q fault → IfErr r Q
-at_exit (Ok x) Q fault why holds = tt
-at_exit (Err e) Q fault why holds = subst Q (sym why.1) holds
-
 pub refused_at_exit : {X T : Type 0} {f : Format X} {a b : Here} (r : Result T ModelFault) {fault : ModelFault} →
     IsErr r × IsErrAnd r (λ e. e ≡ fault) → FormatRefuses f a b fault → IfErr r (FormatRefuses f a b)
-refused_at_exit (Ok x) why refuses = tt
-refused_at_exit {X} {T} {f} {a} {b} (Err e) why refuses = subst (FormatRefuses f a b) (sym why.1) refuses
+refused_at_exit r why refuses = at_exit r _ _ why refuses
 
 -- a refusal at once
 told_at_once : {X : Type 0} → (fault : ModelFault) (o : Option Left) → option_map (refuse {X = X} fault) o ≡

@@ -18,7 +18,8 @@ use Rattle.ra_report.proofs.PieceLemmas.{words_take}
 pub no_number : (line numbers : List ℕ) (n : ℕ) → line ≡ [] → n ≡ length numbers →
     Prepends [] line (numbers_text (drop n numbers)) (21 * (length numbers - n))
 unfolding numbers_text
-no_number line numbers n none all = rw (all, drop-length) (at_most {m = 0} _ (omega arith) (before_is none (omega arith)))
+no_number line numbers n none all =
+    rw (all, drop-length) (at_most {m = 0} _ (omega arith) (before_is none (omega arith)))
 
 numbers_more : (numbers : List ℕ) (i : ℕ) → i < length numbers →
     numbers_text (drop i numbers) ≡ number_word (get_or numbers i 0) ++ numbers_text (drop (i + 1) numbers)

@@ -65,12 +65,12 @@ module _ {O : Type 0} (taken : O → Option (List ℕ)) (faults : O → ℕ) whe
   pub row_more : (k : ℕ) (f : ℕ → ℕ) (a b c : Gathered O) → AddsText taken faults a b (spaced k f) →
       AddsText taken faults b c (32 ∷ decimal (f k)) → AddsText taken faults a c (spaced (k + 1) f)
   unfolding spaced
-  row_more k f a b c so_far next = subst (λ (j : ℕ). AddsText taken faults a c (spaced j f)) (sym (add-one k))
-      (adds_more taken faults a b c (spaced k f) (32 ∷ decimal (f k)) so_far next)
+  row_more k f a b c so_far next =
+      rw (add-one k) (adds_more taken faults a b c (spaced k f) (32 ∷ decimal (f k)) so_far next)
 
   pub row_all : (k n : ℕ) (f : ℕ → ℕ) (a b : Gathered O) → k ≡ n → AddsText taken faults a b (spaced k f) →
       AddsText taken faults a b (spaced n f)
-  row_all k n f a b all adds = subst (λ (j : ℕ). AddsText taken faults a b (spaced j f)) all adds
+  row_all k n f a b all adds = rw all at adds
 
   -- no item of a group yet, one more, and all
   pub group_none : (count n : ℕ) (each : ℕ → List ℕ) (a b : Gathered O) → count ≡ n →
@@ -91,5 +91,4 @@ module _ {O : Type 0} (taken : O → Option (List ℕ)) (faults : O → ℕ) whe
   pub group_all : (n k : ℕ) (each : ℕ → List ℕ) (a b : Gathered O) → k ≡ n →
       AddsText taken faults a b (group_to n k each) → AddsText taken faults a b (group_text n each)
   unfolding group_to group_text
-  group_all n k each a b all adds =
-      subst (λ (j : ℕ). AddsText taken faults a b (line_text (n ∷ []) ++ end_to_end j each)) all adds
+  group_all n k each a b all adds = rw all at adds

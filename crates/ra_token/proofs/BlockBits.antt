@@ -50,12 +50,13 @@ short bits small none k l one two three =
       bit_at-lt bits (k + 3),
     )
 
--- what the bits tell of bytes
-other_is_set : (piece : List ℕ) (k bit : ℕ) → bit ≡ cond (digit_at piece k) 0 1 → digit_at piece k ≡ false → bit ≡ 1
-other_is_set piece k bit is other = is ∙ ap (λ t. cond t 0 1) other
+module _ (piece : List ℕ) (k bit : ℕ) (is : bit ≡ cond (digit_at piece k) 0 1) where
+  -- what the bits tell of bytes
+  other_is_set : digit_at piece k ≡ false → bit ≡ 1
+  other_is_set other = is ∙ ap (λ t. cond t 0 1) other
 
-digit_is_clear : (piece : List ℕ) (k bit : ℕ) → bit ≡ cond (digit_at piece k) 0 1 → digit_at piece k ≡ true → bit ≡ 0
-digit_is_clear piece k bit is digit = is ∙ ap (λ t. cond t 0 1) digit
+  digit_is_clear : digit_at piece k ≡ true → bit ≡ 0
+  digit_is_clear digit = is ∙ ap (λ t. cond t 0 1) digit
 
 pub set_is_other : (piece : List ℕ) (k bit : ℕ) → bit ≡ cond (digit_at piece k) 0 1 → bit ≡ 1 →
     digit_at piece k ≡ false

@@ -14,13 +14,14 @@ first_test : (is : Bool) (byte : ℕ) (bytes : List ℕ) → eqb byte 10 ≡ is 
 first_test true byte bytes test e = absurd (let none : 0 ≡ suc (length bytes) = ap length e in omega arith)
 first_test false byte bytes test e = record { first = test; rest = ap (drop 1) e }
 
-pub no_end_first : (byte : ℕ) (bytes : List ℕ) → HasNoEnd (byte ∷ bytes) → NoEndFirst byte bytes
-unfolding body_of
-no_end_first byte bytes e = first_test (eqb byte 10) byte bytes refl e
+module _ (byte : ℕ) (bytes : List ℕ) where
+  pub no_end_first : HasNoEnd (byte ∷ bytes) → NoEndFirst byte bytes
+  unfolding body_of
+  no_end_first e = first_test (eqb byte 10) byte bytes refl e
 
-pub no_end_cons : (byte : ℕ) (bytes : List ℕ) → eqb byte 10 ≡ false → HasNoEnd bytes → HasNoEnd (byte ∷ bytes)
-unfolding body_of
-no_end_cons byte bytes test rest = ap (λ (t : Bool). cond t [] (byte ∷ body_of bytes)) test ∙ ap (λ xs. byte ∷ xs) rest
+  pub no_end_cons : eqb byte 10 ≡ false → HasNoEnd bytes → HasNoEnd (byte ∷ bytes)
+  unfolding body_of
+  no_end_cons test rest = ap (λ (t : Bool). cond t [] (byte ∷ body_of bytes)) test ∙ ap (λ xs. byte ∷ xs) rest
 
 pub no_end_none : HasNoEnd []
 unfolding body_of
@@ -44,19 +45,21 @@ body_behind (b ∷ t) x none =
     let p = no_end_first b t none in
     ap (λ (is : Bool). cond is [] (b ∷ body_of (t ++ x))) p.first ∙ ap (λ xs. b ∷ xs) (body_behind t x p.rest)
 
-pub body_before : (t x : List ℕ) → HasNoEnd t → body_of (t ++ 10 ∷ x) ≡ t
-unfolding body_of
-body_before t x none = body_behind t (10 ∷ x) none ∙ append-nil t
+module _ (t : List ℕ) where
+  module _ (x : List ℕ) (none : HasNoEnd t) where
+    pub body_before : body_of (t ++ 10 ∷ x) ≡ t
+    unfolding body_of
+    body_before = body_behind t (10 ∷ x) none ∙ append-nil t
 
-pub no_end_both : (t x : List ℕ) → HasNoEnd t → HasNoEnd x → HasNoEnd (t ++ x)
-no_end_both t x none more = body_behind t x none ∙ ap (λ xs. t ++ xs) more
+    pub no_end_both : HasNoEnd x → HasNoEnd (t ++ x)
+    no_end_both more = body_behind t x none ∙ ap (λ xs. t ++ xs) more
 
-pub no_end_more : (t : List ℕ) (b : ℕ) → HasNoEnd t → eqb b 10 ≡ false → HasNoEnd (t ++ b ∷ [])
-no_end_more t b none test = no_end_both t (b ∷ []) none (no_end_cons b [] test no_end_none)
+    -- bytes that begin with others without LF have at least those in front
+    pub body_at_least : length t ≤ length (body_of (t ++ x))
+    body_at_least = rw (body_behind t x none, length-append) (omega arith)
 
--- bytes that begin with others without LF have at least those in front
-pub body_at_least : (t x : List ℕ) → HasNoEnd t → length t ≤ length (body_of (t ++ x))
-body_at_least t x none = rw (body_behind t x none, length-append) (omega arith)
+  pub no_end_more : (b : ℕ) → HasNoEnd t → eqb b 10 ≡ false → HasNoEnd (t ++ b ∷ [])
+  no_end_more b none test = no_end_both (b ∷ []) none (no_end_cons b [] test no_end_none)
 
 -- how bytes end
 pub ends_behind : (t : List ℕ) → ends_line (t ++ 10 ∷ []) ≡ true
@@ -71,23 +74,23 @@ no_end_ends [] none = refl
 no_end_ends (a ∷ []) none = (no_end_first a [] none).first
 no_end_ends (a ∷ b ∷ t) none = no_end_ends (b ∷ t) (no_end_first a (b ∷ t) none).rest
 
--- the first i bytes have no LF, and the next is none either, or is one
-pub no_end_next : (bytes : List ℕ) (i byte : ℕ) → i < length bytes → byte ≡ get_or bytes i 0 → eqb byte 10 ≡ false →
-    HasNoEnd (take i bytes) → HasNoEnd (take (i + 1) bytes)
-no_end_next bytes i byte within read test none =
-    rw (take_more bytes i 0 within)
-    (no_end_more (take i bytes) (get_or bytes i 0) none (ap (λ (b : ℕ). eqb b 10) (sym read) ∙ test))
+module _ (bytes : List ℕ) (i : ℕ) where
+  -- the first i bytes have no LF, and the next is none either, or is one
+  pub no_end_next : (byte : ℕ) → i < length bytes → byte ≡ get_or bytes i 0 → eqb byte 10 ≡ false →
+      HasNoEnd (take i bytes) → HasNoEnd (take (i + 1) bytes)
+  no_end_next byte within read test none =
+      rw (take_more bytes i 0 within)
+      (no_end_more (take i bytes) (get_or bytes i 0) none (ap (λ (b : ℕ). eqb b 10) (sym read) ∙ test))
 
-cut_at : (bytes : List ℕ) (i : ℕ) → i < length bytes → get_or bytes i 0 ≡ 10 →
-    bytes ≡ take i bytes ++ 10 ∷ drop (suc i) bytes
-cut_at bytes i within is =
-    sym (take-append-drop i bytes)
-    ∙ ap (λ xs. take i bytes ++ xs) (drop-cons bytes i 0 within ∙ ap (λ (b : ℕ). b ∷ drop (suc i) bytes) is)
+  module _ (within : i < length bytes) (is : get_or bytes i 0 ≡ 10) where
+    cut_at : bytes ≡ take i bytes ++ 10 ∷ drop (suc i) bytes
+    cut_at =
+        sym (take-append-drop i bytes)
+        ∙ ap (λ xs. take i bytes ++ xs) (drop-cons bytes i 0 within ∙ ap (λ (b : ℕ). b ∷ drop (suc i) bytes) is)
 
-pub body_found : (bytes : List ℕ) (i : ℕ) → i < length bytes → get_or bytes i 0 ≡ 10 → HasNoEnd (take i bytes) →
-    take i bytes ≡ body_of bytes
-body_found bytes i within is none =
-    sym (ap body_of (cut_at bytes i within is) ∙ body_before (take i bytes) (drop (suc i) bytes) none)
+    pub body_found : HasNoEnd (take i bytes) → take i bytes ≡ body_of bytes
+    body_found none =
+        sym (ap body_of cut_at ∙ body_before (take i bytes) (drop (suc i) bytes) none)
 
 -- one more byte, and how many LF there are
 pub count_none : line_end_count [] ≡ 0
@@ -104,23 +107,25 @@ count_more [] b = omega arith
 count_more (a ∷ t) b =
     count_cons (eqb a 10) (cond (eqb b 10) 1 0) (line_end_count (t ++ b ∷ [])) (line_end_count t) (count_more t b)
 
-one_more : (bytes : List ℕ) (i byte : ℕ) (is : Bool) → i < length bytes → byte ≡ get_or bytes i 0 → eqb byte 10 ≡ is →
-    line_end_count (take (i + 1) bytes) ≡ line_end_count (take i bytes) + cond is 1 0
-one_more bytes i byte is within read test =
-    ap line_end_count (take_more bytes i 0 within)
-    ∙ count_more (take i bytes) (get_or bytes i 0)
-    ∙ ap (λ (t : Bool). line_end_count (take i bytes) + cond t 1 0) (ap (λ (b : ℕ). eqb b 10) (sym read) ∙ test)
+module _ (bytes : List ℕ) (i : ℕ) where
+  module _ (byte : ℕ) where
+    one_more : (is : Bool) → i < length bytes → byte ≡ get_or bytes i 0 → eqb byte 10 ≡ is →
+        line_end_count (take (i + 1) bytes) ≡ line_end_count (take i bytes) + cond is 1 0
+    one_more is within read test =
+        ap line_end_count (take_more bytes i 0 within)
+        ∙ count_more (take i bytes) (get_or bytes i 0)
+        ∙ ap (λ (t : Bool). line_end_count (take i bytes) + cond t 1 0) (ap (λ (b : ℕ). eqb b 10) (sym read) ∙ test)
 
-pub count_next : (bytes : List ℕ) (i byte n : ℕ) → i < length bytes → byte ≡ get_or bytes i 0 → eqb byte 10 ≡ false →
-    n ≡ line_end_count (take i bytes) → n ≡ line_end_count (take (i + 1) bytes)
-count_next bytes i byte n within read test before =
-    let more : line_end_count (take (i + 1) bytes) ≡ line_end_count (take i bytes) + 0 =
-    one_more bytes i byte false within read test in
-    omega arith
+    module _ (n : ℕ) (within : i < length bytes) (read : byte ≡ get_or bytes i 0) where
+      pub count_next : eqb byte 10 ≡ false → n ≡ line_end_count (take i bytes) → n ≡ line_end_count (take (i + 1) bytes)
+      count_next test before =
+          let more : line_end_count (take (i + 1) bytes) ≡ line_end_count (take i bytes) + 0 =
+          one_more false within read test in
+          omega arith
 
-pub count_end : (bytes : List ℕ) (i byte n : ℕ) → i < length bytes → byte ≡ get_or bytes i 0 → eqb byte 10 ≡ true →
-    n ≡ line_end_count (take i bytes) → n + 1 ≡ line_end_count (take (i + 1) bytes)
-count_end bytes i byte n within read test before =
-    let more : line_end_count (take (i + 1) bytes) ≡ line_end_count (take i bytes) + 1 =
-    one_more bytes i byte true within read test in
-    omega arith
+      pub count_end : eqb byte 10 ≡ true → n ≡ line_end_count (take i bytes) →
+          n + 1 ≡ line_end_count (take (i + 1) bytes)
+      count_end test before =
+          let more : line_end_count (take (i + 1) bytes) ≡ line_end_count (take i bytes) + 1 =
+          one_more true within read test in
+          omega arith

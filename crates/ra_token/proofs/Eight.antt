@@ -32,31 +32,34 @@ low_pair p u high small_p small_u small_high =
     let up : bit_and high 65535 ≡ high = omega (arith, and_mask high 16) in
     and_block 32 high 65535 (u * 65536 + p) 65535 (omega arith) (omega arith) ∙ omega (arith, low, up)
 
--- the pairs of eight digits
-twos : (a b c d e f g h : ℕ) → a ≤ 9 → b ≤ 9 → c ≤ 9 → d ≤ 9 → e ≤ 9 → f ≤ 9 → g ≤ 9 → h ≤ 9
-    → bit_and ((a + 256 * (b + 256 * (c + 256 * (d + 256 * (e + 256 * (f + 256 * (g + 256 * h)))))))
-    * 2561 % 18446744073709551616 / 256) 71777214294589695
-    ≡ (((g * 10 + h) * 65536 + (e * 10 + f)) * 65536 + (c * 10 + d)) * 65536 + (a * 10 + b)
-twos a b c d e f g h sa sb sc sd se sf sg sh =
-    let third = (g * 10 + h) * 65536 + ((f * 10 + g) * 256 + (e * 10 + f)) in
-    let second = third * 65536 + ((d * 10 + e) * 256 + (c * 10 + d)) in
-    let first = second * 65536 + ((b * 10 + c) * 256 + (a * 10 + b)) in
-    ap (λ n. bit_and n 71777214294589695) (middle _ a first (10 * h) 8 0 (omega arith) (omega arith) (omega arith))
-    ∙ low_byte (a * 10 + b) (b * 10 + c) second 1095233372415 (omega arith) (omega arith)
-    ∙ ap (λ n. n * 65536 + (a * 10 + b)) (low_byte (c * 10 + d) (d * 10 + e) third 16711935 (omega arith) (omega arith)
-    ∙ ap (λ n. n * 65536 + (c * 10 + d))
-    (low_byte (e * 10 + f) (f * 10 + g) (g * 10 + h) 255 (omega arith) (omega arith)
-    ∙ ap (λ n. n * 65536 + (e * 10 + f)) (last_byte (g * 10 + h) (omega arith))))
+module _ (a b c d : ℕ) where
+  -- the pairs of eight digits
+  twos : (e f g h : ℕ) → a ≤ 9 → b ≤ 9 → c ≤ 9 → d ≤ 9 → e ≤ 9 → f ≤ 9 → g ≤ 9 → h ≤ 9 →
+      bit_and ((a + 256 * (b + 256 * (c + 256 * (d + 256 * (e + 256 * (f + 256 * (g + 256 * h))))))) * 2561 %
+      18446744073709551616 / 256) 71777214294589695 ≡
+      (((g * 10 + h) * 65536 + (e * 10 + f)) * 65536 + (c * 10 + d)) * 65536 + (a * 10 + b)
+  twos e f g h sa sb sc sd se sf sg sh =
+      let third = (g * 10 + h) * 65536 + ((f * 10 + g) * 256 + (e * 10 + f)) in
+      let second = third * 65536 + ((d * 10 + e) * 256 + (c * 10 + d)) in
+      ap (λ n. bit_and n 71777214294589695)
+      (middle _ a (second * 65536 + ((b * 10 + c) * 256 + (a * 10 + b))) (10 * h) 8 0 (omega arith) (omega arith)
+      (omega arith))
+      ∙ low_byte (a * 10 + b) (b * 10 + c) second 1095233372415 (omega arith) (omega arith)
+      ∙ ap (λ n. n * 65536 + (a * 10 + b))
+      (low_byte (c * 10 + d) (d * 10 + e) third 16711935 (omega arith) (omega arith)
+      ∙ ap (λ n. n * 65536 + (c * 10 + d))
+      (low_byte (e * 10 + f) (f * 10 + g) (g * 10 + h) 255 (omega arith) (omega arith)
+      ∙ ap (λ n. n * 65536 + (e * 10 + f)) (last_byte (g * 10 + h) (omega arith))))
 
--- the pairs of four numbers below 100
-fours : (a b c d : ℕ) → a ≤ 99 → b ≤ 99 → c ≤ 99 → d ≤ 99
-    → bit_and (((((d * 65536 + c) * 65536 + b) * 65536 + a) * 6553601) % 18446744073709551616 / 65536) 281470681808895 ≡
-    (c * 100 + d) * 4294967296 + (a * 100 + b)
-fours a b c d sa sb sc sd =
-    ap (λ n. bit_and n 281470681808895)
-    (middle _ a ((c * 100 + d) * 4294967296 + ((b * 100 + c) * 65536 + (a * 100 + b))) (100 * d) 16 0 (omega arith)
-    (omega arith) (omega arith))
-    ∙ low_pair (a * 100 + b) (b * 100 + c) (c * 100 + d) (omega arith) (omega arith) (omega arith)
+  -- the pairs of four numbers below 100
+  fours : a ≤ 99 → b ≤ 99 → c ≤ 99 → d ≤ 99 →
+      bit_and (((((d * 65536 + c) * 65536 + b) * 65536 + a) * 6553601) % 18446744073709551616 / 65536) 281470681808895 ≡
+      (c * 100 + d) * 4294967296 + (a * 100 + b)
+  fours sa sb sc sd =
+      ap (λ n. bit_and n 281470681808895)
+      (middle _ a ((c * 100 + d) * 4294967296 + ((b * 100 + c) * 65536 + (a * 100 + b))) (100 * d) 16 0 (omega arith)
+      (omega arith) (omega arith))
+      ∙ low_pair (a * 100 + b) (b * 100 + c) (c * 100 + d) (omega arith) (omega arith) (omega arith)
 
 eights : (a b : ℕ) → a ≤ 9999 → b ≤ 9999 → (b * 4294967296 + a) * 42949672960001 % 18446744073709551616 / 4294967296 ≡
     a * 10000 + b
@@ -200,25 +203,6 @@ worth_padded z (suc n) x =
       padded_behind z n x,
     )
 
--- from the bytes to what their digits are worth
-
-pub digits_none : (bytes : List ℕ) (from : ℕ) → digits_worth bytes from 0 ≡ 0
-unfolding digits_worth
-digits_none bytes from = refl
-
-pub digits_more : (bytes : List ℕ) (from k : ℕ) → digits_worth bytes from (suc k) ≡ digits_worth bytes from k * 10
-    + (get_or bytes (from + k) 0 - 48)
-unfolding digits_worth
-digits_more bytes from k = refl
-
-digits_are : (bytes : List ℕ) (from n : ℕ) → worth_of (λ k. get_or bytes (from + k) 0 - 48) n ≡
-    digits_worth bytes from n
-digits_are bytes from zero = sym (digits_none bytes from)
-digits_are bytes from (suc n) = omega (arith, digits_are bytes from n, digits_more bytes from n)
-
-byte_first : (bytes : List ℕ) (from : ℕ) → get_or bytes (from + 0) 0 ≡ get_or bytes from 0
-byte_first bytes from = let same : from + 0 ≡ from = omega arith in ap (λ i. get_or bytes i 0) same
-
 -- a digit's byte
 digit_byte : (byte : ℕ) → is_ascii_digit byte ≡ true → byte ≡ byte - 48 + 48
 digit_byte byte digit = grind arith
@@ -235,28 +219,46 @@ JoinsTo bytes from n =
     * (get_or bytes (from + 5) 0 + 256 * (get_or bytes (from + 6) 0 + 256 * get_or bytes (from + 7) 0)))))))
     n) ≡ digits_worth bytes from n
 
-pub joins : (bytes : List ℕ) (from n : ℕ) → 0 < n → n ≤ 8 → ((k : ℕ) → k < n → digit_at bytes (from + k) ≡ true) →
-    JoinsTo bytes from n
-joins bytes from n some few digits =
-    let b : ℕ → ℕ = λ k. get_or bytes (from + k) 0 in
-    let x : ℕ → ℕ = λ k. b k - 48 in
-    let z : ℕ = 8 - n in
-    let whole : n + z ≡ 8 = omega arith in
-    let whole_too : z + n ≡ 8 = omega arith in
-    let small : (k : ℕ) → k < n → x k ≤ 9 = λ k below. digit_below (b k) (digits k below) in
-    let each : (k : ℕ) → k < 8 → padded z x k ≤ 9 = λ k below. padded_small z n k x small (omega arith) in
-    let all : get_or bytes from 0 + 256
-    * (b 1 + 256 * (b 2 + 256 * (b 3 + 256 * (b 4 + 256 * (b 5 + 256 * (b 6 + 256 * b 7)))))) ≡ packed b 8 =
-    omega (arith, byte_first bytes from) in
-    let bytes_are = ap (packed b) (sym whole) ∙ packed_digits b x n z (λ k below. digit_byte (b k) (digits k below)) in
-    let digits_up = moved_up n (packed x n) (above b n z) few (packed_small x n small)
-    ∙ sym (padded_packed z n x) ∙ ap (packed (padded z x)) whole_too in
-    ap (λ e. joined (moved e n)) (all ∙ bytes_are)
-    ∙ ap joined digits_up
-    ∙ joined_digits (padded z x) each
-    ∙ ap (worth_of (padded z x)) (sym whole)
-    ∙ worth_padded z n x
-    ∙ digits_are bytes from n
+module _ (bytes : List ℕ) (from : ℕ) where
+  -- from the bytes to what their digits are worth
+
+  pub digits_none : digits_worth bytes from 0 ≡ 0
+  unfolding digits_worth
+  digits_none = refl
+
+  pub digits_more : (k : ℕ) → digits_worth bytes from (suc k) ≡ digits_worth bytes from k * 10
+      + (get_or bytes (from + k) 0 - 48)
+  unfolding digits_worth
+  digits_more k = refl
+
+  digits_are : (n : ℕ) → worth_of (λ k. get_or bytes (from + k) 0 - 48) n ≡
+      digits_worth bytes from n
+  digits_are zero = sym digits_none
+  digits_are (suc n) = omega (arith, digits_are n, digits_more n)
+
+  byte_first : get_or bytes (from + 0) 0 ≡ get_or bytes from 0
+  byte_first = ap (λ i. get_or bytes i 0) (omega arith)
+
+  pub joins : (n : ℕ) → 0 < n → n ≤ 8 → ((k : ℕ) → k < n → digit_at bytes (from + k) ≡ true) → JoinsTo bytes from n
+  joins n some few digits =
+      let b : ℕ → ℕ = λ k. get_or bytes (from + k) 0 in
+      let x : ℕ → ℕ = λ k. b k - 48 in
+      let z : ℕ = 8 - n in
+      let whole : n + z ≡ 8 = omega arith in
+      let whole_too : z + n ≡ 8 = omega arith in
+      let small : (k : ℕ) → k < n → x k ≤ 9 = λ k below. digit_below (b k) (digits k below) in
+      let each : (k : ℕ) → k < 8 → padded z x k ≤ 9 = λ k below. padded_small z n k x small (omega arith) in
+      let all : get_or bytes from 0 + 256
+      * (b 1 + 256 * (b 2 + 256 * (b 3 + 256 * (b 4 + 256 * (b 5 + 256 * (b 6 + 256 * b 7)))))) ≡ packed b 8 =
+      omega (arith, byte_first) in
+      ap (λ e. joined (moved e n))
+      (all ∙ (ap (packed b) (sym whole) ∙ packed_digits b x n z (λ k below. digit_byte (b k) (digits k below))))
+      ∙ ap joined (moved_up n (packed x n) (above b n z) few (packed_small x n small)
+      ∙ sym (padded_packed z n x) ∙ ap (packed (padded z x)) whole_too)
+      ∙ joined_digits (padded z x) each
+      ∙ ap (worth_of (padded z x)) (sym whole)
+      ∙ worth_padded z n x
+      ∙ digits_are n
 
 -- few digits are worth little, and a run goes on over them
 
@@ -264,10 +266,10 @@ pub digits_small : (piece : List ℕ) (from : ℕ) → (n : ℕ) → ((k : ℕ) 
     digits_worth piece from n < 10 ^ n
 digits_small piece from zero digits = rw (digits_none piece from) (omega arith)
 digits_small piece from (suc n) digits =
-    let before = digits_small piece from n (λ k below. digits k (omega arith)) in
     rw (digits_more piece from n)
     (subst (λ m. digits_worth piece from n * 10 + (get_or piece (from + n) 0 - 48) < 10 ^ m) (add-one n)
-    (near_more (digits_worth piece from n) (get_or piece (from + n) 0 - 48) n before
+    (near_more (digits_worth piece from n) (get_or piece (from + n) 0 - 48) n
+    (digits_small piece from n (λ k below. digits k (omega arith)))
     (digit_below _ (digits n (omega arith)))))
 
 pub digits_run : (all piece : List ℕ) (start first from : ℕ) → (n : ℕ) → start + length piece ≤ 536870912 →
@@ -277,13 +279,13 @@ digits_run all piece start first from zero low is within few digits run =
     let here : start + from ≡ start + (from + 0) = omega arith in
     rw (digits_none piece from) (subst (λ k. InRun all first k 0) here run)
 digits_run all piece start first from (suc n) low is within few digits run =
-    let before = digits_run all piece start first from n low is (omega arith) (omega arith)
-    (λ k below. digits k (omega arith)) run in
-    let small : digits_worth piece from n * 10 + (get_or piece (from + n) 0 - 48) < 10 ^ suc n =
-    subst (λ w. w < 10 ^ suc n) (digits_more piece from n) (digits_small piece from (suc n) digits) in
     let next : from + n + 1 ≡ from + suc n = omega arith in
     rw (digits_more piece from n)
     (subst (λ k. InRun all first (start + k) (digits_worth piece from n * 10 + (get_or piece (from + n) 0 - 48)))
     next
     (piece_more all piece start first (from + n) (digits_worth piece from n) low is (omega arith)
-    (digits n (omega arith)) (near_small _ (suc n) small few) before))
+    (digits n (omega arith))
+    (near_small _ (suc n)
+    (subst (λ w. w < 10 ^ suc n) (digits_more piece from n) (digits_small piece from (suc n) digits)) few)
+    (digits_run all piece start first from n low is (omega arith) (omega arith)
+    (λ k below. digits k (omega arith)) run)))

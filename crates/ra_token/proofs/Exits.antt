@@ -1,13 +1,13 @@
 -- Errors that are passed on, and what is told of a file that was read twice.
-use Rattle.std.proofs.Common.{◌≡◌, ℕ, ◌-◌, ◌^◌, ◌<◌, ◌≤◌, ⊎_elim, List, Option, Some, None, Result, Err, IfSome, slice_get, sym, refl, ◌∙◌, subst, inl, inr, arith}
+use Rattle.std.proofs.Common.{◌≡◌, ℕ, ◌<◌, ◌≤◌, List, Option, Some, None, Result, Err, IfSome, refl, ◌∙◌, subst, inl, inr, arith}
 use Rattle.std.specs.Prelude.{⊤}
 use Rattle.ra_io.specs.Faults.{Rose}
 use Rattle.ra_token.specs.declared.answers.TheConstants.{LARGEST}
 use Rattle.ra_token.specs.declared.answers.TokenFault.{TokenFault}
 use Rattle.ra_token.specs.declared.answers.TokenFault.TheVariants.{ReadFault, TooLarge}
-use Rattle.ra_token.specs.TokenList.{IsAnswer, tokens, tokens_before}
+use Rattle.ra_token.specs.TokenList.{IsAnswer}
 use Rattle.ra_token.specs.Reads.{IsBetween}
-use Rattle.ra_token.specs.Scan.{IsReached, Begins, InRun, IsTaken, IsNext, FaultsAt, token_of}
+use Rattle.ra_token.specs.Scan.{IsReached, Begins, InRun, IsTaken, IsNext, FaultsAt}
 use Rattle.ra_token.proofs.Steps.{reached_here, next_of}
 use Rattle.ra_token.proofs.Scanning.{KeepsFiles}
 
@@ -18,7 +18,10 @@ same_err x y same = cc
 -- a count that had not fallen before it rose
 pub rose_later : (before between now : ℕ) → before ≤ between → Rose between now → Rose before now
 rose_later before between now low rose =
-    ⊎_elim (λ (more : between < now). inl (omega arith)) (λ (last : now ≡ 2 ^ 64 - 1). inr last) rose
+    elim rose [
+      | inl more ↦ inl (omega arith)
+      | inr last ↦ inr last
+    ]
 
 -- nothing that is held changed in one more call, and no fault was forgotten
 pub keeps_on : {held_before held_between held_now : List ℕ → Option (List ℕ)}
@@ -59,7 +62,7 @@ pub told_passes : (told told_now : Option (List ℕ)) (from at to : ℕ) → tol
     IfSome told (λ bytes. IsReached bytes from to)
 told_passes None told_now from at to same reached passes = tt
 told_passes (Some bytes) told_now from at to same reached passes =
-    let more = subst (λ t. IfSome t (λ xs. IsBetween xs at → IsReached xs at to)) same passes reached.between in
+    let more = (rw same at passes) reached.between in
     record { between = more.between; given = more.given ∙ reached.given }
 
 -- what holds from between two tokens on
@@ -71,9 +74,9 @@ told_given P Q (Some bytes) follows holds = follows holds
 -- a token that begins at a place begins there, seen from the place itself
 pub told_first : (told told_now : Option (List ℕ)) (from at : ℕ) → told_now ≡ told →
     IfSome told (λ bytes. Begins bytes from at) → IfSome told_now (λ bytes. Begins bytes at at)
-told_first None told_now from at same begins = subst (λ t. IfSome t (λ bytes. Begins bytes at at)) (sym same) tt
-told_first (Some bytes) told_now from at same begins = subst (λ t. IfSome t (λ xs. Begins xs at at)) (sym same)
-    (record { reached = reached_here bytes at begins.reached.between; digit = begins.digit })
+told_first None told_now from at same begins = rw same tt
+told_first (Some bytes) told_now from at same begins =
+    rw same (record { reached = reached_here bytes at begins.reached.between; digit = begins.digit })
 
 -- the run that was taken there is the next one
 pub told_next : (told told_now : Option (List ℕ)) (from start place value : ℕ) → told_now ≡ told →
@@ -82,23 +85,7 @@ pub told_next : (told told_now : Option (List ℕ)) (from start place value : �
 told_next None told_now from start place value same begins taken = tt
 told_next (Some bytes) told_now from start place value same begins taken =
     next_of bytes from start place value begins.reached
-    (subst (λ t. IfSome t (λ xs. IsTaken xs start place value)) same taken)
-
-token_there : (told : Option (List ℕ)) (at start place value : ℕ) →
-    IfSome told (λ bytes. IsNext bytes at start place value) →
-    IfSome told (λ bytes. slice_get (tokens bytes) (tokens_before bytes at) ≡ Some (token_of value start))
-token_there None at start place value next = tt
-token_there (Some bytes) at start place value next = next.token
-
--- what comes next is the next token
-pub told_token : (told told_now : Option (List ℕ)) (from at start place value : ℕ) → told_now ≡ told → at ≡ from →
-    IfSome told_now (λ bytes. IsNext bytes at start place value) →
-    IfSome told (λ bytes. slice_get (tokens bytes) (tokens_before bytes from) ≡ Some (token_of value start))
-told_token told told_now from at start place value same here next =
-    subst (λ k. IfSome told (λ bytes. slice_get (tokens bytes) (tokens_before bytes k) ≡ Some (token_of value start)))
-    here
-    (subst (λ t. IfSome t (λ bytes. slice_get (tokens bytes) (tokens_before bytes at) ≡ Some (token_of value start)))
-    same (token_there told_now at start place value next))
+    (rw same at taken)
 
 -- a fault there comes next
 pub told_refused : (told told_now : Option (List ℕ)) (from at : ℕ) (fault : TokenFault) → told_now ≡ told →
@@ -107,7 +94,7 @@ pub told_refused : (told told_now : Option (List ℕ)) (from at : ℕ) (fault : 
 told_refused None told_now from at fault same begins refused = tt
 told_refused (Some bytes) told_now from at fault same begins refused =
     subst (λ n. IsAnswer bytes n (Err fault)) begins.reached.given
-    (subst (λ t. IfSome t (λ xs. FaultsAt xs at fault)) same refused)
+    (rw same at refused)
 
 -- a run that goes on over what was read again, and one that gets too large there
 pub told_run_on : (told told_now : Option (List ℕ)) (first at value to more : ℕ) → told_now ≡ told →
@@ -116,8 +103,7 @@ pub told_run_on : (told told_now : Option (List ℕ)) (first at value to more : 
     more ≤ LARGEST → IfSome told (λ bytes. InRun bytes first to more)
 told_run_on None told_now first at value to more same run goes_on small = tt
 told_run_on (Some bytes) told_now first at value to more same run goes_on small =
-    subst (λ t. IfSome t (λ xs. (start : ℕ) → InRun xs start at value → more ≤ LARGEST → InRun xs start to more)) same
-    goes_on first run small
+    (rw same at goes_on) first run small
 
 pub told_run_large : (told told_now : Option (List ℕ)) (first at value more : ℕ) → told_now ≡ told →
     IfSome told (λ bytes. InRun bytes first at value) →
@@ -126,5 +112,4 @@ pub told_run_large : (told told_now : Option (List ℕ)) (first at value more : 
     IfSome told (λ bytes. FaultsAt bytes first (TooLarge first))
 told_run_large None told_now first at value more same run too_large large = tt
 told_run_large (Some bytes) told_now first at value more same run too_large large =
-    subst (λ t. IfSome t (λ xs. (start : ℕ) → InRun xs start at value → LARGEST < more →
-    FaultsAt xs start (TooLarge start))) same too_large first run large
+    (rw same at too_large) first run large

@@ -52,120 +52,123 @@ one_first : (other : Option ℕ) → slice_get (one_or_none other) 0 ≡ other
 one_first None = refl
 one_first (Some b) = refl
 
-pub behind_given : (expected text : List ℕ) (agreed faults : ℕ) (other : Option ℕ) → ForNone other (faults ≡ 0) →
-    WasPut (given_of expected agreed other) faults text → Behind (take agreed expected) other text
-behind_given expected text agreed faults other sound (inl whole) = record {
-  rest = one_or_none other;
-  split = sym whole;
-  first = one_first other;
-}
-behind_given expected text agreed faults None sound (inr part) =
-    absurd (let none : faults ≡ 0 = sound refl in let some : 0 < faults = part.2 in omega arith)
-behind_given expected text agreed faults (Some b) sound (inr part) = record {
-  rest = b ∷ drop part.0 text;
-  split = sym (take-append-drop part.0 text) ∙ ap (λ xs. xs ++ drop part.0 text) (sym part.1)
-      ∙ append_assoc (take agreed expected) (b ∷ []) (drop part.0 text);
-  first = refl;
-}
-
--- the first byte after those that agree is the one that was expected only if all agree
-first_left : (expected : List ℕ) (agreed : ℕ) (b : ℕ) → slice_get (drop agreed expected) 0 ≡ Some b →
-    is_byte_at expected agreed b ≡ true
-first_left expected agreed b e =
-    let inside : 0 < length (drop agreed expected) = slice_get_within (drop agreed expected) 0 b e in
-    let within : agreed < length expected = omega (arith, length-drop agreed expected) in
-    let here : get_or expected agreed 0 ≡ b = ap (λ k. get_or expected k 0) {x = agreed} {y = agreed + 0} (omega arith)
-    ∙ sym (get_or-drop agreed expected 0 0) ∙ get_or_from_slice_get (drop agreed expected) 0 b 0 e in
-    ap (λ (t : Bool). t && nat_eq (get_or expected agreed 0) b) (lt-ltb agreed (length expected) within)
-    ∙ eq-eqb (get_or expected agreed 0) b here
-
-none_left : (expected : List ℕ) (agreed : ℕ) → slice_get (drop agreed expected) 0 ≡ None → length expected ≤ agreed
-none_left expected agreed e = past (drop agreed expected) (length-drop agreed expected) e
-  where
-    past : (xs : List ℕ) → length xs ≡ length expected - agreed → slice_get xs 0 ≡ None → length expected ≤ agreed
-    past [] long none = let l : 0 ≡ length expected - agreed = long in omega arith
-    past (x ∷ xs) long none = absurd (none-some x (sym none))
-
-pub all_agree : (expected : List ℕ) (agreed : ℕ) (other : Option ℕ) → agreed ≤ length expected →
-    ForSome other (λ b. is_byte_at expected agreed b ≡ false) → other ≡ slice_get (drop agreed expected) 0 →
-    (other ≡ None) × (agreed ≡ length expected)
-all_agree expected agreed None within differs e =
-    (refl, let past : length expected ≤ agreed = none_left expected agreed (sym e) in omega arith)
-all_agree expected agreed (Some b) within differs e =
-    absurd (let no : is_byte_at expected agreed b ≡ false = differs b refl in let yes : is_byte_at expected agreed b ≡
-    true = first_left expected agreed b (sym e) in (cc))
-
--- if the text is what is expected, all agree
-pub same_agrees : (expected text : List ℕ) (agreed faults : ℕ) (other : Option ℕ) → agreed ≤ length expected →
-    ForSome other (λ b. is_byte_at expected agreed b ≡ false) → ForNone other (faults ≡ 0) →
-    WasPut (given_of expected agreed other) faults text → text ≡ expected → (other ≡ None) × (agreed ≡ length expected)
-same_agrees expected text agreed faults other within differs sound given same =
-    let b = behind_given expected text agreed faults other sound given in
-    let left : b.rest ≡ drop agreed expected = append_cancel_left (take agreed expected) b.rest (drop agreed expected)
-    (sym b.split ∙ same ∙ sym (take-append-drop agreed expected)) in
-    all_agree expected agreed other within differs (sym b.first ∙ ap (λ xs. slice_get xs 0) left)
-
 -- and if all agree, it is
 none_first : (xs : List ℕ) → slice_get xs 0 ≡ None → xs ≡ []
 none_first [] e = refl
 none_first (x ∷ xs) e = absurd (none-some x (sym e))
 
-pub agrees_same : (expected text : List ℕ) (agreed faults : ℕ) (other : Option ℕ) → ForNone other (faults ≡ 0) →
-    WasPut (given_of expected agreed other) faults text → other ≡ None → agreed ≡ length expected → text ≡ expected
-agrees_same expected text agreed faults other sound given none all =
-    let b = behind_given expected text agreed faults other sound given in
-    b.split ∙ ap (λ xs. take agreed expected ++ xs) (none_first b.rest (b.first ∙ none))
-    ∙ append-nil (take agreed expected) ∙ ap (λ k. take k expected) all ∙ take-length expected
-
--- else the first line that differs is where the front ends that agrees
-pub unlike_behind : (expected text : List ℕ) (agreed faults : ℕ) (other : Option ℕ) → agreed ≤ length expected →
-    ForSome other (λ b. is_byte_at expected agreed b ≡ false) → ForNone other (faults ≡ 0) →
-    WasPut (given_of expected agreed other) faults text → text ≢ expected →
-    FirstUnlike text expected (line_end_count (take agreed expected))
-unlike_behind expected text agreed faults other within differs sound given unlike =
-    let b = behind_given expected text agreed faults other sound given in
-    let heads : slice_get b.rest 0 ≢ slice_get (drop agreed expected) 0 =
-    λ e. let all = all_agree expected agreed other within differs (sym b.first ∙ e) in
-    unlike (agrees_same expected text agreed faults other sound given all.0 all.1) in
-    let u = unlike_at (take agreed expected) b.rest (drop agreed expected) heads in
-    subst (λ a. FirstUnlike a expected (line_end_count (take agreed expected))) (sym b.split)
-    (subst (λ e. FirstUnlike (take agreed expected ++ b.rest) e (line_end_count (take agreed expected)))
-    (take-append-drop agreed expected) u)
-
 -- the two texts in the other order
 pub unlike_sym : (a b : List ℕ) (n : ℕ) → FirstUnlike a b n → FirstUnlike b a n
 unlike_sym a b n u = record { before = λ m less. sym (u.before m less); here = λ e. u.here (sym e) }
 
--- what is taken of a piece
-given_same : (expected piece : List ℕ) (agreed same : ℕ) (other : Option ℕ) → other ≡ None →
-    take same (drop agreed expected) ≡ take same piece → given_of expected (agreed + same) other ≡
-    given_of expected agreed other ++ take same piece
-given_same expected piece agreed same None none e =
-    append-nil (take (agreed + same) expected) ∙ take-add agreed same expected ∙ ap (λ xs. take agreed expected ++ xs) e
-    ∙ ap (λ xs. xs ++ take same piece) (sym (append-nil (take agreed expected)))
-given_same expected piece agreed same (Some b) none e = absurd (none-some b (sym none))
+module _ (expected : List ℕ) where
+  module _ (agreed : ℕ) where
+    -- the first byte after those that agree is the one that was expected only if all agree
+    first_left : (b : ℕ) → slice_get (drop agreed expected) 0 ≡ Some b → is_byte_at expected agreed b ≡ true
+    first_left b e =
+        let inside : 0 < length (drop agreed expected) = slice_get_within (drop agreed expected) 0 b e in
+        let within : agreed < length expected = omega (arith, length-drop agreed expected) in
+        ap (λ (t : Bool). t && nat_eq (get_or expected agreed 0) b) (lt-ltb agreed (length expected) within)
+        ∙ eq-eqb (get_or expected agreed 0) b (ap (λ k. get_or expected k 0) {x = agreed} {y = agreed + 0} (omega arith)
+        ∙ sym (get_or-drop agreed expected 0 0) ∙ get_or_from_slice_get (drop agreed expected) 0 b 0 e)
 
-given_other : (expected piece : List ℕ) (agreed same byte : ℕ) (other : Option ℕ) → other ≡ None → same < length piece →
-    byte ≡ get_or piece same 0 → take same (drop agreed expected) ≡ take same piece →
-    given_of expected (agreed + same) (Some byte) ≡ given_of expected agreed other ++ take (same + 1) piece
-given_other expected piece agreed same byte other none within read e =
-    ap (λ xs. xs ++ byte ∷ []) (sym (append-nil (take (agreed + same) expected))
-    ∙ given_same expected piece agreed same None refl e)
-    ∙ append_assoc (given_of expected agreed None) (take same piece) (byte ∷ [])
-    ∙ ap (λ xs. given_of expected agreed None ++ xs) (ap (λ (b : ℕ). take same piece ++ b ∷ []) read
-    ∙ sym (take_more piece same 0 within))
-    ∙ ap (λ o. given_of expected agreed o ++ take (same + 1) piece) (sym none)
+    none_left : slice_get (drop agreed expected) 0 ≡ None → length expected ≤ agreed
+    none_left e = past (drop agreed expected) (length-drop agreed expected) e
+      where
+        past : (xs : List ℕ) → length xs ≡ length expected - agreed → slice_get xs 0 ≡ None → length expected ≤ agreed
+        past [] long none = let l : 0 ≡ length expected - agreed = long in omega arith
+        past (x ∷ xs) long none = absurd (none-some x (sym none))
 
-pub taken_same : (expected piece : List ℕ) (agreed same : ℕ) (other : Option ℕ) → other ≡ None →
-    take same (drop agreed expected) ≡ take same piece → taken_of expected (agreed + same) other ≡
-    taken_of expected agreed other ++ take same piece
-taken_same expected piece agreed same other none e =
-    ap (λ xs. opened expected ++ xs) (given_same expected piece agreed same other none e)
-    ∙ sym (append_assoc (opened expected) (given_of expected agreed other) (take same piece))
+    pub all_agree : (other : Option ℕ) → agreed ≤ length expected →
+        ForSome other (λ b. is_byte_at expected agreed b ≡ false) → other ≡ slice_get (drop agreed expected) 0 →
+        (other ≡ None) × (agreed ≡ length expected)
+    all_agree None within differs e =
+        (refl, let past : length expected ≤ agreed = none_left (sym e) in omega arith)
+    all_agree (Some b) within differs e =
+        absurd (let no : is_byte_at expected agreed b ≡ false = differs b refl in
+        let yes : is_byte_at expected agreed b ≡
+        true = first_left b (sym e) in (cc))
 
-pub taken_other : (expected piece : List ℕ) (agreed same byte : ℕ) (other : Option ℕ) → other ≡ None →
-    same < length piece → byte ≡ get_or piece same 0 → take same (drop agreed expected) ≡ take same piece →
-    taken_of expected (agreed + same) (Some byte) ≡ taken_of expected agreed other ++ take (same + 1) piece
-taken_other expected piece agreed same byte other none within read e =
-    ap (λ xs. opened expected ++ xs) (given_other expected piece agreed same byte other none within read e)
-    ∙ sym (append_assoc (opened expected) (given_of expected agreed other) (take (same + 1) piece))
+  module _ (text : List ℕ) (agreed faults : ℕ) where
+    pub behind_given : (other : Option ℕ) → ForNone other (faults ≡ 0) →
+        WasPut (given_of expected agreed other) faults text → Behind (take agreed expected) other text
+    behind_given other sound (inl whole) = record {
+      rest = one_or_none other;
+      split = sym whole;
+      first = one_first other;
+    }
+    behind_given None sound (inr part) =
+        absurd (let none : faults ≡ 0 = sound refl in let some : 0 < faults = part.2 in omega arith)
+    behind_given (Some b) sound (inr part) = record {
+      rest = b ∷ drop part.0 text;
+      split = sym (take-append-drop part.0 text) ∙ ap (λ xs. xs ++ drop part.0 text) (sym part.1)
+          ∙ append_assoc (take agreed expected) (b ∷ []) (drop part.0 text);
+      first = refl;
+    }
+
+    module _ (other : Option ℕ) where
+      -- if the text is what is expected, all agree
+      pub same_agrees : agreed ≤ length expected → ForSome other (λ b. is_byte_at expected agreed b ≡ false) →
+          ForNone other (faults ≡ 0) → WasPut (given_of expected agreed other) faults text → text ≡ expected →
+          (other ≡ None) × (agreed ≡ length expected)
+      same_agrees within differs sound given same =
+          let b = behind_given other sound given in
+          all_agree agreed other within differs
+          (sym b.first
+          ∙ ap (λ xs. slice_get xs 0) (append_cancel_left (take agreed expected) b.rest (drop agreed expected)
+          (sym b.split ∙ same ∙ sym (take-append-drop agreed expected))))
+
+      pub agrees_same : ForNone other (faults ≡ 0) → WasPut (given_of expected agreed other) faults text →
+          other ≡ None → agreed ≡ length expected → text ≡ expected
+      agrees_same sound given none all =
+          let b = behind_given other sound given in
+          b.split ∙ ap (λ xs. take agreed expected ++ xs) (none_first b.rest (b.first ∙ none))
+          ∙ append-nil (take agreed expected) ∙ ap (λ k. take k expected) all ∙ take-length expected
+
+      -- else the first line that differs is where the front ends that agrees
+      pub unlike_behind : agreed ≤ length expected → ForSome other (λ b. is_byte_at expected agreed b ≡ false) →
+          ForNone other (faults ≡ 0) → WasPut (given_of expected agreed other) faults text → text ≢ expected →
+          FirstUnlike text expected (line_end_count (take agreed expected))
+      unlike_behind within differs sound given unlike =
+          let b = behind_given other sound given in
+          let heads : slice_get b.rest 0 ≢ slice_get (drop agreed expected) 0 =
+          λ e. let all = all_agree agreed other within differs (sym b.first ∙ e) in
+          unlike (agrees_same sound given all.0 all.1) in
+          subst (λ a. FirstUnlike a expected (line_end_count (take agreed expected))) (sym b.split)
+          (subst (λ e. FirstUnlike (take agreed expected ++ b.rest) e (line_end_count (take agreed expected)))
+          (take-append-drop agreed expected) (unlike_at (take agreed expected) b.rest (drop agreed expected) heads))
+
+  module _ (piece : List ℕ) (agreed : ℕ) where
+    module _ (same : ℕ) where
+      -- what is taken of a piece
+      given_same : (other : Option ℕ) → other ≡ None → take same (drop agreed expected) ≡ take same piece →
+          given_of expected (agreed + same) other ≡ given_of expected agreed other ++ take same piece
+      given_same None none e =
+          append-nil (take (agreed + same) expected) ∙ take-add agreed same expected
+          ∙ ap (λ xs. take agreed expected ++ xs) e
+          ∙ ap (λ xs. xs ++ take same piece) (sym (append-nil (take agreed expected)))
+      given_same (Some b) none e = absurd (none-some b (sym none))
+
+      given_other : (byte : ℕ) (other : Option ℕ) → other ≡ None → same < length piece → byte ≡ get_or piece same 0 →
+          take same (drop agreed expected) ≡ take same piece →
+          given_of expected (agreed + same) (Some byte) ≡ given_of expected agreed other ++ take (same + 1) piece
+      given_other byte other none within read e =
+          ap (λ xs. xs ++ byte ∷ []) (sym (append-nil (take (agreed + same) expected))
+          ∙ given_same None refl e)
+          ∙ append_assoc (given_of expected agreed None) (take same piece) (byte ∷ [])
+          ∙ ap (λ xs. given_of expected agreed None ++ xs) (ap (λ (b : ℕ). take same piece ++ b ∷ []) read
+          ∙ sym (take_more piece same 0 within))
+          ∙ ap (λ o. given_of expected agreed o ++ take (same + 1) piece) (sym none)
+
+      pub taken_same : (other : Option ℕ) → other ≡ None → take same (drop agreed expected) ≡ take same piece →
+          taken_of expected (agreed + same) other ≡ taken_of expected agreed other ++ take same piece
+      taken_same other none e =
+          ap (λ xs. opened expected ++ xs) (given_same other none e)
+          ∙ sym (append_assoc (opened expected) (given_of expected agreed other) (take same piece))
+
+      pub taken_other : (byte : ℕ) (other : Option ℕ) → other ≡ None → same < length piece →
+          byte ≡ get_or piece same 0 → take same (drop agreed expected) ≡ take same piece →
+          taken_of expected (agreed + same) (Some byte) ≡ taken_of expected agreed other ++ take (same + 1) piece
+      taken_other byte other none within read e =
+          ap (λ xs. opened expected ++ xs) (given_other byte other none within read e)
+          ∙ sym (append_assoc (opened expected) (given_of expected agreed other) (take (same + 1) piece))

@@ -1,5 +1,5 @@
 -- What a fetch tells of the bytes of a file.
-use Rattle.std.proofs.Common.{◌≡◌, ◌↔◌, ℕ, ◌-◌, ◌<◌, ◌≤◌, ◌⊎◌, List, length, take, drop, get_or, slice_get, Option, Some, None, IfSome, sym, ap, refl, ◌∙◌, subst, ⊎_elim, arith, length-take, take-take}
+use Rattle.std.proofs.Common.{inl, inr, ◌≡◌, ◌↔◌, ℕ, ◌-◌, ◌<◌, ◌≤◌, ◌⊎◌, List, length, take, drop, get_or, slice_get, Option, Some, None, IfSome, sym, ap, refl, ◌∙◌, arith, length-take, take-take}
 use Rattle.std.proofs.lemmas.List.{get_or_read}
 use Rattle.std.proofs.lemmas.Option.{slice_get_past}
 use Rattle.ra_token.specs.Reads.{IsPiece}
@@ -18,10 +18,9 @@ pub told_piece : (told told_now : Option (List ℕ)) (fetched items : List ℕ) 
     items ≡ fetched → IfSome told (λ bytes. take n fetched ≡ take n (drop at bytes)) → filled ≤ n → n ≤ length fetched →
     IfSome told_now (λ bytes. IsPiece bytes at (take filled items))
 told_piece None told_now fetched items at n filled same is read few within =
-    subst (λ t. IfSome t (λ bytes. IsPiece bytes at (take filled items))) (sym same) tt
+    rw same tt
 told_piece (Some bytes) told_now fetched items at n filled same is read few within =
-    subst (λ t. IfSome t (λ xs. IsPiece xs at (take filled items))) (sym same)
-    (subst (λ xs. IsPiece bytes at (take filled xs)) (sym is) (piece_fetched bytes fetched at n filled read few within))
+    rw (same, is) (piece_fetched bytes fetched at n filled read few within)
 
 -- the first of the fetched bytes is the byte of the file
 pub told_front : (told : Option (List ℕ)) (fetched items : List ℕ) (at n byte : ℕ) → items ≡ fetched →
@@ -46,7 +45,7 @@ pub told_past : (told : Option (List ℕ)) (room at n : ℕ) →
     IfSome told (λ bytes. (n ≡ 0) ↔ ((room ≡ 0) ⊎ (length bytes ≤ at))) → 0 < room → n ≡ 0 →
     IfSome told (λ bytes. None ≡ slice_get bytes at)
 told_past None room at n end some nothing = tt
-told_past (Some bytes) room at n end some nothing = ⊎_elim
-    (λ (full : room ≡ 0). absurd (omega arith))
-    (λ (past : length bytes ≤ at). sym (slice_get_past bytes at past))
-    (end.0 nothing)
+told_past (Some bytes) room at n end some nothing = elim (end.0 nothing) [
+  | inl full ↦ absurd (omega arith)
+  | inr past ↦ sym (slice_get_past bytes at past)
+]

@@ -45,18 +45,19 @@ others_bit bytes from k within small below_64 =
     ∙ ap (λ n. cond (ltb 9 ((n + 208) % 256)) 1 0) (get_or-chunk from 64 bytes k 0 below_64)
     ∙ told (get_or bytes (from + k) 0) (small (from + k))
 
-blank_32 : (byte : ℕ) → byte ≡ 32 → is_blank byte ≡ true
-blank_32 byte is = ap is_blank is
+module _ (byte : ℕ) where
+  blank_32 : byte ≡ 32 → is_blank byte ≡ true
+  blank_32 is = ap is_blank is
 
-blank_10 : (byte : ℕ) → byte ≡ 10 → is_blank byte ≡ true
-blank_10 byte is = ap is_blank is
+  blank_10 : byte ≡ 10 → is_blank byte ≡ true
+  blank_10 is = ap is_blank is
 
--- a lane that is one of two blanks
-blank_of : (byte : ℕ) (space line : Bool) → eqb byte 32 ≡ space → eqb byte 10 ≡ line →
-    cond {A = ℕ} (leb 128 (bit_or (cond space 255 0) (cond line 255 0))) 1 0 ≡ 1 → is_blank byte ≡ true
-blank_of byte true line is_space is_line set = blank_32 byte (eqb-true byte 32 is_space)
-blank_of byte false true is_space is_line set = blank_10 byte (eqb-true byte 10 is_line)
-blank_of byte false false is_space is_line set = absurd (omega (arith, set))
+  -- a lane that is one of two blanks
+  blank_of : (space line : Bool) → eqb byte 32 ≡ space → eqb byte 10 ≡ line →
+      cond {A = ℕ} (leb 128 (bit_or (cond space 255 0) (cond line 255 0))) 1 0 ≡ 1 → is_blank byte ≡ true
+  blank_of true line is_space is_line set = blank_32 (eqb-true byte 32 is_space)
+  blank_of false true is_space is_line set = blank_10 (eqb-true byte 10 is_line)
+  blank_of false false is_space is_line set = absurd (omega (arith, set))
 
 pub spaces_bit : (lanes : List ℕ) (k : ℕ) → length lanes ≡ 64 → k < 64
     → bit_at (mask_l (map (top 7)

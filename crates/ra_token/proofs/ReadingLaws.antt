@@ -1,5 +1,5 @@
 -- Bytes that are given piece by piece, up to the end of a line.
-use Rattle.std.proofs.Common.{◌≡◌, ℕ, zero, suc, ◌+◌, ◌-◌, ◌<◌, ◌≤◌, List, [], ◌∷◌, ◌++◌, length, take, drop, get_or, Option, Some, None, IfSome, refl, sym, ◌∙◌, ap, arith, subst, append_assoc, length-append, length-take, length-drop, take-add, ⊎_elim}
+use Rattle.std.proofs.Common.{inl, inr, ◌≡◌, ℕ, zero, suc, ◌+◌, ◌-◌, ◌<◌, ◌≤◌, List, [], ◌∷◌, ◌++◌, length, take, drop, get_or, Option, Some, None, IfSome, refl, sym, ◌∙◌, ap, arith, subst, append_assoc, length-append, length-take, length-drop, take-add}
 use Rattle.std.proofs.lemmas.List.{append-nil, take-append-drop, drop-take, drop-drop, take-take, take_more}
 use Rattle.std.proofs.lemmas.Bool.{cases_lt}
 use Rattle.ra_token.specs.Lines.{lines_of, body_of, HasNoEnd}
@@ -44,53 +44,38 @@ pub told_ready : (told told_now : Option (List ℕ)) (place given now : ℕ) (be
     next)
     → IfSome told (λ bytes. GaveNoEnd bytes place given before line next)
 told_ready None told_now place given now before line ready next same here gave fetched = tt
-told_ready (Some bytes) None place given now before line ready next same here gave fetched =
-    absurd (let e : None ≡ Some bytes = same in (cc))
-told_ready (Some bytes) (Some others) place given now before line ready next same here gave fetched = record {
-  gave = record { text = gave.gave.text; front = there (ap (λ o. bytes_in o) same) here fetched };
-  unended = gave.unended;
-}
-  where
-    bytes_in : Option (List ℕ) → List ℕ
-    bytes_in None = []
-    bytes_in (Some xs) = xs
+told_ready (Some bytes) told_now place given now before line ready next same here gave fetched =
+    let holds = rw (same, here) at fetched in
+    record { gave = record { text = gave.gave.text; front = holds gave.gave.front }; unended = gave.unended }
 
-    there : others ≡ bytes → now ≡ place + given →
-        (take (length ready) (drop now others) ≡ ready → take (length next) (drop now others) ≡ next) →
-        take (length next) (drop (place + given) bytes) ≡ next
-    there is at holds = subst (λ k. take (length next) (drop k bytes) ≡ next) at
-        (subst (λ xs. take (length next) (drop now xs) ≡ next) is
-        (holds (subst (λ xs. take (length ready) (drop now xs) ≡ ready) (sym is)
-        (subst (λ k. take (length ready) (drop k bytes) ≡ ready) (sym at) gave.gave.front))))
+module _ (bytes : List ℕ) where
+  -- the next bytes are the first of those that are ready
+  pub next_bytes : (place given n : ℕ) (ready : List ℕ) → n ≤ length ready →
+      take (length ready) (drop (place + given) bytes) ≡ ready →
+      take (given + n) (drop place bytes) ≡ take given (drop place bytes) ++ take n ready
+  next_bytes place given n ready within front =
+      take-add given n (drop place bytes)
+      ∙ ap (λ xs. take given (drop place bytes) ++ xs)
+      (ap (take n) (drop-drop given place bytes) ∙ sym (take-take n (length ready) (drop (place + given) bytes) within)
+      ∙ ap (take n) front)
 
--- the next bytes are the first of those that are ready
-pub next_bytes : (bytes : List ℕ) (place given n : ℕ) (ready : List ℕ) → n ≤ length ready →
-    take (length ready) (drop (place + given) bytes) ≡ ready → take (given + n) (drop place bytes) ≡
-    take given (drop place bytes) ++ take n ready
-next_bytes bytes place given n ready within front =
-    take-add given n (drop place bytes)
-    ∙ ap (λ xs. take given (drop place bytes) ++ xs)
-    (ap (take n) (drop-drop given place bytes) ∙ sym (take-take n (length ready) (drop (place + given) bytes) within)
-    ∙ ap (take n) front)
+  left_ready : (from n : ℕ) (ready : List ℕ) → n ≤ length ready → take (length ready) (drop from bytes) ≡
+      ready → take (length (drop n ready)) (drop (from + n) bytes) ≡ drop n ready
+  left_ready from n ready within front =
+      let long : n + length (drop n ready) ≡ length ready = omega (arith, length-drop n ready) in
+      ap (take (length (drop n ready))) (sym (drop-drop n from bytes))
+      ∙ sym (drop-take n (length (drop n ready)) (drop from bytes))
+      ∙ ap (λ k. drop n (take k (drop from bytes))) long
+      ∙ ap (drop n) front
 
-left_ready : (bytes : List ℕ) (from n : ℕ) (ready : List ℕ) → n ≤ length ready → take (length ready) (drop from bytes) ≡
-    ready → take (length (drop n ready)) (drop (from + n) bytes) ≡ drop n ready
-left_ready bytes from n ready within front =
-    let long : n + length (drop n ready) ≡ length ready = omega (arith, length-drop n ready) in
-    ap (take (length (drop n ready))) (sym (drop-drop n from bytes))
-    ∙ sym (drop-take n (length (drop n ready)) (drop from bytes))
-    ∙ ap (λ k. drop n (take k (drop from bytes))) long
-    ∙ ap (drop n) front
-
-more : (bytes : List ℕ) (place given n : ℕ) (before line ready after : List ℕ) → n ≤ length ready →
-    after ≡ line ++ take n ready → Gave bytes place given before line ready →
-    Gave bytes place (given + n) before after (drop n ready)
-more bytes place given n before line ready after within is gave = record {
-  text = is ∙ ap (λ xs. xs ++ take n ready) gave.text ∙ append_assoc before (take given (drop place bytes))
-      (take n ready) ∙ ap (λ xs. before ++ xs) (sym (next_bytes bytes place given n ready within gave.front));
-  front = subst (λ k. take (length (drop n ready)) (drop k bytes) ≡ drop n ready) {x = place + given + n}
-      {y = place + (given + n)} (omega arith) (left_ready bytes (place + given) n ready within gave.front);
-}
+  more : (place given n : ℕ) (before line ready after : List ℕ) → n ≤ length ready → after ≡ line ++ take n ready →
+      Gave bytes place given before line ready → Gave bytes place (given + n) before after (drop n ready)
+  more place given n before line ready after within is gave = record {
+    text = is ∙ ap (λ xs. xs ++ take n ready) gave.text ∙ append_assoc before (take given (drop place bytes))
+        (take n ready) ∙ ap (λ xs. before ++ xs) (sym (next_bytes place given n ready within gave.front));
+    front = subst (λ k. take (length (drop n ready)) (drop k bytes) ≡ drop n ready) {x = place + given + n}
+        {y = place + (given + n)} (omega arith) (left_ready (place + given) n ready within gave.front);
+  }
 
 pub told_more : (told : Option (List ℕ)) (place given total n : ℕ) (before line ready after left : List ℕ) →
     total ≡ given + n → n ≤ length ready → after ≡ line ++ take n ready → left ≡ drop n ready → HasNoEnd (take n ready)
@@ -98,12 +83,11 @@ pub told_more : (told : Option (List ℕ)) (place given total n : ℕ) (before l
     IfSome told (λ bytes. GaveNoEnd bytes place total before after left)
 told_more None place given total n before line ready after left sum within is rest none gave = tt
 told_more (Some bytes) place given total n before line ready after left sum within is rest none gave =
-    subst (λ k. GaveNoEnd bytes place k before after left) (sym sum)
-    (subst (GaveNoEnd bytes place (given + n) before after) (sym rest) (record {
+    rw (sum, rest) (record {
       gave = more bytes place given n before line ready after within is gave.gave;
       unended = subst HasNoEnd (sym (next_bytes bytes place given n ready within gave.gave.front))
           (no_end_both (take given (drop place bytes)) (take n ready) gave.unended none);
-    }))
+    })
 
 -- the given bytes with an LF after them are the next line
 pub told_gave : (told : Option (List ℕ)) (place given total n : ℕ) (before line ready after left : List ℕ) →
@@ -112,9 +96,7 @@ pub told_gave : (told : Option (List ℕ)) (place given total n : ℕ) (before l
     IfSome told (λ bytes. Gave bytes place total before after left)
 told_gave None place given total n before line ready after left sum within is rest gave = tt
 told_gave (Some bytes) place given total n before line ready after left sum within is rest gave =
-    subst (λ k. Gave bytes place k before after left) (sym sum)
-    (subst (Gave bytes place (given + n) before after) (sym rest)
-    (more bytes place given n before line ready after within is gave.gave))
+    rw (sum, rest) (more bytes place given n before line ready after within is gave.gave)
 
 begins : (rest t body after : List ℕ) (room : ℕ) → HasNoEnd t → HasNoEnd body →
     rest ≡ (t ++ (body ++ 10 ∷ [])) ++ after → length t + length body ≤ room → BeginsWithLine room rest after
@@ -156,7 +138,7 @@ pub told_last : (told told_now : Option (List ℕ)) (place given room now : ℕ)
     IfSome told (λ bytes. IsLastLine room (drop place bytes) (drop now bytes))
 told_last None told_now place given room now before line ready same at some most long gave end = tt
 told_last (Some bytes) told_now place given room now before line ready same at some most long gave end =
-    last (subst (λ o. IfSome o (λ xs. drop now xs ≡ [])) same end)
+    last (rw same at end)
   where
     all_of : drop now bytes ≡ [] → take given (drop place bytes) ≡ drop place bytes
     all_of none = sym (append-nil (take given (drop place bytes)))
@@ -185,17 +167,17 @@ pub told_end : (told told_now : Option (List ℕ)) (place now : ℕ) → told_no
     IfSome told_now (λ bytes. drop now bytes ≡ []) → IfSome told (λ bytes. drop place bytes ≡ [])
 told_end None told_now place now same at end = tt
 told_end (Some bytes) told_now place now same at end =
-    subst (λ k. drop k bytes ≡ []) at (subst (λ o. IfSome o (λ xs. drop now xs ≡ [])) same end)
+    subst (λ k. drop k bytes ≡ []) at (rw same at end)
 
 -- if nothing is left, all lines were given, or what was given is the last line
 ended_here : (bytes after : List ℕ) (room given : ℕ) (next : Next) → (given ≡ 0 → next ≡ End) →
     (0 < given → next ≡ Last) → (given ≡ 0 → bytes ≡ []) → (0 < given → IsLastLine room bytes after) →
     IsNextLine room bytes after next
-ended_here bytes after room given next none some end last = ⊎_elim
-    (λ (more : 0 < given). subst (IsNextLine room bytes after) (sym (some more)) (last more))
-    (λ (less : given ≤ 0). let zero_is : given ≡ 0 = omega arith in
-    subst (IsNextLine room bytes after) (sym (none zero_is)) (end zero_is))
-    (cases_lt 0 given)
+ended_here bytes after room given next none some end last = elim (cases_lt 0 given) [
+  | inl more ↦ subst (IsNextLine room bytes after) (sym (some more)) (last more)
+  | inr less ↦ let zero_is : given ≡ 0 = omega arith in
+      subst (IsNextLine room bytes after) (sym (none zero_is)) (end zero_is)
+]
 
 pub told_ended : (told told_now : Option (List ℕ)) (place given room now : ℕ) (before line ready : List ℕ)
     (next : Next) → told_now ≡ told → now ≡ place + given → given ≤ room → length line ≡ length before + given →
@@ -247,27 +229,25 @@ told_long (Some bytes) place given room before line ready long number gave =
 pub left_behind : (items : List ℕ) (at filled n : ℕ) → n ≤ filled - at →
     take (filled - (at + n)) (drop (at + n) items) ≡ drop n (take (filled - at) (drop at items))
 left_behind items at filled n within =
-    let long : n + (filled - (at + n)) ≡ filled - at = omega arith in
     ap (take (filled - (at + n))) (sym (drop-drop n at items)) ∙ sym (drop-take n (filled - (at + n)) (drop at items))
-    ∙ ap (λ k. drop n (take k (drop at items))) long
+    ∙ ap (λ k. drop n (take k (drop at items))) (omega arith)
 
--- the bytes up to an LF
-pub ended_front : (bytes : List ℕ) (most k : ℕ) → k < length (take most bytes) →
-    take k (take most bytes) ≡ body_of (take most bytes) → get_or (take most bytes) k 0 ≡ 10 →
-    IsEnded (take (k + 1) bytes)
-ended_front bytes most k within body end =
-    let few : k + 1 ≤ most = omega (arith, length-take most bytes) in
-    record {
-      body = take k (take most bytes);
-      unended = subst HasNoEnd (sym body) (body_twice (take most bytes));
-      split = sym (take-take (k + 1) most bytes few) ∙ take_more (take most bytes) k 0 within
-          ∙ ap (λ (b : ℕ). take k (take most bytes) ++ b ∷ []) end;
-    }
+module _ (bytes : List ℕ) (most k : ℕ) where
+  -- the bytes up to an LF
+  pub ended_front : k < length (take most bytes) → take k (take most bytes) ≡ body_of (take most bytes) →
+      get_or (take most bytes) k 0 ≡ 10 → IsEnded (take (k + 1) bytes)
+  ended_front within body end =
+      let few : k + 1 ≤ most = omega (arith, length-take most bytes) in
+      record {
+        body = take k (take most bytes);
+        unended = subst HasNoEnd (sym body) (body_twice (take most bytes));
+        split = sym (take-take (k + 1) most bytes few) ∙ take_more (take most bytes) k 0 within
+            ∙ ap (λ (b : ℕ). take k (take most bytes) ++ b ∷ []) end;
+      }
 
-pub unended_front : (bytes : List ℕ) (most k : ℕ) → k ≤ most → take k (take most bytes) ≡ body_of (take most bytes) →
-    HasNoEnd (take k bytes)
-unended_front bytes most k few body =
-    subst HasNoEnd (take-take k most bytes few) (subst HasNoEnd (sym body) (body_twice (take most bytes)))
+  pub unended_front : k ≤ most → take k (take most bytes) ≡ body_of (take most bytes) → HasNoEnd (take k bytes)
+  unended_front few body =
+      subst HasNoEnd (take-take k most bytes few) (subst HasNoEnd (sym body) (body_twice (take most bytes)))
 
 -- what ends a file is no long line
 pub not_long : (given : ℕ) (next : Next) → (given ≡ 0 → next ≡ End) → (0 < given → next ≡ Last) → next ≡ Long → ⊥

@@ -3,18 +3,17 @@ use Rattle.std.proofs.Common.{◌≡◌, ℕ, ◌<◌, Bool, true, false, cond, 
 use Rattle.ra_token.specs.Lines.{onto_first, lines_of, joined_lines, ends_line, HasNoEnd}
 use Rattle.ra_token.proofs.BodyLaws.{no_end_first}
 
--- a byte that is not an LF is in the first line of what follows
-pub lines_onto : (byte : ℕ) (bytes : List ℕ) → eqb byte 10 ≡ false →
-    lines_of (byte ∷ bytes) ≡ onto_first byte (lines_of bytes)
-unfolding lines_of
-lines_onto byte bytes test =
-    ap (λ (is : Bool). cond is ((byte ∷ []) ∷ lines_of bytes) (onto_first byte (lines_of bytes))) test
+module _ (byte : ℕ) (bytes : List ℕ) where
+  -- a byte that is not an LF is in the first line of what follows
+  pub lines_onto : eqb byte 10 ≡ false → lines_of (byte ∷ bytes) ≡ onto_first byte (lines_of bytes)
+  unfolding lines_of
+  lines_onto test =
+      ap (λ (is : Bool). cond is ((byte ∷ []) ∷ lines_of bytes) (onto_first byte (lines_of bytes))) test
 
-pub lines_end : (byte : ℕ) (bytes : List ℕ) → eqb byte 10 ≡ true →
-    lines_of (byte ∷ bytes) ≡ (byte ∷ []) ∷ lines_of bytes
-unfolding lines_of
-lines_end byte bytes test =
-    ap (λ (is : Bool). cond is ((byte ∷ []) ∷ lines_of bytes) (onto_first byte (lines_of bytes))) test
+  pub lines_end : eqb byte 10 ≡ true → lines_of (byte ∷ bytes) ≡ (byte ∷ []) ∷ lines_of bytes
+  unfolding lines_of
+  lines_end test =
+      ap (λ (is : Bool). cond is ((byte ∷ []) ∷ lines_of bytes) (onto_first byte (lines_of bytes))) test
 
 -- bytes without LF, and an LF, are the first line
 pub line_first : (t rest : List ℕ) → HasNoEnd t → lines_of (t ++ 10 ∷ rest) ≡ (t ++ 10 ∷ []) ∷ lines_of rest

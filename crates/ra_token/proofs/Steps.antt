@@ -15,132 +15,135 @@ use Rattle.ra_token.proofs.RunLaws.{worth_digit, start_digit, digit_within, blan
 use Rattle.ra_token.proofs.FaultLaws.{fault_limit, fault_small, fault_large, fault_blank, first_fault_at, no_first_fault, fault_place_at, no_fault_place, fault_place_low}
 use Rattle.ra_token.proofs.TokenLaws.{before_yes, before_no, before_all, token_number, token_is}
 
--- the start of the bytes
-pub between_start : (bytes : List ℕ) → IsBetween bytes 0
-unfolding cuts_run
-between_start bytes = record { within = omega arith; whole = refl; sound = first_none (fault_at bytes) }
+module _ (bytes : List ℕ) where
+  -- the start of the bytes
+  pub between_start : IsBetween bytes 0
+  unfolding cuts_run
+  between_start = record { within = omega arith; whole = refl; sound = first_none (fault_at bytes) }
 
--- at the place itself nothing was passed
-pub reached_here : (bytes : List ℕ) (place : ℕ) → IsBetween bytes place → IsReached bytes place place
-reached_here bytes place between = record { between = between; given = refl }
+  -- at the place itself nothing was passed
+  pub reached_here : (place : ℕ) → IsBetween bytes place → IsReached bytes place place
+  reached_here place between = record { between = between; given = refl }
 
--- over a blank
-pub reached_blank : (bytes : List ℕ) (from k : ℕ) → k < length bytes → k < PLACE_LIMIT →
-    is_blank (get_or bytes k 0) ≡ true → IsReached bytes from k → IsReached bytes from (suc k)
-reached_blank bytes from k within below blank reached =
-    let other = blank_is_no_digit (get_or bytes k 0) blank in
-    record {
-      between = record {
-        within = omega arith;
-        whole = cuts_after bytes k other;
-        sound = ap (λ n. first n (fault_at bytes)) (sym (add-one k))
-            ∙ first_more_none k (fault_at bytes) reached.between.sound (fault_blank bytes k below other blank);
-      };
-      given = before_no bytes k (no_end_here bytes k other) ∙ reached.given;
-    }
+  module _ (from k : ℕ) where
+    -- over a blank
+    pub reached_blank : k < length bytes → k < PLACE_LIMIT → is_blank (get_or bytes k 0) ≡ true →
+        IsReached bytes from k → IsReached bytes from (suc k)
+    reached_blank within below blank reached =
+        let other = blank_is_no_digit (get_or bytes k 0) blank in
+        record {
+          between = record {
+            within = omega arith;
+            whole = cuts_after bytes k other;
+            sound = ap (λ n. first n (fault_at bytes)) (sym (add-one k))
+                ∙ first_more_none k (fault_at bytes) reached.between.sound (fault_blank bytes k below other blank);
+          };
+          given = before_no bytes k (no_end_here bytes k other) ∙ reached.given;
+        }
 
--- a fault if all before it was given
-pub all_before_fault : (bytes : List ℕ) (from k : ℕ) (fault : TokenFault) → k < length bytes →
-    first k (fault_at bytes) ≡ None → fault_at bytes k ≡ Some fault → tokens_before bytes k ≡ tokens_before bytes from →
-    FaultsAt bytes from fault
-all_before_fault bytes from k fault within sound here given =
-    inr (
-      sym given ∙ ap (tokens_before bytes) (sym (fault_place_at bytes k fault within sound here)) ∙ before_all bytes,
-      first_fault_at bytes k fault within sound here,
-    )
+    module _ (fault : TokenFault) (within : k < length bytes) where
+      -- a fault if all before it was given
+      pub all_before_fault : first k (fault_at bytes) ≡ None → fault_at bytes k ≡ Some fault →
+          tokens_before bytes k ≡ tokens_before bytes from → FaultsAt bytes from fault
+      all_before_fault sound here given =
+          inr (
+            sym given ∙ ap (tokens_before bytes) (sym (fault_place_at bytes k fault within sound here))
+                ∙ before_all bytes,
+            first_fault_at bytes k fault within sound here,
+          )
 
-pub refused_here : (bytes : List ℕ) (from k : ℕ) (fault : TokenFault) → k < length bytes → IsReached bytes from k →
-    fault_at bytes k ≡ Some fault → FaultsAt bytes from fault
-refused_here bytes from k fault within reached here =
-    all_before_fault bytes from k fault within reached.between.sound here reached.given
+      pub refused_here : IsReached bytes from k → fault_at bytes k ≡ Some fault → FaultsAt bytes from fault
+      refused_here reached here =
+          all_before_fault reached.between.sound here reached.given
 
--- the end of the bytes
-pub ended_here : (bytes : List ℕ) (from k : ℕ) → length bytes ≤ k → IsReached bytes from k →
-    IsAnswer bytes (tokens_before bytes from) (Ok None)
-ended_here bytes from k past reached =
-    let at_end : k ≡ length bytes = omega (arith, reached.between.within) in
-    let sound = ap (λ n. first n (fault_at bytes)) (sym at_end) ∙ reached.between.sound in (
-      sym reached.given ∙ ap (tokens_before bytes) (at_end ∙ sym (no_fault_place bytes sound)) ∙ before_all bytes,
-      no_first_fault bytes sound,
-    )
+    -- the end of the bytes
+    pub ended_here : length bytes ≤ k → IsReached bytes from k → IsAnswer bytes (tokens_before bytes from) (Ok None)
+    ended_here past reached =
+        let at_end : k ≡ length bytes = omega (arith, reached.between.within) in
+        let sound = ap (λ n. first n (fault_at bytes)) (sym at_end) ∙ reached.between.sound in (
+          sym reached.given ∙ ap (tokens_before bytes) (at_end ∙ sym (no_fault_place bytes sound)) ∙ before_all bytes,
+          no_first_fault bytes sound,
+        )
 
--- the first digit of a run
-given_begins : (bytes : List ℕ) (k : ℕ) → cuts_run bytes k ≡ false → digit_at bytes k ≡ true →
-    tokens_before bytes (k - 1) ≡ tokens_before bytes k
-given_begins bytes zero whole digit = refl
-given_begins bytes (suc k) whole digit =
-    let before : suc k - 1 ≡ k = omega arith in
-    ap (tokens_before bytes) before ∙ sym (before_no bytes k (no_end_here bytes k (other_before bytes k whole digit)))
+  -- the first digit of a run
+  given_begins : (k : ℕ) → cuts_run bytes k ≡ false → digit_at bytes k ≡ true →
+      tokens_before bytes (k - 1) ≡ tokens_before bytes k
+  given_begins zero whole digit = refl
+  given_begins (suc k) whole digit =
+      let before : suc k - 1 ≡ k = omega arith in
+      ap (tokens_before bytes) before ∙ sym (before_no bytes k (no_end_here bytes k (other_before bytes k whole digit)))
 
-pub run_begins : (bytes : List ℕ) (k : ℕ) → IsBetween bytes k → digit_at bytes k ≡ true → InRun bytes k k 0
-run_begins bytes k between digit = record {
-  within = between.within;
-  worth_is = worth_begins bytes k between.whole digit;
-  start_is = start_begins bytes k between.whole digit;
-  sound = between.sound;
-  given = given_begins bytes k between.whole digit;
-}
+  pub run_begins : (k : ℕ) → IsBetween bytes k → digit_at bytes k ≡ true → InRun bytes k k 0
+  run_begins k between digit = record {
+    within = between.within;
+    worth_is = worth_begins bytes k between.whole digit;
+    start_is = start_begins bytes k between.whole digit;
+    sound = between.sound;
+    given = given_begins k between.whole digit;
+  }
 
--- one more digit
-given_more : (bytes : List ℕ) (start k : ℕ) → digit_at bytes k ≡ true →
-    tokens_before bytes (k - 1) ≡ tokens_before bytes start → tokens_before bytes k ≡ tokens_before bytes start
-given_more bytes start zero digit given = given
-given_more bytes start (suc k) digit given =
-    let before : suc k - 1 ≡ k = omega arith in
-    before_no bytes k (goes_on_here bytes k digit) ∙ ap (tokens_before bytes) (sym before) ∙ given
+  module _ (start : ℕ) where
+    -- one more digit
+    given_more : (k : ℕ) → digit_at bytes k ≡ true → tokens_before bytes (k - 1) ≡ tokens_before bytes start →
+        tokens_before bytes k ≡ tokens_before bytes start
+    given_more zero digit given = given
+    given_more (suc k) digit given =
+        let before : suc k - 1 ≡ k = omega arith in
+        before_no bytes k (goes_on_here bytes k digit) ∙ ap (tokens_before bytes) (sym before) ∙ given
 
-pub run_more : (bytes : List ℕ) (start k value digit_value : ℕ) → k < PLACE_LIMIT → digit_at bytes k ≡ true →
-    digit_value ≡ get_or bytes k 0 - 48 → value * 10 + digit_value ≤ LARGEST → InRun bytes start k value →
-    InRun bytes start (suc k) (value * 10 + digit_value)
-run_more bytes start k value digit_value below digit is small run =
-    let worth_is : worth bytes (suc k) ≡ value * 10 + digit_value =
-    omega (arith, worth_digit bytes k digit, run.worth_is) in
-    let back : suc k - 1 ≡ k = omega arith in
-    record {
-      within = omega (arith, digit_within bytes k digit);
-      worth_is = worth_is;
-      start_is = start_digit bytes k digit ∙ run.start_is;
-      sound = ap (λ n. first n (fault_at bytes)) (sym (add-one k))
-          ∙ first_more_none k (fault_at bytes) run.sound (fault_small bytes k below digit (omega arith));
-      given = ap (tokens_before bytes) back ∙ given_more bytes start k digit run.given;
-    }
+    module _ (k value digit_value : ℕ) (below : k < PLACE_LIMIT) (digit : digit_at bytes k ≡ true)
+        (is : digit_value ≡ get_or bytes k 0 - 48) where
+      pub run_more : value * 10 + digit_value ≤ LARGEST → InRun bytes start k value →
+          InRun bytes start (suc k) (value * 10 + digit_value)
+      run_more small run =
+          let worth_is : worth bytes (suc k) ≡ value * 10 + digit_value =
+          omega (arith, worth_digit bytes k digit, run.worth_is) in
+          let back : suc k - 1 ≡ k = omega arith in
+          record {
+            within = omega (arith, digit_within bytes k digit);
+            worth_is = worth_is;
+            start_is = start_digit bytes k digit ∙ run.start_is;
+            sound = ap (λ n. first n (fault_at bytes)) (sym (add-one k))
+                ∙ first_more_none k (fault_at bytes) run.sound (fault_small bytes k below digit (omega arith));
+            given = ap (tokens_before bytes) back ∙ given_more k digit run.given;
+          }
 
--- a digit with which the run is worth too much
-pub run_large : (bytes : List ℕ) (start k value digit_value : ℕ) → k < PLACE_LIMIT → digit_at bytes k ≡ true →
-    digit_value ≡ get_or bytes k 0 - 48 → LARGEST < value * 10 + digit_value → InRun bytes start k value →
-    FaultsAt bytes start (TooLarge start)
-run_large bytes start k value digit_value below digit is large run =
-    let worth_is : worth bytes (suc k) ≡ value * 10 + digit_value =
-    omega (arith, worth_digit bytes k digit, run.worth_is) in
-    all_before_fault bytes start k (TooLarge start) (digit_within bytes k digit) run.sound
-    (fault_large bytes k below digit (omega arith) ∙ ap (λ at. Some (TooLarge at)) run.start_is)
-    (given_more bytes start k digit run.given)
+      -- a digit with which the run is worth too much
+      pub run_large : LARGEST < value * 10 + digit_value → InRun bytes start k value →
+          FaultsAt bytes start (TooLarge start)
+      run_large large run =
+          let worth_is : worth bytes (suc k) ≡ value * 10 + digit_value =
+          omega (arith, worth_digit bytes k digit, run.worth_is) in
+          all_before_fault start k (TooLarge start) (digit_within bytes k digit) run.sound
+          (fault_large bytes k below digit (omega arith) ∙ ap (λ at. Some (TooLarge at)) run.start_is)
+          (given_more k digit run.given)
 
--- a run that goes on at the place where a file is too long
-pub run_long : (bytes : List ℕ) (start k value : ℕ) → k ≡ PLACE_LIMIT → digit_at bytes k ≡ true →
-    InRun bytes start k value → FaultsAt bytes start TooLong
-run_long bytes start k value at_limit digit run =
-    all_before_fault bytes start k TooLong (digit_within bytes k digit) run.sound
-    (ap (fault_at bytes) at_limit ∙ fault_limit bytes)
-    (given_more bytes start k digit run.given)
+    -- a run that goes on at the place where a file is too long
+    pub run_long : (k value : ℕ) → k ≡ PLACE_LIMIT → digit_at bytes k ≡ true → InRun bytes start k value →
+        FaultsAt bytes start TooLong
+    run_long k value at_limit digit run =
+        all_before_fault start k TooLong (digit_within bytes k digit) run.sound
+        (ap (fault_at bytes) at_limit ∙ fault_limit bytes)
+        (given_more k digit run.given)
 
--- a run that ends
-pub run_ends : (bytes : List ℕ) (start k value : ℕ) → start < k → digit_at bytes k ≡ false → InRun bytes start k value →
-    IsTaken bytes start k value
-run_ends bytes start zero value after other run = absurd (omega arith)
-run_ends bytes start (suc k) value after other run =
-    let digit = digit_before bytes start k run.start_is after in
-    let ends = ends_here bytes k digit other in
-    let back : suc k - 1 ≡ k = omega arith in
-    let given : tokens_before bytes k ≡ tokens_before bytes start = ap (tokens_before bytes) (sym back) ∙ run.given in
-    record {
-      token = ap (slice_get (tokens bytes)) (sym given)
-          ∙ token_number bytes k ends (omega (arith, fault_place_low bytes (suc k) run.within run.sound))
-          ∙ ap (λ t. Some t)
-          (token_is bytes start k value run.worth_is (sym (start_digit bytes k digit) ∙ run.start_is));
-      between = record { within = run.within; whole = cuts_before bytes (suc k) other; sound = run.sound };
-      given = before_yes bytes k ends ∙ ap (λ n. n + 1) given;
-    }
+    -- a run that ends
+    pub run_ends : (k value : ℕ) → start < k → digit_at bytes k ≡ false → InRun bytes start k value →
+        IsTaken bytes start k value
+    run_ends zero value after other run = absurd (omega arith)
+    run_ends (suc k) value after other run =
+        let digit = digit_before bytes start k run.start_is after in
+        let ends = ends_here bytes k digit other in
+        let back : suc k - 1 ≡ k = omega arith in
+        let given : tokens_before bytes k ≡ tokens_before bytes start = ap (tokens_before bytes) (sym back)
+        ∙ run.given in
+        record {
+          token = ap (slice_get (tokens bytes)) (sym given)
+              ∙ token_number bytes k ends (omega (arith, fault_place_low bytes (suc k) run.within run.sound))
+              ∙ ap (λ t. Some t)
+              (token_is bytes start k value run.worth_is (sym (start_digit bytes k digit) ∙ run.start_is));
+          between = record { within = run.within; whole = cuts_before bytes (suc k) other; sound = run.sound };
+          given = before_yes bytes k ends ∙ ap (λ n. n + 1) given;
+        }
 
 -- a reader at the start, with nothing ready
 pub reads_start : (told : Option (List ℕ)) (reader : Standing) → reader.place ≡ 0 → reader.ready ≡ [] →

@@ -11,38 +11,39 @@ use Rattle.ra_token.specs.Faults.{fault_place}
 use Rattle.ra_token.specs.TokenList.{token_to, tokens, tokens_before}
 use Rattle.ra_token.specs.Scan.{token_of}
 
-pub before_none : (bytes : List ℕ) → tokens_before bytes 0 ≡ 0
-unfolding tokens_before
-before_none bytes = count_none (ends_at bytes)
+module _ (bytes : List ℕ) where
+  pub before_none : tokens_before bytes 0 ≡ 0
+  unfolding tokens_before
+  before_none = count_none (ends_at bytes)
 
-pub before_yes : (bytes : List ℕ) (k : ℕ) → ends_at bytes k ≡ true → tokens_before bytes (suc k) ≡ tokens_before bytes k
-    + 1
-unfolding tokens_before
-before_yes bytes k ends = ap (λ n. count n (ends_at bytes)) (sym (add-one k)) ∙ count_yes k (ends_at bytes) ends
+  pub before_yes : (k : ℕ) → ends_at bytes k ≡ true → tokens_before bytes (suc k) ≡ tokens_before bytes k
+      + 1
+  unfolding tokens_before
+  before_yes k ends = ap (λ n. count n (ends_at bytes)) (sym (add-one k)) ∙ count_yes k (ends_at bytes) ends
 
-pub before_no : (bytes : List ℕ) (k : ℕ) → ends_at bytes k ≡ false → tokens_before bytes (suc k) ≡ tokens_before bytes k
-unfolding tokens_before
-before_no bytes k on = ap (λ n. count n (ends_at bytes)) (sym (add-one k)) ∙ count_no k (ends_at bytes) on
+  pub before_no : (k : ℕ) → ends_at bytes k ≡ false → tokens_before bytes (suc k) ≡ tokens_before bytes k
+  unfolding tokens_before
+  before_no k on = ap (λ n. count n (ends_at bytes)) (sym (add-one k)) ∙ count_no k (ends_at bytes) on
 
--- all tokens come before the first fault
-pub before_all : (bytes : List ℕ) → tokens_before bytes (fault_place bytes) ≡ length (tokens bytes)
-unfolding tokens_before tokens
-before_all bytes =
-    sym (length-map (pick (fault_place bytes) (ends_at bytes)) (token_to bytes)
-    ∙ pick_length (fault_place bytes) (ends_at bytes))
+  -- all tokens come before the first fault
+  pub before_all : tokens_before bytes (fault_place bytes) ≡ length (tokens bytes)
+  unfolding tokens_before tokens
+  before_all =
+      sym (length-map (pick (fault_place bytes) (ends_at bytes)) (token_to bytes)
+      ∙ pick_length (fault_place bytes) (ends_at bytes))
 
--- the token with its last digit here, by its number
-pub token_number : (bytes : List ℕ) (k : ℕ) → ends_at bytes k ≡ true → k < fault_place bytes →
-    slice_get (tokens bytes) (tokens_before bytes k) ≡ Some (token_to bytes k)
-unfolding tokens_before tokens
-token_number bytes k ends before =
-    let picked = pick_place (fault_place bytes) k (ends_at bytes) before ends in
-    slice_get-map (token_to bytes) (pick (fault_place bytes) (ends_at bytes)) (count k (ends_at bytes))
-    ∙ ap (option_map (token_to bytes))
-    (slice_get-get_or (pick (fault_place bytes) (ends_at bytes)) (count k (ends_at bytes)) 0 picked.0
-    ∙ ap (λ (j : ℕ). Some j) picked.1)
+  -- the token with its last digit here, by its number
+  pub token_number : (k : ℕ) → ends_at bytes k ≡ true → k < fault_place bytes →
+      slice_get (tokens bytes) (tokens_before bytes k) ≡ Some (token_to bytes k)
+  unfolding tokens_before tokens
+  token_number k ends before =
+      let picked = pick_place (fault_place bytes) k (ends_at bytes) before ends in
+      slice_get-map (token_to bytes) (pick (fault_place bytes) (ends_at bytes)) (count k (ends_at bytes))
+      ∙ ap (option_map (token_to bytes))
+      (slice_get-get_or (pick (fault_place bytes) (ends_at bytes)) (count k (ends_at bytes)) 0 picked.0
+      ∙ ap (λ (j : ℕ). Some j) picked.1)
 
-pub token_is : (bytes : List ℕ) (start k value : ℕ) → worth bytes (suc k) ≡ value → run_start bytes k ≡ start →
-    token_to bytes k ≡ token_of value start
-unfolding token_to
-token_is bytes start k value worth_is start_is = cc
+  pub token_is : (start k value : ℕ) → worth bytes (suc k) ≡ value → run_start bytes k ≡ start →
+      token_to bytes k ≡ token_of value start
+  unfolding token_to
+  token_is start k value worth_is start_is = cc

@@ -41,8 +41,7 @@ pub told_run : (told : Option (List ℕ)) (piece : List ℕ) (start place carrie
     InRun bytes first (start + end) value)
 told_run None piece start place carried end value shows low after goes_on = tt
 told_run (Some bytes) piece start place carried end value shows low after goes_on = λ first run small.
-    let here : place ≡ start + (place - start) = omega arith in
-    goes_on bytes start first low shows (subst (λ k. InRun bytes first k carried) here run) small
+    goes_on bytes start first low shows (subst (λ k. InRun bytes first k carried) (omega arith) run) small
 
 -- a byte that is ready is the byte of the file
 pub told_byte : (told : Option (List ℕ)) (items : List ℕ) (start filled at byte : ℕ) →
@@ -60,33 +59,34 @@ told_byte (Some bytes) items start filled at byte shows after before within read
     ∙ get_or-take filled items (at - start) 0 (omega arith)
     ∙ sym (get_or_read items (at - start) byte (omega arith) read 0)))
 
--- a run with blanks before it and another byte after it, all of them ready
-next_here : (bytes piece : List ℕ) (start place i j value : ℕ) → IsPiece bytes start piece → i < j → j < length piece →
-    is_ascii_digit (get_or piece i 0) ≡ true → is_ascii_digit (get_or piece j 0) ≡ false →
-    (InRun bytes (start + i) (start + i) 0 → InRun bytes (start + i) (start + j) value) →
-    IsReached bytes place (start + i) → IsNext bytes place (start + i) (start + j) value
-next_here bytes piece start place i j value shows some within digit other goes_on reached =
-    let digit_here = ap is_ascii_digit (piece_at bytes piece start i shows (omega arith)) ∙ digit in
-    let other_here = ap is_ascii_digit (piece_at bytes piece start j shows within) ∙ other in
-    let taken = run_ends bytes (start + i) (start + j) value (omega arith) other_here
-    (goes_on (run_begins bytes (start + i) reached.between digit_here)) in
-    next_of bytes place (start + i) (start + j) value reached taken
+module _ (bytes piece : List ℕ) (start : ℕ) where
+  -- a run with blanks before it and another byte after it, all of them ready
+  next_here : (place i j value : ℕ) → IsPiece bytes start piece → i < j → j < length piece →
+      is_ascii_digit (get_or piece i 0) ≡ true → is_ascii_digit (get_or piece j 0) ≡ false →
+      (InRun bytes (start + i) (start + i) 0 → InRun bytes (start + i) (start + j) value) →
+      IsReached bytes place (start + i) → IsNext bytes place (start + i) (start + j) value
+  next_here place i j value shows some within digit other goes_on reached =
+      next_of bytes place (start + i) (start + j) value reached
+      (run_ends bytes (start + i) (start + j) value (omega arith)
+      (ap is_ascii_digit (piece_at bytes piece start j shows within) ∙ other)
+      (goes_on (run_begins bytes (start + i) reached.between
+      (ap is_ascii_digit (piece_at bytes piece start i shows (omega arith)) ∙ digit))))
 
-pub next_in : (bytes piece : List ℕ) (start from i j value : ℕ) → IsPiece bytes start piece →
-    start + length piece ≤ PLACE_LIMIT → from ≤ i → i < j → j < length piece
-    → ((k : ℕ) → from ≤ k → k < i → is_blank (get_or piece k 0) ≡ true) → is_ascii_digit (get_or piece i 0) ≡ true →
-    is_ascii_digit (get_or piece j 0) ≡ false
-    → ((all : List ℕ) (at first : ℕ) → at + length piece ≤ PLACE_LIMIT → IsPiece all at piece →
-    InRun all first (at + i) 0 → value ≤ LARGEST → InRun all first (at + j) value) → value ≤ LARGEST
-    → IsBetween bytes (start + from) → IsNext bytes (start + from) (start + i) (start + j) value
-next_in bytes piece start from i j value shows low after some within blanks digit other goes_on small between =
-    let there : from + (i - from) ≡ i = omega arith in
-    next_here bytes piece start (start + from) i j value shows some within digit other
-    (λ run. goes_on bytes start (start + i) low shows run small)
-    (subst (λ n. IsReached bytes (start + from) (start + n)) there
-    (piece_blanks bytes piece start (start + from) from (i - from) low shows (omega arith)
-    (λ k low_k below. blanks k low_k (omega arith))
-    (reached_here bytes (start + from) between)))
+  pub next_in : (from i j value : ℕ) → IsPiece bytes start piece → start + length piece ≤ PLACE_LIMIT → from ≤ i →
+      i < j → j < length piece → ((k : ℕ) → from ≤ k → k < i → is_blank (get_or piece k 0) ≡ true) →
+      is_ascii_digit (get_or piece i 0) ≡ true → is_ascii_digit (get_or piece j 0) ≡ false →
+      ((all : List ℕ) (at first : ℕ) → at + length piece ≤ PLACE_LIMIT → IsPiece all at piece →
+      InRun all first (at + i) 0 → value ≤
+      LARGEST → InRun all first (at + j) value) → value ≤ LARGEST → IsBetween bytes (start + from) →
+      IsNext bytes (start + from) (start + i) (start + j) value
+  next_in from i j value shows low after some within blanks digit other goes_on small between =
+      let there : from + (i - from) ≡ i = omega arith in
+      next_here (start + from) i j value shows some within digit other
+      (λ run. goes_on bytes start (start + i) low shows run small)
+      (subst (λ n. IsReached bytes (start + from) (start + n)) there
+      (piece_blanks bytes piece start (start + from) from (i - from) low shows (omega arith)
+      (λ k low_k below. blanks k low_k (omega arith))
+      (reached_here bytes (start + from) between)))
 
 -- what holds of whatever bytes have this piece, from a place in the piece on
 pub told_in : (P : List ℕ → ℕ → ℕ → Type 0) (told : Option (List ℕ)) (piece : List ℕ) (start place : ℕ) →

@@ -1,5 +1,5 @@
 -- What the byte at a place tells, if the bytes of the file are told.
-use Rattle.std.proofs.Common.{◌≡◌, ℕ, ◌<◌, ◌≤◌, Bool, true, false, List, length, get_or, slice_get, Option, Some, None, Ok, IfSome, sym, ap, ◌∙◌, subst, ⊎_elim, arith}
+use Rattle.std.proofs.Common.{inl, inr, ◌≡◌, ℕ, ◌<◌, ◌≤◌, Bool, true, false, List, length, get_or, slice_get, Option, Some, None, Ok, IfSome, sym, ap, ◌∙◌, arith}
 use Rattle.std.specs.Char.{is_ascii_digit}
 use Rattle.std.proofs.lemmas.Bool.{cases_lt, both_ways}
 use Rattle.std.proofs.lemmas.List.{get_or_past}
@@ -17,26 +17,25 @@ use Rattle.ra_token.proofs.Steps.{refused_here, ended_here, run_begins, run_long
 pub byte_told : (told told_now : Option (List ℕ)) (found : Option ℕ) (at byte : ℕ) → told_now ≡ told →
     found ≡ Some byte → IfSome told_now (λ bytes. found ≡ slice_get bytes at) →
     IfSome told (λ bytes. slice_get bytes at ≡ Some byte)
-byte_told told None found at byte same is read = subst (λ t. IfSome t (λ bytes. slice_get bytes at ≡ Some byte)) same tt
+byte_told told None found at byte same is read = rw (← same) tt
 byte_told told (Some bytes) found at byte same is read =
-    subst (λ t. IfSome t (λ xs. slice_get xs at ≡ Some byte)) same (sym read ∙ is)
+    rw (← same) (sym read ∙ is)
 
 pub end_told : (told told_now : Option (List ℕ)) (found : Option ℕ) (at : ℕ) → told_now ≡ told → found ≡ None →
     IfSome told_now (λ bytes. found ≡ slice_get bytes at) → IfSome told (λ bytes. slice_get bytes at ≡ None)
-end_told told None found at same is read = subst (λ t. IfSome t (λ bytes. slice_get bytes at ≡ None)) same tt
+end_told told None found at same is read = rw (← same) tt
 end_told told (Some bytes) found at same is read =
-    subst (λ t. IfSome t (λ xs. slice_get xs at ≡ None)) same (sym read ∙ is)
+    rw (← same) (sym read ∙ is)
 
 digit_of : (bytes : List ℕ) (at byte : ℕ) (is : Bool) → slice_get bytes at ≡ Some byte → is_ascii_digit byte ≡ is →
     digit_at bytes at ≡ is
 digit_of bytes at byte is read digit = ap is_ascii_digit (get_or_from_slice_get bytes at byte 0 read) ∙ digit
 
 past_end : (bytes : List ℕ) (at : ℕ) → slice_get bytes at ≡ None → length bytes ≤ at
-past_end bytes at none = ⊎_elim
-    (λ (inside : at < length bytes).
-    absurd (none-some (get_or bytes at 0) (sym none ∙ slice_get-get_or bytes at 0 inside)))
-    (λ (past : length bytes ≤ at). past)
-    (cases_lt at (length bytes))
+past_end bytes at none = elim (cases_lt at (length bytes)) [
+  | inl inside ↦ absurd (none-some (get_or bytes at 0) (sym none ∙ slice_get-get_or bytes at 0 inside))
+  | inr past ↦ past
+]
 
 -- a byte at the place where a file is too long
 pub told_limit : (told : Option (List ℕ)) (from at byte : ℕ) → at ≡ PLACE_LIMIT →
@@ -91,11 +90,11 @@ told_long (Some bytes) start at value byte at_limit digit read run =
 
 taken_here : (bytes : List ℕ) (start at value : ℕ) → start ≤ at → Begins bytes start start → digit_at bytes at ≡ false →
     InRun bytes start at value → IsTaken bytes start at value
-taken_here bytes start at value after begins other run = ⊎_elim
-    (λ (later : start < at). run_ends bytes start at value later other run)
-    (λ (same : at ≤ start). let here : at ≡ start = omega arith in
-    absurd (both_ways (digit_at bytes at) other (ap (digit_at bytes) here ∙ begins.digit)))
-    (cases_lt start at)
+taken_here bytes start at value after begins other run = elim (cases_lt start at) [
+  | inl later ↦ run_ends bytes start at value later other run
+  | inr same ↦ let here : at ≡ start = omega arith in
+      absurd (both_ways (digit_at bytes at) other (ap (digit_at bytes) here ∙ begins.digit))
+]
 
 -- a run that ends at a byte that is not a digit, or at the end
 pub told_taken : (told : Option (List ℕ)) (start at value byte : ℕ) → start ≤ at → is_ascii_digit byte ≡ false →

@@ -1,10 +1,11 @@
 -- What is known from one moment to the next of a file whose bytes may be told.
-use Rattle.std.proofs.Common.{◌≡◌, ℕ, ◌-◌, ◌^◌, ◌<◌, ◌≤◌, inl, inr, ⊎_elim, refl, ap, ◌∙◌, sym, subst, List, Option, Some, None, Result, Ok, Err, IfSome, IfErr, IsErr, IsErrAnd, arith}
+use Rattle.std.proofs.Common.{◌≡◌, ℕ, refl, ap, ◌∙◌, sym, subst, List, Option, Some, None, Result, Ok, Err, IfSome, IfErr, IsErr, IsErrAnd, arith}
 use Rattle.ra_io.specs.Faults.{Rose}
 use Rattle.ra_token.specs.Reads.{StandsIn}
 use Rattle.ra_token.specs.declared.answers.TokenFault.{TokenFault}
 use Rattle.ra_token.specs.TokenList.{tokens_before, IsAnswer}
 use Rattle.ra_token.specs.Moments.{Here, Stands, Goes, Went, Refuses, HasFault}
+use Rattle.ra_token.proofs.Exits.{rose_later}
 
 -- the exit of a `?`
 pub at_exit : {T E : Type 0} (r : Result T E) (Q : E → Type 0) (fault : E) → IsErr r × IsErrAnd r (λ e. e ≡ fault) →
@@ -78,9 +79,6 @@ refuses_as {E} {read} {fault} {P} {R} {a} {b} one f = record {
   rose = one.rose;
   told = told_then (a.held a.tokens.name) one.told (λ bytes p. f bytes a.tokens.place p);
 }
-
-rose_later : (m n k : ℕ) → m ≤ n → Rose n k → Rose m k
-rose_later m n k grew rose = ⊎_elim (λ (h : n < k). inl (omega arith)) (λ (h : k ≡ 2 ^ 64 - 1). inr h) rose
 
 pub refuses_next : {E : Type 0} {read fault : E} {P : List ℕ → ℕ → ℕ → Type 0} {Q R : List ℕ → ℕ → Type 0}
     {a b c : Here} → Went P a b → Refuses read Q b c fault →

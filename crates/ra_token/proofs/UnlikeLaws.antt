@@ -26,24 +26,6 @@ onto_line b zero None = Some (b ∷ [])
 onto_line b zero (Some line) = Some (b ∷ line)
 onto_line b (suc n) line = line
 
-at_onto : (b : ℕ) (z : List ℕ) (n : ℕ) → eqb b 10 ≡ false → line_at n (b ∷ z) ≡ onto_line b n (line_at n z)
-unfolding line_at
-at_onto b z n test = ap (λ ls. slice_get ls n) (lines_onto b z test) ∙ either n (lines_of z)
-  where
-    either : (m : ℕ) (ls : List (List ℕ)) → slice_get (onto_first b ls) m ≡ onto_line b m (slice_get ls m)
-    either zero [] = refl
-    either zero (l ∷ ls) = refl
-    either (suc m) [] = refl
-    either (suc m) (l ∷ ls) = refl
-
-at_end : (b : ℕ) (z : List ℕ) (n : ℕ) → eqb b 10 ≡ true → line_at (suc n) (b ∷ z) ≡ line_at n z
-unfolding line_at
-at_end b z n test = ap (λ ls. slice_get ls (suc n)) (lines_end b z test)
-
-at_first : (b : ℕ) (z : List ℕ) → eqb b 10 ≡ true → line_at 0 (b ∷ z) ≡ Some (b ∷ [])
-unfolding line_at
-at_first b z test = ap (λ ls. slice_get ls 0) (lines_end b z test)
-
 -- no line is empty
 no_empty : (z : List ℕ) → line_at 0 z ≡ Some [] → ⊥
 unfolding line_at lines_of
@@ -54,35 +36,56 @@ abbrev value_of : Option (List ℕ) → List ℕ
 value_of None = []
 value_of (Some line) = line
 
-onto_same : (b n : ℕ) (o p : Option (List ℕ)) → (o ≡ Some [] → ⊥) → (p ≡ Some [] → ⊥) →
-    onto_line b n o ≡ onto_line b n p → o ≡ p
-onto_same b (suc n) o p some there e = e
-onto_same b zero None None some there e = refl
-onto_same b zero None (Some l) some there e =
-    absurd (there (ap (λ xs. Some xs) (sym (ap (λ q. drop 1 (value_of q)) e))))
-onto_same b zero (Some l) None some there e = absurd (some (ap (λ xs. Some xs) (ap (λ q. drop 1 (value_of q)) e)))
-onto_same b zero (Some l) (Some m) some there e = ap (λ xs. Some xs) (ap (λ q. drop 1 (value_of q)) e)
+module _ (b : ℕ) where
+  module _ (z : List ℕ) (n : ℕ) where
+    at_onto : eqb b 10 ≡ false → line_at n (b ∷ z) ≡ onto_line b n (line_at n z)
+    unfolding line_at
+    at_onto test = ap (λ ls. slice_get ls n) (lines_onto b z test) ∙ either n (lines_of z)
+      where
+        either : (m : ℕ) (ls : List (List ℕ)) → slice_get (onto_first b ls) m ≡ onto_line b m (slice_get ls m)
+        either zero [] = refl
+        either zero (l ∷ ls) = refl
+        either (suc m) [] = refl
+        either (suc m) (l ∷ ls) = refl
 
-same_onto : (b n : ℕ) (x y : List ℕ) → onto_line b n (line_at n x) ≡ onto_line b n (line_at n y) →
-    line_at n x ≡ line_at n y
-same_onto b zero x y e = onto_same b 0 (line_at 0 x) (line_at 0 y) (no_empty x) (no_empty y) e
-same_onto b (suc n) x y e = e
+    at_end : eqb b 10 ≡ true → line_at (suc n) (b ∷ z) ≡ line_at n z
+    unfolding line_at
+    at_end test = ap (λ ls. slice_get ls (suc n)) (lines_end b z test)
 
-unlike_end : (b : ℕ) (x y : List ℕ) (n : ℕ) → eqb b 10 ≡ true → FirstUnlike x y n → FirstUnlike (b ∷ x) (b ∷ y) (suc n)
-unlike_end b x y n test u = record {
-  before = below;
-  here = λ e. u.here (sym (at_end b x n test) ∙ e ∙ at_end b y n test);
-}
-  where
-    below : (m : ℕ) → m < suc n → line_at m (b ∷ x) ≡ line_at m (b ∷ y)
-    below zero less = at_first b x test ∙ sym (at_first b y test)
-    below (suc m) less = at_end b x m test ∙ u.before m (omega arith) ∙ sym (at_end b y m test)
+  at_first : (z : List ℕ) → eqb b 10 ≡ true → line_at 0 (b ∷ z) ≡ Some (b ∷ [])
+  unfolding line_at
+  at_first z test = ap (λ ls. slice_get ls 0) (lines_end b z test)
 
-unlike_onto : (b : ℕ) (x y : List ℕ) (n : ℕ) → eqb b 10 ≡ false → FirstUnlike x y n → FirstUnlike (b ∷ x) (b ∷ y) n
-unlike_onto b x y n test u = record {
-  before = λ m less. at_onto b x m test ∙ ap (onto_line b m) (u.before m less) ∙ sym (at_onto b y m test);
-  here = λ e. u.here (same_onto b n x y (sym (at_onto b x n test) ∙ e ∙ at_onto b y n test));
-}
+  onto_same : (n : ℕ) (o p : Option (List ℕ)) → (o ≡ Some [] → ⊥) → (p ≡ Some [] → ⊥) →
+      onto_line b n o ≡ onto_line b n p → o ≡ p
+  onto_same (suc n) o p some there e = e
+  onto_same zero None None some there e = refl
+  onto_same zero None (Some l) some there e =
+      absurd (there (ap (λ xs. Some xs) (sym (ap (λ q. drop 1 (value_of q)) e))))
+  onto_same zero (Some l) None some there e = absurd (some (ap (λ xs. Some xs) (ap (λ q. drop 1 (value_of q)) e)))
+  onto_same zero (Some l) (Some m) some there e = ap (λ xs. Some xs) (ap (λ q. drop 1 (value_of q)) e)
+
+  same_onto : (n : ℕ) (x y : List ℕ) → onto_line b n (line_at n x) ≡ onto_line b n (line_at n y) →
+      line_at n x ≡ line_at n y
+  same_onto zero x y e = onto_same 0 (line_at 0 x) (line_at 0 y) (no_empty x) (no_empty y) e
+  same_onto (suc n) x y e = e
+
+  module _ (x y : List ℕ) (n : ℕ) where
+    unlike_end : eqb b 10 ≡ true → FirstUnlike x y n → FirstUnlike (b ∷ x) (b ∷ y) (suc n)
+    unlike_end test u = record {
+      before = below;
+      here = λ e. u.here (sym (at_end x n test) ∙ e ∙ at_end y n test);
+    }
+      where
+        below : (m : ℕ) → m < suc n → line_at m (b ∷ x) ≡ line_at m (b ∷ y)
+        below zero less = at_first x test ∙ sym (at_first y test)
+        below (suc m) less = at_end x m test ∙ u.before m (omega arith) ∙ sym (at_end y m test)
+
+    unlike_onto : eqb b 10 ≡ false → FirstUnlike x y n → FirstUnlike (b ∷ x) (b ∷ y) n
+    unlike_onto test u = record {
+      before = λ m less. at_onto x m test ∙ ap (onto_line b m) (u.before m less) ∙ sym (at_onto y m test);
+      here = λ e. u.here (same_onto n x y (sym (at_onto x n test) ∙ e ∙ at_onto y n test));
+    }
 
 -- the first line that differs is that of the first byte that differs
 pub unlike_at : (p x y : List ℕ) → slice_get x 0 ≢ slice_get y 0 → FirstUnlike (p ++ x) (p ++ y) (line_end_count p)

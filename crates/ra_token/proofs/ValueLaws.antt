@@ -1,5 +1,5 @@
 -- The values of tokens, one token on.
-use Rattle.std.proofs.Common.{◌≡◌, ℕ, suc, ◌+◌, List, [], ◌∷◌, ◌++◌, map, take, drop, slice_get, Option, Some, None, Ok, IfSome, sym, refl, ap, ap₂, ◌∙◌, subst, arith, drop-cons, append_assoc, append-nil}
+use Rattle.std.proofs.Common.{◌≡◌, ℕ, suc, ◌+◌, List, [], ◌∷◌, ◌++◌, map, take, drop, slice_get, Option, Some, None, Ok, IfSome, sym, refl, ap, ap₂, ◌∙◌, arith, drop-cons, append_assoc, append-nil}
 use Rattle.std.proofs.lemmas.List.{map-append}
 use Rattle.std.proofs.Math.Seq.{take-add, drop-drop}
 use Rattle.std.proofs.lemmas.Option.{slice_get_within, get_or_from_slice_get}
@@ -10,69 +10,69 @@ use Rattle.ra_token.specs.Standing.{Standing}
 use Rattle.ra_token.specs.Scan.{token_of, IsNext}
 use Rattle.ra_token.specs.Values.{value_of, values_from, AddsValues}
 
-values_none : (bytes : List ℕ) (k : ℕ) → values_from bytes k 0 ≡ []
-unfolding values_from
-values_none bytes k = refl
+module _ (bytes : List ℕ) where
+  values_none : (k : ℕ) → values_from bytes k 0 ≡ []
+  unfolding values_from
+  values_none k = refl
 
--- one token
-values_one : (bytes : List ℕ) (k : ℕ) (t : Token) → slice_get (tokens bytes) k ≡ Some t →
-    values_from bytes k 1 ≡ t.value ∷ []
-unfolding values_from
-values_one bytes k t next =
-    rw (drop-cons (tokens bytes) k t (slice_get_within (tokens bytes) k t next)
-    ∙ ap (λ y. y ∷ drop (suc k) (tokens bytes)) (get_or_from_slice_get (tokens bytes) k t t next)) refl
+  -- one token
+  values_one : (k : ℕ) (t : Token) → slice_get (tokens bytes) k ≡ Some t → values_from bytes k 1 ≡ t.value ∷ []
+  unfolding values_from
+  values_one k t next =
+      rw (drop-cons (tokens bytes) k t (slice_get_within (tokens bytes) k t next)
+      ∙ ap (λ y. y ∷ drop (suc k) (tokens bytes)) (get_or_from_slice_get (tokens bytes) k t t next)) refl
 
--- some and then some more
-values_then : (bytes : List ℕ) (k m n : ℕ) → values_from bytes k (m + n) ≡ values_from bytes k m ++ values_from bytes
-    (k + m) n
-unfolding values_from
-values_then bytes k m n =
-    ap (map value_of) (take-add m n (drop k (tokens bytes)) ∙ ap (λ rest. take m (drop k (tokens bytes)) ++ take n rest)
-    (drop-drop m k (tokens bytes)))
-    ∙ map-append value_of (take m (drop k (tokens bytes))) (take n (drop (k + m) (tokens bytes)))
+  -- some and then some more
+  values_then : (k m n : ℕ) → values_from bytes k (m + n) ≡ values_from bytes k m ++ values_from bytes
+      (k + m) n
+  unfolding values_from
+  values_then k m n =
+      ap (map value_of)
+      (take-add m n (drop k (tokens bytes)) ∙ ap (λ rest. take m (drop k (tokens bytes)) ++ take n rest)
+      (drop-drop m k (tokens bytes)))
+      ∙ map-append value_of (take m (drop k (tokens bytes))) (take n (drop (k + m) (tokens bytes)))
 
--- nothing yet
-pub adds_none : (bytes : List ℕ) (place n : ℕ) (xs : List ℕ) → n ≡ 0 → IsBetween bytes place →
-    AddsValues bytes place place n xs xs
-adds_none bytes place n xs none between = record {
-  between = between;
-  given = omega arith;
-  values = sym (append-nil xs)
-      ∙ ap (λ more. xs ++ more) (sym (values_none bytes (tokens_before bytes place))
-      ∙ ap (values_from bytes (tokens_before bytes place)) (sym none));
-}
+  -- nothing yet
+  pub adds_none : (place n : ℕ) (xs : List ℕ) → n ≡ 0 → IsBetween bytes place → AddsValues bytes place place n xs xs
+  adds_none place n xs none between = record {
+    between = between;
+    given = omega arith;
+    values = sym (append-nil xs)
+        ∙ ap (λ more. xs ++ more) (sym (values_none (tokens_before bytes place))
+        ∙ ap (values_from bytes (tokens_before bytes place)) (sym none));
+  }
 
--- some and then some more
-pub adds_then : (bytes : List ℕ) (from at place m n k : ℕ) (xs ys zs : List ℕ) → k ≡ m + n →
-    AddsValues bytes from at m xs ys → AddsValues bytes at place n ys zs → AddsValues bytes from place k xs zs
-adds_then bytes from at place m n k xs ys zs together one two = record {
-  between = two.between;
-  given = omega (arith, one.given, two.given);
-  values = two.values
-      ∙ ap₂ (λ front number. front ++ values_from bytes number n) one.values one.given
-      ∙ append_assoc xs (values_from bytes (tokens_before bytes from) m)
-      (values_from bytes (tokens_before bytes from + m) n)
-      ∙ ap (λ more. xs ++ more) (sym (values_then bytes (tokens_before bytes from) m n))
-      ∙ ap (λ number. xs ++ values_from bytes (tokens_before bytes from) number) (sym together);
-}
+  -- some and then some more
+  pub adds_then : (from at place m n k : ℕ) (xs ys zs : List ℕ) → k ≡ m + n → AddsValues bytes from at m xs ys →
+      AddsValues bytes at place n ys zs → AddsValues bytes from place k xs zs
+  adds_then from at place m n k xs ys zs together one two = record {
+    between = two.between;
+    given = omega (arith, one.given, two.given);
+    values = two.values
+        ∙ ap₂ (λ front number. front ++ values_from bytes number n) one.values one.given
+        ∙ append_assoc xs (values_from bytes (tokens_before bytes from) m)
+        (values_from bytes (tokens_before bytes from + m) n)
+        ∙ ap (λ more. xs ++ more) (sym (values_then (tokens_before bytes from) m n))
+        ∙ ap (λ number. xs ++ values_from bytes (tokens_before bytes from) number) (sym together);
+  }
 
--- one token
-pub adds_one : (bytes : List ℕ) (from place : ℕ) (t : Token) (xs ys : List ℕ) →
-    slice_get (tokens bytes) (tokens_before bytes from) ≡ Some t → tokens_before bytes place ≡ tokens_before bytes from
-    + 1 → IsBetween bytes place → ys ≡ xs ++ t.value ∷ [] → AddsValues bytes from place 1 xs ys
-adds_one bytes from place t xs ys next given between pushed = record {
-  between = between;
-  given = given;
-  values = pushed ∙ ap (λ more. xs ++ more) (sym (values_one bytes (tokens_before bytes from) t next));
-}
+  -- one token
+  pub adds_one : (from place : ℕ) (t : Token) (xs ys : List ℕ) →
+      slice_get (tokens bytes) (tokens_before bytes from) ≡ Some t →
+      tokens_before bytes place ≡ tokens_before bytes from + 1 → IsBetween bytes place → ys ≡ xs ++ t.value ∷ [] →
+      AddsValues bytes from place 1 xs ys
+  adds_one from place t xs ys next given between pushed = record {
+    between = between;
+    given = given;
+    values = pushed ∙ ap (λ more. xs ++ more) (sym (values_one (tokens_before bytes from) t next));
+  }
 
--- one token more
-pub adds_more : (bytes : List ℕ) (from at start place value n : ℕ) (xs ys zs : List ℕ) →
-    AddsValues bytes from at n xs ys → IsNext bytes at start place value → zs ≡ ys ++ value ∷ [] →
-    AddsValues bytes from place (n + 1) xs zs
-adds_more bytes from at start place value n xs ys zs adds next pushed =
-    adds_then bytes from at place n 1 (n + 1) xs ys zs refl adds
-    (adds_one bytes at place (token_of value start) ys zs next.token next.given next.between pushed)
+  -- one token more
+  pub adds_more : (from at start place value n : ℕ) (xs ys zs : List ℕ) → AddsValues bytes from at n xs ys →
+      IsNext bytes at start place value → zs ≡ ys ++ value ∷ [] → AddsValues bytes from place (n + 1) xs zs
+  adds_more from at start place value n xs ys zs adds next pushed =
+      adds_then from at place n 1 (n + 1) xs ys zs refl adds
+      (adds_one at place (token_of value start) ys zs next.token next.given next.between pushed)
 
 -- if the bytes of the file are told
 
@@ -93,25 +93,11 @@ pub told_more : (told told_now told_next : Option (List ℕ)) (from before betwe
     → IfSome told (λ bytes. AddsValues bytes from.place after.place all xs zs)
 told_more None told_now told_next from before between after t taken n all xs ys us zs same same_next number pushed reads
     adds answer more ready = tt
-told_more (Some bytes) None told_next from before between after t taken n all xs ys us zs same same_next number pushed
-    reads adds answer more ready = cc
-told_more (Some bytes) (Some now) None from before between after t taken n all xs ys us zs same same_next number pushed
-    reads adds answer more ready = cc
-told_more (Some bytes) (Some now) (Some next) from before between after t taken n all xs ys us zs same same_next number
+told_more (Some bytes) told_now told_next from before between after t taken n all xs ys us zs same same_next number
     pushed reads adds answer more ready =
-    let is : now ≡ bytes = cc in
-    let is_next : next ≡ bytes = cc in
-    let one = adds_one bytes before.place between.place t ys us
-    (subst (λ b. slice_get (tokens b) (tokens_before b before.place) ≡ Some t) is answer)
-    (subst (λ b. tokens_before b between.place ≡ tokens_before b before.place + 1) is more)
-    (subst (λ b. IsBetween b between.place) is_next reads.between) pushed in
+    let next : told_next ≡ Some bytes = same_next ∙ same in
     adds_then bytes from.place between.place after.place (taken + 1) n all xs us zs number
-    (adds_then bytes from.place before.place between.place taken 1 (taken + 1) xs ys us refl adds one)
-    (subst (λ b. AddsValues b between.place after.place n us zs) is_next ready)
-
--- as many, up to the same place
-pub told_as_many : (told : Option (List ℕ)) (from at place n k : ℕ) (xs ys : List ℕ) → at ≡ place → n ≡ k →
-    IfSome told (λ bytes. AddsValues bytes from at n xs ys) → IfSome told (λ bytes. AddsValues bytes from place k xs ys)
-told_as_many told from at place n k xs ys same number adds =
-    subst (λ p. IfSome told (λ bytes. AddsValues bytes from p k xs ys)) same
-    (subst (λ m. IfSome told (λ bytes. AddsValues bytes from at m xs ys)) number adds)
+    (adds_then bytes from.place before.place between.place taken 1 (taken + 1) xs ys us refl adds
+    (adds_one bytes before.place between.place t ys us (rw same at answer) (rw same at more)
+    (rw next at reads).between pushed))
+    (rw next at ready)

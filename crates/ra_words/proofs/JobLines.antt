@@ -1,7 +1,7 @@
 -- The words of each job are a line, and what is found in it is what the job says.
 use Rattle.std.proofs.Common.{◌≡◌, ◌∙◌, ◌<◌, ◌≤◌, ◌+◌, ◌++◌, ◌&&◌, ◌||◌, ◌==◌, ℕ, zero, suc, ap, ap₂, sym, refl}
 use Rattle.std.proofs.Common.{true≢false, inl, inr, codes, arith, if◌then◌else◌, Bool, true, false, not, List, [], ◌∷◌}
-use Rattle.std.proofs.Common.{Option, Some, None, length, drop, take, map}
+use Rattle.std.proofs.Common.{Option, Some, None, length, drop, take}
 use Rattle.std.proofs.Common.{add-one}
 use Rattle.std.specs.List.{list_all}
 use Rattle.std.specs.Option.{option_map_or}
@@ -14,25 +14,19 @@ use Rattle.std.proofs.lemmas.Slice.Eq.{bytes_eq-Decides}
 use Rattle.std.proofs.lemmas.Str.Parse.{tells_all_ascii_digits}
 use Rattle.clap.proofs.WalkLemmas.{both}
 use Rattle.clap.specs.declared.parser.matches.Found.{Found}
-use Rattle.ra_base.specs.declared.causes.Drawing.TheVariants.{Two}
 use Rattle.ra_words.specs.Words.{behind, has_option, is_name, value_at, word_at}
-use Rattle.ra_words.specs.Numbers.{has_digits, is_number, decimal_worth}
-use Rattle.ra_words.specs.LotTexts.{are_lots, first_place, is_lot, is_seed_lot, is_written, is_written_lot, lot_says}
+use Rattle.ra_words.specs.Numbers.{has_digits, is_number}
+use Rattle.ra_words.specs.LotTexts.{are_lots, first_place, is_lot, is_seed_lot, is_written, is_written_lot}
 use Rattle.ra_words.specs.LotTexts.{seed_text}
-use Rattle.ra_words.specs.Lines.{Finds, Line, Spells, option_words, plain_of, words_of_line}
-use Rattle.ra_words.specs.Forms.{RunFound, found_check, found_bound, found_bound_from, found_solve, found_trial}
-use Rattle.ra_words.specs.Forms.{found_verify, found_repair, found_edit}
+use Rattle.ra_words.specs.Lines.{Finds, Line, Spells, option_words, words_of_line}
+use Rattle.ra_words.specs.Forms.{RunFound}
 use Rattle.ra_words.proofs.LotLaws.{lots_told}
-use Rattle.ra_words.specs.Jobs.{Bounds, Checks, Solves, Trials, Verifies, Repairs, Edits, bound_says, bound_from_says}
-use Rattle.ra_words.specs.Jobs.{check_says, closed_place, closed_text, draws_place, draws_text, drawing_says}
-use Rattle.ra_words.specs.Jobs.{ends_closed, ends_in_lots, is_bound, is_bound_from, is_check, is_closed, is_drawing}
-use Rattle.ra_words.specs.Jobs.{is_slack, is_solve, lot_words, lots_place, slack_says, slack_text, solve_says, is_trial}
-use Rattle.ra_words.specs.Jobs.{trial_says, is_verify, verify_says, is_repair, repair_says, lot_place, is_edit}
-use Rattle.ra_words.specs.Jobs.{edit_says}
+use Rattle.ra_words.specs.Jobs.{closed_place, closed_text, draws_place, draws_text, ends_closed, ends_in_lots, is_closed}
+use Rattle.ra_words.specs.Jobs.{is_drawing, is_slack, lot_words, lots_place, slack_text, is_repair, lot_place}
 
 -- ---- words that are no option
 
-digits_named : (text : List ℕ) → is_number text ≡ true → is_name text ≡ true
+pub digits_named : (text : List ℕ) → is_number text ≡ true → is_name text ≡ true
 unfolding is_number has_digits
 digits_named [] number = cc
 digits_named (x ∷ xs) number =
@@ -74,24 +68,25 @@ take_named : (word : List ℕ) → is_name (take 2 word) ≡ is_name word
 take_named [] = refl
 take_named (x ∷ xs) = refl
 
-written_named : (word : List ℕ) → is_written word ≡ true → is_name word ≡ true
-unfolding is_written
-written_named word written =
-    sym (take_named word) ∙ ap is_name ((bytes_eq-Decides (take 2 word) (codes "w:")).0 written)
+module _ (word : List ℕ) where
+  written_named : is_written word ≡ true → is_name word ≡ true
+  unfolding is_written
+  written_named written =
+      sym (take_named word) ∙ ap is_name ((bytes_eq-Decides (take 2 word) (codes "w:")).0 written)
 
-seed_lot_named : (word : List ℕ) → is_seed_lot word ≡ true → is_name word ≡ true
-unfolding is_seed_lot
-seed_lot_named word lot = let seed : is_number (seed_text word) ≡ true = grind (arith, common_steps) in
-    seed_named word (digits_named (seed_text word) seed)
+  seed_lot_named : is_seed_lot word ≡ true → is_name word ≡ true
+  unfolding is_seed_lot
+  seed_lot_named lot = let seed : is_number (seed_text word) ≡ true = grind (arith, common_steps) in
+      seed_named word (digits_named (seed_text word) seed)
 
-lot_named : (word : List ℕ) → is_lot word ≡ true → is_name word ≡ true
-unfolding is_lot
-lot_named word lot = go (is_written word) refl lot
-  where
-    go : (b : Bool) → is_written word ≡ b → (if b then is_written_lot word else is_seed_lot word) ≡ true →
-        is_name word ≡ true
-    go true is e = written_named word is
-    go false is e = seed_lot_named word e
+  lot_named : is_lot word ≡ true → is_name word ≡ true
+  unfolding is_lot
+  lot_named lot = go (is_written word) refl lot
+    where
+      go : (b : Bool) → is_written word ≡ b → (if b then is_written_lot word else is_seed_lot word) ≡ true →
+          is_name word ≡ true
+      go true is e = written_named is
+      go false is e = seed_lot_named e
 
 lots_named : (words : List (List ℕ)) → list_all is_lot words ≡ true → list_all is_name words ≡ true
 lots_named [] lots = refl
@@ -106,8 +101,7 @@ unfolding word_at
 name_within words place name = elim (cases_lt place (length words)) [
   | inl within ↦ within
   | inr past ↦
-      let none : is_name (word_at words place) ≡ false = ap is_name (get_or_past words place [] past) in
-      absurd (true≢false (sym name ∙ none))
+      absurd (true≢false (sym name ∙ (ap is_name (get_or_past words place [] past))))
 ]
 
 -- a number of words from a place on
@@ -180,10 +174,28 @@ options_here words slack closed draws behind_slack behind_closed one two three =
     ∙ ap (λ k. first ++ (second ++ drop k words)) (sym behind_closed)
     ∙ ap (λ ws. first ++ (second ++ ws)) (option_here (codes "--draws") words draws three)
 
+-- after this, a number of names from a place on
+abbrev pub named : Bool → ℕ → ℕ → List (List ℕ) → Bool
+named before zero place words = before
+named before (suc n) place words = named (before && is_name (word_at words place)) n (suc place) words
+
+pub names_of : (before : Bool) (n place : ℕ) (words : List (List ℕ)) → named before n place words ≡ true →
+    (before ≡ true) × (list_all is_name (words_from place words n) ≡ true)
+names_of before zero place words is = (is, refl)
+names_of before (suc n) place words is =
+    let rest = names_of (before && is_name (word_at words place)) n (suc place) words is in
+    let parts = both before (is_name (word_at words place)) rest.0 in
+    (parts.0, ap₂ (λ a b. a && b) parts.1 rest.1)
+
 -- a number of names follow the command word, and after them a line ends so
 pub record Files (end : List (List ℕ) → ℕ → Bool) (n : ℕ) (words : List (List ℕ)) : Type 0 where
   names : list_all is_name (words_from 1 words n) ≡ true
   ends : end words (suc n) ≡ true
+
+pub files_of : (end : List (List ℕ) → ℕ → Bool) (n : ℕ) (words : List (List ℕ)) (command : Bool) →
+    (named command n 1 words && end words (suc n)) ≡ true → Files end n words
+files_of end n words command is = let parts = both (named command n 1 words) (end words (suc n)) is in
+    record { names = (names_of command n 1 words parts.0).1; ends = parts.1 }
 
 -- ---- files, and then `--closed` or nothing: check, a bound from a start, and edit
 
@@ -214,8 +226,6 @@ closing_spelled k words files =
     let is = closed_parts words (suc n) files.ends in
     let within : k + 1 < length words = names_within k 1 words files.names in
     let named = closed_named (value_at (codes "--closed") words (suc n)) is.closed in
-    let none : drop (behind (codes "--closed") words (suc n)) words ≡ [] =
-    drop_all (behind (codes "--closed") words (suc n)) words (omega (arith, is.last)) in
     let here : suc n + 0 ≡ suc n = omega arith in
     record {
       is =
@@ -223,50 +233,14 @@ closing_spelled k words files =
           ∙ ap (λ k. words_from 0 words (suc n) ++ drop k words) here
           ∙ ap (λ ws. words_from 0 words (suc n) ++ ws) (option_here (codes "--closed") words (suc n) named)
           ∙ ap (λ ws. words_from 0 words (suc n) ++
-          (option_words (codes "--closed") (value_at (codes "--closed") words (suc n)) ++ ws)) none;
+          (option_words (codes "--closed") (value_at (codes "--closed") words (suc n)) ++ ws))
+          (drop_all (behind (codes "--closed") words (suc n)) words (omega (arith, is.last)));
       files = files.names;
       slack = refl;
       closed = named;
       draws = refl;
       behind = refl;
     }
-
-pub check_files : (words : List (List ℕ)) → is_check words ≡ true → Files ends_closed 3 words
-unfolding is_check
-check_files words is = record { names = grind (arith, common_steps); ends = grind (arith, common_steps) }
-
-pub check_found : (words : List (List ℕ)) (found : Found) → is_check words ≡ true →
-    ((line : Line) → Spells line words → Finds line found)
-    → found_check found ≡ check_says words
-unfolding check_says word_at
-check_found words found check finds =
-    let f = finds (closing_line 3 words) (closing_spelled 2 words (check_files words check)) in
-    λ i. Checks (word_at (f.plain i) 0) (word_at (f.plain i) 1) (word_at (f.plain i) 2) (f.closed i)
-
-pub bound_from_files : (words : List (List ℕ)) → is_bound_from words ≡ true → Files ends_closed 2 words
-unfolding is_bound_from
-bound_from_files words is = record { names = grind (arith, common_steps); ends = grind (arith, common_steps) }
-
-pub bound_from_found : (words : List (List ℕ)) (found : Found) → is_bound_from words ≡ true →
-    ((line : Line) → Spells line words → Finds line found)
-    → found_bound_from found ≡ bound_from_says words
-unfolding bound_from_says word_at
-bound_from_found words found bound finds =
-    let f = finds (closing_line 2 words) (closing_spelled 1 words (bound_from_files words bound)) in
-    λ i. Bounds (word_at (f.plain i) 0) (Some (word_at (f.plain i) 1)) (f.closed i)
-
-pub edit_files : (words : List (List ℕ)) → is_edit words ≡ true → Files ends_closed 4 words
-unfolding is_edit
-edit_files words is = record { names = grind (arith, common_steps); ends = grind (arith, common_steps) }
-
-pub edit_found : (words : List (List ℕ)) (found : Found) → is_edit words ≡ true →
-    ((line : Line) → Spells line words → Finds line found)
-    → found_edit found ≡ edit_says words
-unfolding edit_says word_at
-edit_found words found edit finds =
-    let f = finds (closing_line 4 words) (closing_spelled 3 words (edit_files words edit)) in
-    λ i. Edits (word_at (f.plain i) 0) (word_at (f.plain i) 1) (word_at (f.plain i) 2) (word_at (f.plain i) 3)
-    (f.closed i)
 
 -- ---- bound and trial
 
@@ -281,7 +255,11 @@ pair_line words = record {
   behind = [];
 }
 
-pair_spelled : (words : List (List ℕ)) → length words ≡ 2 → is_name (word_at words 1) ≡ true →
+pub pair_parts : (words : List (List ℕ)) (command last : Bool) → ((length words == 2 && command) && last) ≡ true →
+    (length words ≡ 2) × (last ≡ true)
+pair_parts words command last is = (grind (arith, common_steps), grind (arith, common_steps))
+
+pub pair_spelled : (words : List (List ℕ)) → length words ≡ 2 → is_name (word_at words 1) ≡ true →
     Spells (pair_line words) words
 unfolding words_of_line option_words
 pair_spelled words two name = record {
@@ -293,48 +271,6 @@ pair_spelled words two name = record {
   draws = refl;
   behind = refl;
 }
-
-pub bound_spelled : (words : List (List ℕ)) → is_bound words ≡ true → Spells (pair_line words) words
-unfolding is_bound
-bound_spelled words bound =
-    let name : is_name (word_at words 1) ≡ true = grind (arith, common_steps) in
-    let two : length words ≡ 2 = grind (arith, common_steps) in
-    pair_spelled words two name
-
-pub bound_found : (words : List (List ℕ)) (found : Found) → is_bound words ≡ true →
-    ((line : Line) → Spells line words → Finds line found)
-    → found_bound found ≡ bound_says words
-unfolding bound_says word_at
-bound_found words found bound finds =
-    let f = finds (pair_line words) (bound_spelled words bound) in
-    λ i. Bounds (word_at (f.plain i) 0) None None
-
-trial_number : (words : List (List ℕ)) → is_trial words ≡ true → is_number (word_at words 1) ≡ true
-unfolding is_trial
-trial_number words trial = grind (arith, common_steps)
-
-pub trial_spelled : (words : List (List ℕ)) → is_trial words ≡ true → Spells (pair_line words) words
-unfolding is_trial
-trial_spelled words trial =
-    let two : length words ≡ 2 = grind (arith, common_steps) in
-    pair_spelled words two (digits_named (word_at words 1) (trial_number words trial))
-
--- the plain word that is found is the number
-pub trial_plain : (words : List (List ℕ)) (found : Found) → is_trial words ≡ true →
-    ((line : Line) → Spells line words → Finds line found)
-    → is_number (word_at (plain_of found) 0) ≡ true
-unfolding word_at
-trial_plain words found trial finds =
-    let f = finds (pair_line words) (trial_spelled words trial) in
-    ap (λ ws. is_number (word_at ws 0)) f.plain ∙ trial_number words trial
-
-pub trial_found : (words : List (List ℕ)) (found : Found) → is_trial words ≡ true →
-    ((line : Line) → Spells line words → Finds line found)
-    → found_trial found ≡ trial_says words
-unfolding trial_says word_at
-trial_found words found trial finds =
-    let f = finds (pair_line words) (trial_spelled words trial) in
-    ap (λ ws. Trials (decimal_worth (word_at ws 0))) f.plain
 
 -- ---- files, options and lots: solve and verify
 
@@ -390,51 +326,15 @@ running_spelled k words files =
     }
 
 -- what is found of a run after a number of files: its slack and its lots
-run_fits : (n : ℕ) (words : List (List ℕ)) (found : Found) → ends_in_lots words (suc n) ≡ true →
-    Finds (running_line n words) found
-    → drop n (words_from 1 words n ++ lot_words words (suc n)) ≡ lot_words words (suc n) → RunFound found n
-run_fits n words found ends f behind =
-    let is = lots_parts words (suc n) ends in
+pub run_fits : (n : ℕ) (words : List (List ℕ)) (found : Found) → Files ends_in_lots n words →
+    Finds (running_line n words) found →
+    drop n (words_from 1 words n ++ lot_words words (suc n)) ≡ lot_words words (suc n) → RunFound found n
+run_fits n words found files f behind =
+    let is = lots_parts words (suc n) files.ends in
     record {
       slack = ap is_slack f.slack ∙ is.slack;
       lots = ap (λ ws. are_lots (drop n ws)) f.plain ∙ ap are_lots behind ∙ is.lots;
     }
-
-pub solve_files : (words : List (List ℕ)) → is_solve words ≡ true → Files ends_in_lots 2 words
-unfolding is_solve
-solve_files words is = record { names = grind (arith, common_steps); ends = grind (arith, common_steps) }
-
-pub solve_fits : (words : List (List ℕ)) (found : Found) → is_solve words ≡ true →
-    ((line : Line) → Spells line words → Finds line found) → RunFound found 2
-solve_fits words found solve finds = run_fits 2 words found (solve_files words solve).ends
-    (finds (running_line 2 words) (running_spelled 1 words (solve_files words solve))) refl
-
-pub solve_found : (words : List (List ℕ)) (found : Found) → is_solve words ≡ true →
-    ((line : Line) → Spells line words → Finds line found)
-    → found_solve found ≡ solve_says words
-unfolding solve_says word_at
-solve_found words found solve finds =
-    let f = finds (running_line 2 words) (running_spelled 1 words (solve_files words solve)) in
-    λ i. Solves (word_at (f.plain i) 0) (word_at (f.plain i) 1) (f.closed i) (slack_says (f.slack i))
-    (drawing_says (f.draws i)) (map lot_says (drop 2 (f.plain i)))
-
-pub verify_files : (words : List (List ℕ)) → is_verify words ≡ true → Files ends_in_lots 3 words
-unfolding is_verify
-verify_files words is = record { names = grind (arith, common_steps); ends = grind (arith, common_steps) }
-
-pub verify_fits : (words : List (List ℕ)) (found : Found) → is_verify words ≡ true →
-    ((line : Line) → Spells line words → Finds line found) → RunFound found 3
-verify_fits words found verify finds = run_fits 3 words found (verify_files words verify).ends
-    (finds (running_line 3 words) (running_spelled 2 words (verify_files words verify))) refl
-
-pub verify_found : (words : List (List ℕ)) (found : Found) → is_verify words ≡ true →
-    ((line : Line) → Spells line words → Finds line found)
-    → found_verify found ≡ verify_says words
-unfolding verify_says word_at
-verify_found words found verify finds =
-    let f = finds (running_line 3 words) (running_spelled 2 words (verify_files words verify)) in
-    λ i. Verifies (word_at (f.plain i) 0) (word_at (f.plain i) 1) (word_at (f.plain i) 2) (f.closed i)
-    (slack_says (f.slack i)) (drawing_says (f.draws i)) (map lot_says (drop 3 (f.plain i)))
 
 -- ---- repair
 
@@ -448,45 +348,32 @@ repair_line words = record {
   behind = drop (lot_place words) words;
 }
 
-record IsRepair (words : List (List ℕ)) : Type 0 where
-  names : list_all is_name (words_from 1 words 2) ≡ true
-  closed : is_closed (value_at (codes "--closed") words 3) ≡ true
-  lots : are_lots (drop (lot_place words) words) ≡ true
+pub record IsRepair (words : List (List ℕ)) : Type 0 where
+  pub names : list_all is_name (words_from 1 words 2) ≡ true
+  pub closed : is_closed (value_at (codes "--closed") words 3) ≡ true
+  pub lots : are_lots (drop (lot_place words) words) ≡ true
 
-repair_parts : (words : List (List ℕ)) → is_repair words ≡ true → IsRepair words
-unfolding is_repair
-repair_parts words repair = record {
-  names = grind (arith, common_steps);
-  closed = grind (arith, common_steps);
-  lots = grind (arith, common_steps);
-}
+module _ (words : List (List ℕ)) (repair : is_repair words ≡ true) where
+  pub repair_parts : IsRepair words
+  unfolding is_repair
+  repair_parts = record {
+    names = grind (arith, common_steps);
+    closed = grind (arith, common_steps);
+    lots = grind (arith, common_steps);
+  }
 
-pub repair_spelled : (words : List (List ℕ)) → is_repair words ≡ true → Spells (repair_line words) words
-unfolding words_of_line option_words lot_place
-repair_spelled words repair =
-    let is = repair_parts words repair in
-    let named = closed_named (value_at (codes "--closed") words 3) is.closed in
-    record {
-      is =
-          words_here 3 0 words (omega (arith, names_within 1 1 words is.names))
-          ∙ ap (λ ws. words_from 0 words 3 ++ ws) (option_here (codes "--closed") words 3 named);
-      files = is.names;
-      slack = refl;
-      closed = named;
-      draws = refl;
-      behind = lots_named (drop (lot_place words) words) (lots_told (drop (lot_place words) words) is.lots);
-    }
-
-pub repair_lots : (words : List (List ℕ)) (found : Found) → is_repair words ≡ true →
-    ((line : Line) → Spells line words → Finds line found) → are_lots (drop 2 (plain_of found)) ≡ true
-repair_lots words found repair finds =
-    ap (λ ws. are_lots (drop 2 ws)) (finds (repair_line words) (repair_spelled words repair)).plain
-    ∙ (repair_parts words repair).lots
-
-pub repair_found : (words : List (List ℕ)) (found : Found) → is_repair words ≡ true →
-    ((line : Line) → Spells line words → Finds line found)
-    → found_repair found ≡ repair_says words
-unfolding repair_says word_at
-repair_found words found repair finds =
-    let f = finds (repair_line words) (repair_spelled words repair) in
-    λ i. Repairs (word_at (f.plain i) 0) (word_at (f.plain i) 1) (f.closed i) 0 Two (map lot_says (drop 2 (f.plain i)))
+  pub repair_spelled : Spells (repair_line words) words
+  unfolding words_of_line option_words lot_place
+  repair_spelled =
+      let is = repair_parts in
+      let named = closed_named (value_at (codes "--closed") words 3) is.closed in
+      record {
+        is =
+            words_here 3 0 words (omega (arith, names_within 1 1 words is.names))
+            ∙ ap (λ ws. words_from 0 words 3 ++ ws) (option_here (codes "--closed") words 3 named);
+        files = is.names;
+        slack = refl;
+        closed = named;
+        draws = refl;
+        behind = lots_named (drop (lot_place words) words) (lots_told (drop (lot_place words) words) is.lots);
+      }

@@ -6,9 +6,9 @@ use Rattle.std.specs.List.{list_all}
 use Rattle.clap.specs.Words.{App, HasMatchesOf, all_of, first_of, first_value, found_of, is_simple, matches_of, rows_of}
 use Rattle.clap.specs.Words.{takes}
 use Rattle.clap.specs.Simple.{argument_words, built}
-use Rattle.clap.specs.Takes.{built_takes, level_passes, settle_passes}
+use Rattle.clap.specs.Takes.{built_takes, settle_passes}
 use Rattle.clap.specs.Walk.{Row, Rule, Text, Walk, default_rows, finished, idle, is_empty, nothing_held, reading_by}
-use Rattle.clap.specs.Walk.{settled_rows, walked, with_default, has_row}
+use Rattle.clap.specs.Walk.{settled_rows, with_default, has_row}
 use Rattle.clap.specs.declared.parser.matches.ArgMatches.{ArgMatches}
 use Rattle.clap.proofs.OnLiterals.{clap_on_literals}
 use Rattle.clap.proofs.SimpleLemmas.{is_nil}
@@ -17,7 +17,7 @@ use Rattle.clap.proofs.WalkLemmas.{both, first_value-rows, raw_values-rows}
 use Rattle.ra_words.specs.Lines.{Finds, Line, Spells, line_app, option_words, words_of_line}
 use Rattle.ra_words.proofs.RowLaws.{first_all}
 use Rattle.ra_words.proofs.LineWalk.{Closed, Draws, Given, Goes, Holds, Reads, Seen, Slack, end_goes, id_of, line_rules}
-use Rattle.ra_words.proofs.LineWalk.{line_shape, maybe_goes, plains_go, seen_of, some_words, standing, with_seen}
+use Rattle.ra_words.proofs.LineWalk.{maybe_goes, plains_go, seen_of, some_words, standing, with_seen}
 
 -- the words after the command word
 abbrev behind_command : Line → List Text
@@ -60,17 +60,16 @@ line_goes line words is =
     let s1 : Seen = record nothing_seen { plain = line.files } in
     let s2 : Seen = with_seen Slack line.slack s1 in
     let s3 : Seen = with_seen Closed line.closed s2 in
-    let s4 : Seen = with_seen Draws line.draws s3 in
     let w4 = line.behind in
     let w3 = option_words (codes "--draws") line.draws ++ w4 in
     let w2 = option_words (codes "--closed") line.closed ++ w3 in
-    let w1 = option_words (codes "--slack") line.slack ++ w2 in
-    plains_go (standing [] None idle) nothing_seen all line.files w1 at_start is.files (λ a ha.
+    plains_go (standing [] None idle) nothing_seen all line.files
+    (option_words (codes "--slack") line.slack ++ w2) at_start is.files (λ a ha.
     maybe_goes a s1 all Slack line.slack w2 ha is.slack refl (λ b hb.
     maybe_goes b s2 all Closed line.closed w3 hb is.closed refl (λ c hc.
     maybe_goes c s3 all Draws line.draws w4 hc is.draws refl (λ d hd.
     subst (λ ws. Goes d ws all) (append-nil line.behind)
-    (plains_go d s4 all line.behind [] hd is.behind (λ e he. end_goes e all he))))))
+    (plains_go d (with_seen Draws line.draws s3) all line.behind [] hd is.behind (λ e he. end_goes e all he))))))
 
 -- ---- what is found
 
@@ -97,12 +96,13 @@ unfolding words_of_line
 line_rows line words is =
     let goes = line_goes line words is in
     let h = goes.holds in
-    let last = settled_rows line_rules h.pending h.rows in
-    let there : matches_of line_app words ≡ last =
-    ap (λ ws. matches_of line_app ws) is.is
-    ∙ ap (λ (w : Walk). finished line_rules w.held) h.at
-    ∙ none_by_default line_rules last refl in
-    (last, there, h.reads)
+    let last = settled_rows line_rules h.pending h.rows in (
+      last,
+      ap (λ ws. matches_of line_app ws) is.is
+          ∙ ap (λ (w : Walk). finished line_rules w.held) h.at
+          ∙ none_by_default line_rules last refl,
+      h.reads,
+    )
 
 words_in : (words : List Text) → unwrap_or (some_words words) [] ≡ words
 words_in [] = refl
@@ -145,13 +145,9 @@ unfolding words_of_line
 line_taken app words is line spelled =
     let goes = line_goes line words spelled in
     let h = goes.holds in
-    let rest = behind_command line in
-    let settles : settle_passes line_rules false (fold (walked line_rules []) (standing [] None idle) rest).held ≡
-    true =
-    ap (λ (w : Walk). settle_passes line_rules false w.held) h.at ∙ h.settles in
-    let level : level_passes line_shape [] nothing_held rest false ≡ true =
-    ap₂ (λ a b. a && b) goes.passes (ap (λ b. b && true) settles) in
     ap (λ a. takes a words) is
     ∙ ap₂ (λ a b. a && b) line_simple
     (ap (λ ws. built_takes (built line_app) nothing_held (argument_words line_app ws)) spelled.is
-    ∙ leaf_takes (built line_app) nothing_held rest refl level)
+    ∙ leaf_takes (built line_app) nothing_held (behind_command line) refl
+    (ap₂ (λ a b. a && b) goes.passes
+    (ap (λ b. b && true) (ap (λ (w : Walk). settle_passes line_rules false w.held) h.at ∙ h.settles))))

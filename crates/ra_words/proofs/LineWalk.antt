@@ -13,7 +13,7 @@ use Rattle.clap.specs.Simple.{filled, with_index}
 use Rattle.clap.specs.Takes.{bundle_passes, flag_word_passes, long_passes, other_passes, settle_passes, step_passes}
 use Rattle.clap.specs.Takes.{turn_passes, use_passes, walk_passes, word_passes}
 use Rattle.clap.specs.Walk.{Held, Row, Rule, Step, Text, Waiting, Walk, after_flag, after_step, all_of, arg_by_id}
-use Rattle.clap.specs.Walk.{arg_by_long, has_row, idle, is_pending, long_met, long_or_other, next, option, option_word}
+use Rattle.clap.specs.Walk.{arg_by_long, idle, is_pending, long_met, long_or_other, next, option, option_word}
 use Rattle.clap.specs.Walk.{plain_word, positional, pushed, settled, settled_rows, short_or_plain, subcommand_met}
 use Rattle.clap.specs.Walk.{subcommand_or_other, trailing, used_by_id, walked, with_values, word_met}
 use Rattle.clap.specs.declared.builder.value_parser.Reading.TheVariants.{AsWritten}
@@ -47,11 +47,12 @@ no_end (x ∷ xs) name = go (x == 45) refl
     go true is = cc
     go false is = rw is refl
 
-no_long : (word : Text) → is_name word ≡ true → long_of word ≡ None
-no_long word name = ap (λ o. option_and_then long_of_rest (option_and_then (strip_byte 45) o)) (not_dash word name)
+module _ (word : Text) (name : is_name word ≡ true) where
+  no_long : long_of word ≡ None
+  no_long = ap (λ o. option_and_then long_of_rest (option_and_then (strip_byte 45) o)) (not_dash word name)
 
-no_short : (word : Text) → is_name word ≡ true → short_of word ≡ None
-no_short word name = ap (λ o. option_and_then short_of_rest o) (not_dash word name)
+  no_short : short_of word ≡ None
+  no_short = ap (λ o. option_and_then short_of_rest o) (not_dash word name)
 
 no_command : (waiting : Waiting) (word : Text) → subcommand_met [] waiting word ≡ None
 no_command idle word = refl
@@ -101,60 +102,58 @@ or_true : (b : Bool) → (b || true) ≡ true
 or_true true = refl
 or_true false = refl
 
--- a plain word goes after the plain words
-plain_walked : (rows : List Row) (pending : Option (Text × List Text)) (waiting : Waiting) (word : Text) →
-    is_free waiting ≡ true → is_name word ≡ true
-    → walked line_rules [] (standing rows pending waiting) word ≡ standing (settled_rows line_rules pending rows)
-    (Some (codes "plain", word ∷ [])) positional
-unfolding walked
-plain_walked rows pending waiting word free name = met waiting free ∙ settles
-  where
-    plain : Rule
-    plain = with_index 1 (filled plain_rule)
+module _ (rows : List Row) (pending : Option (Text × List Text)) (waiting : Waiting) (word : Text)
+    (free : is_free waiting ≡ true) (name : is_name word ≡ true) where
+  -- a plain word goes after the plain words
+  plain_walked : walked line_rules [] (standing rows pending waiting) word ≡
+      standing (settled_rows line_rules pending rows) (Some (codes "plain", word ∷ [])) positional
+  unfolding walked
+  plain_walked = met waiting free ∙ settles
+    where
+      plain : Rule
+      plain = with_index 1 (filled plain_rule)
 
-    at : Bool → Walk
-    at b = record {
-      held = pushed (codes "plain") word (if b then held rows pending else settled line_rules (held rows pending));
-      waiting = positional;
-      position = 1;
-      is_trailing = false;
-      stopped = None;
-    }
+      at : Bool → Walk
+      at b = record {
+        held = pushed (codes "plain") word (if b then held rows pending else settled line_rules (held rows pending));
+        waiting = positional;
+        position = 1;
+        is_trailing = false;
+        stopped = None;
+      }
 
-    met : (w : Waiting) → is_free w ≡ true → walked line_rules [] (standing rows pending w) word ≡
-        at (is_pending plain pending && false)
-    met idle e = ap (λ (m : Held × Step). after_step line_rules word (standing rows pending idle) m.0 m.1)
-        (plain_met line_shape idle word (held rows pending) name)
-    met (option id) e = cc
-    met positional e = ap (λ (m : Held × Step). after_step line_rules word (standing rows pending positional) m.0 m.1)
-        (plain_met line_shape positional word (held rows pending) name)
+      met : (w : Waiting) → is_free w ≡ true → walked line_rules [] (standing rows pending w) word ≡
+          at (is_pending plain pending && false)
+      met idle e = ap (λ (m : Held × Step). after_step line_rules word (standing rows pending idle) m.0 m.1)
+          (plain_met line_shape idle word (held rows pending) name)
+      met (option id) e = cc
+      met positional e = ap (λ (m : Held × Step). after_step line_rules word (standing rows pending positional) m.0 m.1)
+          (plain_met line_shape positional word (held rows pending) name)
 
-    settles : at (is_pending plain pending && false) ≡ standing (settled_rows line_rules pending rows)
-        (Some (codes "plain", word ∷ [])) positional
-    settles = ap at (and_false (is_pending plain pending))
+      settles : at (is_pending plain pending && false) ≡ standing (settled_rows line_rules pending rows)
+          (Some (codes "plain", word ∷ [])) positional
+      settles = ap at (and_false (is_pending plain pending))
 
--- the word is taken, if what waited before it is
-plain_turn : (rows : List Row) (pending : Option (Text × List Text)) (waiting : Waiting) (word : Text) →
-    is_free waiting ≡ true → is_name word ≡ true
-    → settle_passes line_rules false (held rows pending) ≡ true →
-    turn_passes line_shape [] (standing rows pending waiting) word ≡ true
-plain_turn rows pending waiting word free name settles =
-    ap₂ (λ a b. a && b) (plain_passes line_shape waiting word (held rows pending) name)
-    (ap (λ (m : Held × Step). step_passes line_shape 1 m.0 m.1)
-    (plain_met line_shape waiting word (held rows pending) name) ∙ steps waiting free)
-  where
-    plain : Rule
-    plain = with_index 1 (filled plain_rule)
+  -- the word is taken, if what waited before it is
+  plain_turn : settle_passes line_rules false (held rows pending) ≡ true →
+      turn_passes line_shape [] (standing rows pending waiting) word ≡ true
+  plain_turn settles =
+      ap₂ (λ a b. a && b) (plain_passes line_shape waiting word (held rows pending) name)
+      (ap (λ (m : Held × Step). step_passes line_shape 1 m.0 m.1)
+      (plain_met line_shape waiting word (held rows pending) name) ∙ steps waiting free)
+    where
+      plain : Rule
+      plain = with_index 1 (filled plain_rule)
 
-    here : ((is_pending plain pending && false) || settle_passes line_rules false (held rows pending)) ≡ true
-    here = ap (λ b. (is_pending plain pending && false) || b) settles ∙ or_true (is_pending plain pending && false)
+      here : ((is_pending plain pending && false) || settle_passes line_rules false (held rows pending)) ≡ true
+      here = ap (λ b. (is_pending plain pending && false) || b) settles ∙ or_true (is_pending plain pending && false)
 
-    steps : (w : Waiting) → is_free w ≡ true
-        → step_passes line_shape 1 (plain_word line_rules w word (held rows pending)).0
-        (plain_word line_rules w word (held rows pending)).1 ≡ true
-    steps idle e = here
-    steps (option id) e = cc
-    steps positional e = here
+      steps : (w : Waiting) → is_free w ≡ true
+          → step_passes line_shape 1 (plain_word line_rules w word (held rows pending)).0
+          (plain_word line_rules w word (held rows pending)).1 ≡ true
+      steps idle e = here
+      steps (option id) e = cc
+      steps positional e = here
 
 -- ---- an option and its value
 
@@ -362,83 +361,78 @@ one_turn : (w v : Walk) (word : Text) (words : List Text) (seen : Seen) → turn
     → Goes v words seen → Goes w (word ∷ words) seen
 unfolding walk_passes
 one_turn w v word words seen passes is goes =
-    let here : walk_passes line_shape [] (walked line_rules [] w word) words ≡ true =
-    ap (λ u. walk_passes line_shape [] u words) is ∙ goes.passes in
     record {
-      passes = ap₂ (λ a b. a && b) passes here;
+      passes = ap₂ (λ a b. a && b) passes (ap (λ u. walk_passes line_shape [] u words) is ∙ goes.passes);
       holds = subst (λ (u : Walk). Holds (fold (walked line_rules []) u words) seen) (sym is) goes.holds;
     }
 
-pub end_goes : (w : Walk) (seen : Seen) → Holds w seen → Goes w [] seen
-unfolding walk_passes
-end_goes w seen holds = record { passes = refl; holds = holds }
+module _ (w : Walk) (seen : Seen) where
+  pub end_goes : Holds w seen → Goes w [] seen
+  unfolding walk_passes
+  end_goes holds = record { passes = refl; holds = holds }
 
-plain_goes : (w : Walk) (seen all : Seen) (word : Text) (words : List Text) → Holds w seen → is_name word ≡ true
-    → ((v : Walk) → Holds v (record seen { plain = seen.plain ++ word ∷ [] }) → Goes v words all) →
-    Goes w (word ∷ words) all
-plain_goes w seen all word words h name more =
-    let v = standing (settled_rows line_rules h.pending h.rows) (Some (codes "plain", word ∷ [])) positional in
-    subst (λ (u : Walk). Goes u (word ∷ words) all) (sym h.at)
-    (one_turn (standing h.rows h.pending h.waiting) v word words all
-    (plain_turn h.rows h.pending h.waiting word h.free name h.settles)
-    (plain_walked h.rows h.pending h.waiting word h.free name)
-    (more v (record {
-      rows = settled_rows line_rules h.pending h.rows;
-      pending = Some (codes "plain", word ∷ []);
-      waiting = positional;
-      at = refl;
-      free = refl;
-      settles = refl;
-      reads = plain_reads (settled_rows line_rules h.pending h.rows) seen word h.reads;
-    })))
+  plain_goes : (all : Seen) (word : Text) (words : List Text) → Holds w seen → is_name word ≡ true →
+      ((v : Walk) → Holds v (record seen { plain = seen.plain ++ word ∷ [] }) → Goes v words all) →
+      Goes w (word ∷ words) all
+  plain_goes all word words h name more =
+      let v = standing (settled_rows line_rules h.pending h.rows) (Some (codes "plain", word ∷ [])) positional in
+      rw h.at
+      (one_turn (standing h.rows h.pending h.waiting) v word words all
+      (plain_turn h.rows h.pending h.waiting word h.free name h.settles)
+      (plain_walked h.rows h.pending h.waiting word h.free name)
+      (more v (record {
+        rows = settled_rows line_rules h.pending h.rows;
+        pending = Some (codes "plain", word ∷ []);
+        waiting = positional;
+        at = refl;
+        free = refl;
+        settles = refl;
+        reads = plain_reads (settled_rows line_rules h.pending h.rows) seen word h.reads;
+      })))
 
-option_goes : (w : Walk) (seen all : Seen) (given : Given) (text : Text) (words : List Text) → Holds w seen →
-    is_name text ≡ true → seen_of given seen ≡ None
-    → ((v : Walk) → Holds v (with_seen given (Some text) seen) → Goes v words all) →
-    Goes w (flag_of given ∷ text ∷ words) all
-option_goes w seen all given text words h name none more =
-    let rows = settled_rows line_rules h.pending h.rows in
-    let id = id_of given in
-    let is = are_options given in
-    let missing : all_of id rows ≡ None = h.reads.options given ∙ ap (λ o. option_map (λ t. t ∷ []) o) none in
-    let new : has_row id rows ≡ false = has_row_all id rows ∙ ap is_some missing in
-    let settles : settle_passes line_rules false (held rows (Some (id, text ∷ []))) ≡ true =
-    ap (λ o. option_map_or (λ a. use_passes false a (text ∷ []) rows) o true) is.by_id
-    ∙ ap (λ b. (not b || false) && true) new in
-    let reads : Reads (settled_rows line_rules (Some (id, text ∷ [])) rows) (with_seen given (Some text) seen) =
-    subst (λ rs. Reads rs (with_seen given (Some text) seen)) (sym (settled_option given text rows missing))
-    (option_reads given rows seen text h.reads none) in
-    let last : Walk = standing rows (Some (id, text ∷ [])) idle in
-    let between : Walk = standing rows (Some (id, [])) (option id) in
-    subst (λ (u : Walk). Goes u (flag_of given ∷ text ∷ words) all) (sym h.at)
-    (one_turn (standing h.rows h.pending h.waiting) between (flag_of given) (text ∷ words) all
-    (flag_turn id (flag_of given) is h.rows h.pending h.waiting h.settles)
-    (flag_walked id (flag_of given) is h.rows h.pending h.waiting)
-    (one_turn between last text words all
-    (value_turn id (flag_of given) is rows text name)
-    (value_walked id (flag_of given) is rows text name)
-    (more last (record {
-      rows = rows;
-      pending = Some (id, text ∷ []);
-      waiting = idle;
-      at = refl;
-      free = refl;
-      settles = settles;
-      reads = reads;
-    }))))
+  option_goes : (all : Seen) (given : Given) (text : Text) (words : List Text) → Holds w seen → is_name text ≡ true →
+      seen_of given seen ≡ None → ((v : Walk) → Holds v (with_seen given (Some text) seen) → Goes v words all) →
+      Goes w (flag_of given ∷ text ∷ words) all
+  option_goes all given text words h name none more =
+      let rows = settled_rows line_rules h.pending h.rows in
+      let id = id_of given in
+      let is = are_options given in
+      let missing : all_of id rows ≡ None = h.reads.options given ∙ ap (λ o. option_map (λ t. t ∷ []) o) none in
+      let settles : settle_passes line_rules false (held rows (Some (id, text ∷ []))) ≡ true =
+      ap (λ o. option_map_or (λ a. use_passes false a (text ∷ []) rows) o true) is.by_id
+      ∙ ap (λ b. (not b || false) && true) (has_row_all id rows ∙ ap is_some missing) in
+      let reads : Reads (settled_rows line_rules (Some (id, text ∷ [])) rows) (with_seen given (Some text) seen) =
+      rw (settled_option given text rows missing) (option_reads given rows seen text h.reads none) in
+      let last : Walk = standing rows (Some (id, text ∷ [])) idle in
+      let between : Walk = standing rows (Some (id, [])) (option id) in
+      rw h.at
+      (one_turn (standing h.rows h.pending h.waiting) between (flag_of given) (text ∷ words) all
+      (flag_turn id (flag_of given) is h.rows h.pending h.waiting h.settles)
+      (flag_walked id (flag_of given) is h.rows h.pending h.waiting)
+      (one_turn between last text words all
+      (value_turn id (flag_of given) is rows text name)
+      (value_walked id (flag_of given) is rows text name)
+      (more last (record {
+        rows = rows;
+        pending = Some (id, text ∷ []);
+        waiting = idle;
+        at = refl;
+        free = refl;
+        settles = settles;
+        reads = reads;
+      }))))
 
 -- plain words, one after the other
 pub plains_go : (w : Walk) (seen all : Seen) (plain words : List Text) → Holds w seen → list_all is_name plain ≡ true
     → ((v : Walk) → Holds v (record seen { plain = seen.plain ++ plain }) → Goes v words all) →
     Goes w (plain ++ words) all
 plains_go w seen all [] words h names more =
-    more w (subst (λ ps. Holds w (record seen { plain = ps })) (sym (append-nil seen.plain)) h)
+    more w (rw (append-nil seen.plain) h)
 plains_go w seen all (word ∷ plain) words h names more =
     let parts = both (is_name word) (list_all is_name plain) names in
     plain_goes w seen all word (plain ++ words) h parts.0
     (λ v holds. plains_go v (record seen { plain = seen.plain ++ word ∷ [] }) all plain words holds parts.1
-    (λ u last. more u (subst (λ ps. Holds u (record seen { plain = ps })) (append_assoc seen.plain (word ∷ []) plain)
-    last)))
+    (λ u last. more u (rw (← append_assoc seen.plain (word ∷ []) plain) last)))
 
 -- an option, if it is given
 pub maybe_goes : (w : Walk) (seen all : Seen) (given : Given) (text : Option Text) (words : List Text) → Holds w seen →

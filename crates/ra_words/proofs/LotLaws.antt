@@ -27,11 +27,6 @@ pub behind_colon : (word : List ℕ) (k : ℕ) → k ≡ first_place 58 word + 1
 unfolding budget_text
 behind_colon word k is = let e : k ≡ suc (first_place 58 word) = omega arith in ap (λ j. drop j word) e
 
--- the words at a place and after it
-left_here : (words : List (List ℕ)) (k : ℕ) → k < length words → drop k words ≡ word_at words k ∷ drop (k + 1) words
-unfolding word_at
-left_here words k within = rw add-one (drop-cons words k [] within)
-
 -- what a budget tells of a word that may be a lot
 yes_by : (test : Bool) (b x : ℕ) → Some b ≡ (if test then Some x else None) → (test ≡ true) × (x ≡ b)
 yes_by true b x is = (refl, cc)
@@ -50,117 +45,18 @@ pub record IsLeft (words : List (List ℕ)) (place k left : ℕ) : Type 0 where
   pub all : list_all is_lot (drop k words) ≡ list_all is_lot (drop place words)
   pub sum : left + sum_by budget_says (drop place words) ≡ 1000000 + sum_by budget_says (drop k words)
 
-pub none_left : (words : List (List ℕ)) (k : ℕ) → length words ≤ k → drop k words ≡ []
-none_left words k past = drop_all k words past
-
-pub all_read : (words : List (List ℕ)) (place k left : ℕ) → IsLeft words place k left → length words ≤ k →
-    true ≡ Together words place
-all_read words place k left is past =
-    let none = none_left words k past in
-    let all : list_all is_lot (drop place words) ≡ true = sym is.all ∙ ap (list_all is_lot) none in
-    let sum : sum_by budget_says (drop k words) ≡ 0 = ap (sum_by budget_says) none in
-    let fits : sum_by budget_says (drop place words) ≤ 1000000 = omega (arith, is.sum) in
-    grind (arith, common_steps)
-
-pub not_lot : (words : List (List ℕ)) (place k left : ℕ) (word : List ℕ) → IsLeft words place k left →
-    k < length words → word ≡ word_at words k
-    → None ≡ (if is_lot word then Some (budget_says word) else None) → false ≡ Together words place
-not_lot words place k left word is within read none =
-    let no : is_lot (word_at words k) ≡ false = ap is_lot (sym read) ∙ no_by (is_lot word) (budget_says word) none in
-    let all : list_all is_lot (drop place words) ≡ false = sym is.all ∙ ap (list_all is_lot) (left_here words k within)
-    ∙ ap (λ b. b && list_all is_lot (drop (k + 1) words)) no in
-    ap (λ b. b && nat_le (sum_by budget_says (drop place words)) 1000000) (sym all)
-
--- the sum of the budgets from a word on
-one_summed : (words : List (List ℕ)) (k b : ℕ) (word : List ℕ) → k < length words → word ≡ word_at words k →
-    budget_says word ≡ b
-    → sum_by budget_says (drop k words) ≡ b + sum_by budget_says (drop (k + 1) words)
-one_summed words k b word within read is =
-    let e : budget_says (word_at words k) ≡ b = ap budget_says (sym read) ∙ is in
-    let s : sum_by budget_says (drop k words) ≡ budget_says (word_at words k) + sum_by budget_says
-    (drop (k + 1) words) =
-    ap (sum_by budget_says) (left_here words k within)
-    ∙ sum_by-cons budget_says (word_at words k) (drop (k + 1) words) in
-    omega arith
-
 above_by : (a : Bool) (x most : ℕ) → most < x → false ≡ (a && nat_le x most)
 above_by true x most above = grind (arith, common_steps)
 above_by false x most above = refl
-
-pub too_much : (words : List (List ℕ)) (place k left b : ℕ) (word : List ℕ) → IsLeft words place k left →
-    k < length words → word ≡ word_at words k
-    → Some b ≡ (if is_lot word then Some (budget_says word) else None) → left < b → false ≡ Together words place
-too_much words place k left b word is within read some above =
-    let told = yes_by (is_lot word) b (budget_says word) some in
-    let s = one_summed words k b word within read told.1 in
-    above_by (list_all is_lot (drop place words)) (sum_by budget_says (drop place words)) 1000000
-    (omega (arith, s, is.sum))
-
-pub one_lot : (words : List (List ℕ)) (place k left b : ℕ) (word : List ℕ) → IsLeft words place k left →
-    k < length words → word ≡ word_at words k
-    → Some b ≡ (if is_lot word then Some (budget_says word) else None) → b ≤ left →
-    IsLeft words place (k + 1) (left - b)
-one_lot words place k left b word is within read some enough =
-    let told = yes_by (is_lot word) b (budget_says word) some in
-    let s = one_summed words k b word within read told.1 in
-    let yes : is_lot (word_at words k) ≡ true = ap is_lot (sym read) ∙ told.0 in
-    let all : list_all is_lot (drop k words) ≡ list_all is_lot (drop (k + 1) words) =
-    ap (list_all is_lot) (left_here words k within) ∙ ap (λ b. b && list_all is_lot (drop (k + 1) words)) yes in
-    record { all = sym all ∙ is.all; sum = omega (arith, s, is.sum) }
 
 -- the words before k are read
 pub record IsRead (words : List (List ℕ)) (place k : ℕ) (lots : List Lot) : Type 0 where
   pub all : list_all is_lot (drop k words) ≡ true
   pub said : map said_lot lots ++ map lot_says (drop k words) ≡ map lot_says (drop place words)
 
-pub lots_told : (words : List (List ℕ)) → are_lots words ≡ true → list_all is_lot words ≡ true
-unfolding are_lots
-lots_told words h = grind (arith, common_steps)
-
-pub none_read : (words : List (List ℕ)) (place : ℕ) (lots : List Lot) → are_lots (drop place words) ≡ true → lots ≡ [] →
-    IsRead words place place lots
-none_read words place lots h none = record {
-  all = lots_told (drop place words) h;
-  said = ap (λ (ls : List Lot). map said_lot ls ++ map lot_says (drop place words)) none;
-}
-
-pub lot_told : (words : List (List ℕ)) (place k : ℕ) (lots : List Lot) (word : List ℕ) → IsRead words place k lots →
-    k < length words → word ≡ word_at words k → is_lot word ≡ true
-lot_told words place k lots word is within read =
-    let h : (is_lot (word_at words k) && list_all is_lot (drop (k + 1) words)) ≡ true =
-    sym (ap (list_all is_lot) (left_here words k within)) ∙ is.all in
-    let yes : is_lot (word_at words k) ≡ true = grind (arith, common_steps) in
-    ap is_lot read ∙ yes
-
 rest_told : (a b : Bool) → (a && b) ≡ true → b ≡ true
 rest_told true b h = h
 rest_told false b h = cc
-
-pub one_read : (words : List (List ℕ)) (place k : ℕ) (lots more : List Lot) (lot : Lot) (word : List ℕ) →
-    IsRead words place k lots → k < length words → word ≡ word_at words k
-    → said_lot lot ≡ lot_says word → more ≡ lots ++ lot ∷ [] → IsRead words place (k + 1) more
-one_read words place k lots more lot word is within read said added =
-    let here = left_here words k within in
-    let h : (is_lot (word_at words k) && list_all is_lot (drop (k + 1) words)) ≡ true = sym (ap (list_all is_lot) here)
-    ∙ is.all in
-    let last : said_lot lot ≡ lot_says (word_at words k) = said ∙ ap lot_says read in
-    record {
-      all = rest_told (is_lot (word_at words k)) (list_all is_lot (drop (k + 1) words)) h;
-      said =
-          ap (λ (ls : List Lot). map said_lot ls ++ map lot_says (drop (k + 1) words)) added
-          ∙ ap (λ ls. ls ++ map lot_says (drop (k + 1) words)) (map-append said_lot lots (lot ∷ []))
-          ∙ append_assoc (map said_lot lots) (said_lot lot ∷ []) (map lot_says (drop (k + 1) words))
-          ∙ ap (λ l. map said_lot lots ++ l ∷ map lot_says (drop (k + 1) words)) last
-          ∙ ap (λ ls. map said_lot lots ++ map lot_says ls) (sym here)
-          ∙ is.said;
-    }
-
-pub lots_said : (words : List (List ℕ)) (place k : ℕ) (lots : List Lot) → IsRead words place k lots → length words ≤ k →
-    map said_lot lots ≡ map lot_says (drop place words)
-lots_said words place k lots is past =
-    let e : map said_lot lots ++ map lot_says (drop k words) ≡ map said_lot lots =
-    ap (λ ls. map said_lot lots ++ map lot_says ls) (none_left words k past) ∙ append-nil (map said_lot lots) in
-    sym e ∙ is.said
 
 eight_by : (words : Listed ℕ) (word : List ℕ) (test : Bool) (budget : ℕ) → is_written word ≡ test →
     (if test then is_written_lot word else is_seed_lot word) ≡ true
@@ -216,6 +112,104 @@ pub record AreLots (words : List (List ℕ)) : Type 0 where
   pub few : length words ≤ 16
   pub all : list_all is_lot words ≡ true
   pub together : sum_by budget_says words ≤ 1000000
+
+module _ (words : List (List ℕ)) (k : ℕ) where
+  -- the words at a place and after it
+  left_here : k < length words → drop k words ≡ word_at words k ∷ drop (k + 1) words
+  unfolding word_at
+  left_here within = rw add-one (drop-cons words k [] within)
+
+  pub none_left : length words ≤ k → drop k words ≡ []
+  none_left past = drop_all k words past
+
+  -- the sum of the budgets from a word on
+  one_summed : (b : ℕ) (word : List ℕ) → k < length words → word ≡ word_at words k → budget_says word ≡ b →
+      sum_by budget_says (drop k words) ≡ b + sum_by budget_says (drop (k + 1) words)
+  one_summed b word within read is =
+      let e : budget_says (word_at words k) ≡ b = ap budget_says (sym read) ∙ is in
+      let s : sum_by budget_says (drop k words) ≡ budget_says (word_at words k) + sum_by budget_says
+      (drop (k + 1) words) =
+      ap (sum_by budget_says) (left_here within)
+      ∙ sum_by-cons budget_says (word_at words k) (drop (k + 1) words) in
+      omega arith
+
+pub lots_told : (words : List (List ℕ)) → are_lots words ≡ true → list_all is_lot words ≡ true
+unfolding are_lots
+lots_told words h = grind (arith, common_steps)
+
+module _ (words : List (List ℕ)) (place : ℕ) where
+  module _ (k left : ℕ) where
+    pub all_read : IsLeft words place k left → length words ≤ k → true ≡ Together words place
+    all_read is past =
+        let none = none_left words k past in
+        let all : list_all is_lot (drop place words) ≡ true = sym is.all ∙ ap (list_all is_lot) none in
+        let sum : sum_by budget_says (drop k words) ≡ 0 = ap (sum_by budget_says) none in
+        let fits : sum_by budget_says (drop place words) ≤ 1000000 = omega (arith, is.sum) in
+        grind (arith, common_steps)
+
+    pub not_lot : (word : List ℕ) → IsLeft words place k left → k < length words → word ≡ word_at words k →
+        None ≡ (if is_lot word then Some (budget_says word) else None) → false ≡ Together words place
+    not_lot word is within read none =
+        ap (λ b. b && nat_le (sum_by budget_says (drop place words)) 1000000)
+        (sym (sym is.all ∙ ap (list_all is_lot) (left_here words k within)
+        ∙ ap (λ b. b && list_all is_lot (drop (k + 1) words))
+        (ap is_lot (sym read) ∙ no_by (is_lot word) (budget_says word) none)))
+
+    module _ (b : ℕ) (word : List ℕ) (is : IsLeft words place k left) (within : k < length words)
+        (read : word ≡ word_at words k) (some : Some b ≡ (if is_lot word then Some (budget_says word) else None)) where
+      pub too_much : left < b → false ≡ Together words place
+      too_much above =
+          let told = yes_by (is_lot word) b (budget_says word) some in
+          let s = one_summed words k b word within read told.1 in
+          above_by (list_all is_lot (drop place words)) (sum_by budget_says (drop place words)) 1000000
+          (omega (arith, s, is.sum))
+
+      pub one_lot : b ≤ left → IsLeft words place (k + 1) (left - b)
+      one_lot enough =
+          let told = yes_by (is_lot word) b (budget_says word) some in
+          let s = one_summed words k b word within read told.1 in
+          let all : list_all is_lot (drop k words) ≡ list_all is_lot (drop (k + 1) words) =
+          ap (list_all is_lot) (left_here words k within)
+          ∙ ap (λ b. b && list_all is_lot (drop (k + 1) words)) (ap is_lot (sym read) ∙ told.0) in
+          record { all = sym all ∙ is.all; sum = omega (arith, s, is.sum) }
+
+  pub none_read : (lots : List Lot) → are_lots (drop place words) ≡ true → lots ≡ [] → IsRead words place place lots
+  none_read lots h none = record {
+    all = lots_told (drop place words) h;
+    said = ap (λ (ls : List Lot). map said_lot ls ++ map lot_says (drop place words)) none;
+  }
+
+  module _ (k : ℕ) (lots : List Lot) where
+    pub lot_told : (word : List ℕ) → IsRead words place k lots → k < length words → word ≡ word_at words k →
+        is_lot word ≡ true
+    lot_told word is within read =
+        let h : (is_lot (word_at words k) && list_all is_lot (drop (k + 1) words)) ≡ true =
+        sym (ap (list_all is_lot) (left_here words k within)) ∙ is.all in
+        let yes : is_lot (word_at words k) ≡ true = grind (arith, common_steps) in
+        ap is_lot read ∙ yes
+
+    pub one_read : (more : List Lot) (lot : Lot) (word : List ℕ) → IsRead words place k lots → k < length words →
+        word ≡ word_at words k → said_lot lot ≡ lot_says word → more ≡ lots ++ lot ∷ [] →
+        IsRead words place (k + 1) more
+    one_read more lot word is within read said added =
+        let here = left_here words k within in
+        record {
+          all = rest_told (is_lot (word_at words k)) (list_all is_lot (drop (k + 1) words))
+              (sym (ap (list_all is_lot) here)
+              ∙ is.all);
+          said =
+              ap (λ (ls : List Lot). map said_lot ls ++ map lot_says (drop (k + 1) words)) added
+              ∙ ap (λ ls. ls ++ map lot_says (drop (k + 1) words)) (map-append said_lot lots (lot ∷ []))
+              ∙ append_assoc (map said_lot lots) (said_lot lot ∷ []) (map lot_says (drop (k + 1) words))
+              ∙ ap (λ l. map said_lot lots ++ l ∷ map lot_says (drop (k + 1) words)) (said ∙ ap lot_says read)
+              ∙ ap (λ ls. map said_lot lots ++ map lot_says ls) (sym here)
+              ∙ is.said;
+        }
+
+    pub lots_said : IsRead words place k lots → length words ≤ k → map said_lot lots ≡ map lot_says (drop place words)
+    lots_said is past =
+        sym (ap (λ ls. map said_lot lots ++ map lot_says ls) (none_left words k past)
+        ∙ append-nil (map said_lot lots)) ∙ is.said
 
 are_told : (words : List (List ℕ)) → are_lots words ≡ true → AreLots words
 unfolding are_lots

@@ -9,37 +9,34 @@ use Rattle.ra_words.specs.Numbers.{is_number, decimal_worth}
 use Rattle.std.proofs.lemmas.Grind.{common_steps}
 use Rattle.ra_words.specs.LotTexts.{first_place, in_front, pieces, piece_at}
 
--- a slice to the end
-pub all_from : (text : List ℕ) (start : ℕ) → take (length text - start) (drop start text) ≡ drop start text
-all_from text start = ap (λ n. take n (drop start text)) (sym (length-drop start text)) ∙ take-length (drop start text)
-
-pub place_within : (separator : ℕ) (text : List ℕ) → first_place separator text ≤ length text
-unfolding first_place
-place_within separator [] = omega arith
-place_within separator (byte ∷ bytes) =
-    let h : first_place separator bytes ≤ length bytes = place_within separator bytes in grind (arith, common_steps)
-
-pub place_here : (separator : ℕ) (text : List ℕ) (k : ℕ) → k < length text → get_or text k 0 ≡ separator →
-    first_place separator (drop k text) ≡ 0
-unfolding first_place
-place_here separator text k within here = rw (drop-cons text k 0 within) (grind (arith, common_steps))
-
 next_by : (byte separator n : ℕ) → byte ≢ separator → (if byte == separator then 0 else suc n) ≡ 1 + n
 next_by byte separator n other = grind (arith, common_steps)
 
-pub place_next : (separator : ℕ) (text : List ℕ) (k : ℕ) → k < length text → get_or text k 0 ≢ separator →
-    first_place separator (drop k text) ≡ 1 + first_place separator (drop (k + 1) text)
-unfolding first_place
-place_next separator text k within other =
-    rw (drop-cons text k 0 within, add-one)
-    (next_by (get_or text k 0) separator (first_place separator (drop (suc k) text)) other)
+module _ (separator : ℕ) where
+  pub place_within : (text : List ℕ) → first_place separator text ≤ length text
+  unfolding first_place
+  place_within [] = omega arith
+  place_within (byte ∷ bytes) =
+      let h : first_place separator bytes ≤ length bytes = place_within bytes in grind (arith, common_steps)
 
-pub place_end : (separator : ℕ) (text : List ℕ) (k : ℕ) → length text ≤ k → first_place separator (drop k text) ≡ 0
-unfolding first_place
-place_end separator [] zero past = refl
-place_end separator [] (suc k) past = refl
-place_end separator (byte ∷ bytes) zero past = absurd (omega arith)
-place_end separator (byte ∷ bytes) (suc k) past = place_end separator bytes k (omega arith)
+  module _ (text : List ℕ) (k : ℕ) (within : k < length text) where
+    pub place_here : get_or text k 0 ≡ separator → first_place separator (drop k text) ≡ 0
+    unfolding first_place
+    place_here here = rw (drop-cons text k 0 within) (grind (arith, common_steps))
+
+    pub place_next : get_or text k 0 ≢ separator →
+        first_place separator (drop k text) ≡ 1 + first_place separator (drop (k + 1) text)
+    unfolding first_place
+    place_next other =
+        rw (drop-cons text k 0 within, add-one)
+        (next_by (get_or text k 0) separator (first_place separator (drop (suc k) text)) other)
+
+  pub place_end : (text : List ℕ) (k : ℕ) → length text ≤ k → first_place separator (drop k text) ≡ 0
+  unfolding first_place
+  place_end [] zero past = refl
+  place_end [] (suc k) past = refl
+  place_end (byte ∷ bytes) zero past = absurd (omega arith)
+  place_end (byte ∷ bytes) (suc k) past = place_end bytes k (omega arith)
 
 -- the pieces that begin at a place or after it, if a piece begins at that place; none after the end
 unfoldable pub left_from : List ℕ → ℕ → List (List ℕ)
@@ -73,39 +70,6 @@ split_at [] (suc start) k is within = absurd (omega arith)
 split_at (byte ∷ bytes) (suc start) zero is within = absurd (omega arith)
 split_at (byte ∷ bytes) (suc start) (suc k) is within = split_at bytes start k (omega arith) (omega arith)
 
-piece_length : (text : List ℕ) (start : ℕ) → length (piece_at text start) ≡ first_place 44 (drop start text)
-unfolding piece_at
-piece_length text start =
-    length-take-le (first_place 44 (drop start text)) (drop start text) (place_within 44 (drop start text))
-
--- the piece at a place, and those after its comma
-pub next_piece : (text : List ℕ) (start : ℕ) → start ≤ length text →
-    left_from text start ≡ piece_at text start ∷ left_from text (start + length (piece_at text start) + 1)
-next_piece text start within = split_at text start _ (omega (arith, piece_length text start)) within
-
-pub piece_refused : (text : List ℕ) (start : ℕ) → start ≤ length text → is_number (piece_at text start) ≡ false →
-    list_all is_number (left_from text start) ≡ false
-piece_refused text start within refused = rw (next_piece text start within, refused) refl
-
-pub piece_accepted : (text : List ℕ) (start : ℕ) → start ≤ length text → is_number (piece_at text start) ≡ true
-    → list_all is_number (left_from text start) ≡ list_all is_number
-    (left_from text (start + length (piece_at text start) + 1))
-piece_accepted text start within passed = ap (list_all is_number) (next_piece text start within)
-    ∙ ap (λ b. b && list_all is_number (left_from text (start + length (piece_at text start) + 1))) passed
-
-pub piece_told : (text : List ℕ) (start : ℕ) → start ≤ length text → list_all is_number (left_from text start) ≡ true →
-    is_number (piece_at text start) ≡ true
-piece_told text start within all = let h = rw (next_piece text start within) at all in grind (arith, common_steps)
-
-pub piece_counted : (text : List ℕ) (start : ℕ) → start ≤ length text →
-    length (left_from text start) ≡ 1 + length (left_from text (start + length (piece_at text start) + 1))
-piece_counted text start within = ap length (next_piece text start within) ∙ omega arith
-
-pub piece_valued : (text : List ℕ) (start : ℕ) → start ≤ length text →
-    map decimal_worth (left_from text start) ≡ decimal_worth (piece_at text start) ∷ map decimal_worth
-    (left_from text (start + length (piece_at text start) + 1))
-piece_valued text start within = ap (map decimal_worth) (next_piece text start within)
-
 pub left_past : (text : List ℕ) (start : ℕ) → length text < start → left_from text start ≡ []
 unfolding left_from
 left_past text zero past = absurd (omega arith)
@@ -118,52 +82,90 @@ pub record IsPut (text : List ℕ) (start : ℕ) (list : List ℕ) : Type 0 wher
   pub all : list_all is_number (left_from text start) ≡ true
   pub put : list ++ map decimal_worth (left_from text start) ≡ map decimal_worth (pieces text)
 
-pub none_put : (text list : List ℕ) → list_all is_number (pieces text) ≡ true → list ≡ [] → IsPut text 0 list
-unfolding left_from
-none_put text list all none = record {
-  within = omega arith;
-  all = all;
-  put = ap (λ ns. ns ++ map decimal_worth (pieces text)) none;
-}
+module _ (text : List ℕ) where
+  pub none_put : (list : List ℕ) → list_all is_number (pieces text) ≡ true → list ≡ [] → IsPut text 0 list
+  unfolding left_from
+  none_put list all none = record {
+    within = omega arith;
+    all = all;
+    put = ap (λ ns. ns ++ map decimal_worth (pieces text)) none;
+  }
 
-pub piece_read : (text : List ℕ) (start : ℕ) (list piece : List ℕ) → IsPut text start list → start ≤ length text →
-    piece ≡ piece_at text start → is_number piece ≡ true
-piece_read text start list piece is within read = ap is_number read ∙ piece_told text start within is.all
+  module _ (start : ℕ) where
+    -- a slice to the end
+    pub all_from : take (length text - start) (drop start text) ≡ drop start text
+    all_from = ap (λ n. take n (drop start text)) (sym (length-drop start text)) ∙ take-length (drop start text)
 
--- there is room for one more
-pub one_room : (text : List ℕ) (start : ℕ) (list : List ℕ) → IsPut text start list → start ≤ length text →
-    length list < length (pieces text)
-one_room text start list is within =
-    let e : length list + length (map decimal_worth (left_from text start)) ≡ length (map decimal_worth (pieces text)) =
-    sym (length-append list (map decimal_worth (left_from text start))) ∙ ap length is.put in
-    omega (
-      arith,
-      length-map (left_from text start) decimal_worth,
-      length-map (pieces text) decimal_worth,
-      piece_counted text start within,
-    )
+    piece_length : length (piece_at text start) ≡ first_place 44 (drop start text)
+    unfolding piece_at
+    piece_length =
+        length-take-le (first_place 44 (drop start text)) (drop start text) (place_within 44 (drop start text))
 
-pub one_put : (text : List ℕ) (start : ℕ) (list more piece : List ℕ) (number : ℕ) → IsPut text start list →
-    start ≤ length text → piece ≡ piece_at text start → length piece + start ≤ length text
-    → number ≡ decimal_worth piece → more ≡ list ++ number ∷ [] → IsPut text (start + length piece + 1) more
-one_put text start list more piece number is within read end worth_is added =
-    let next : ℕ = start + length (piece_at text start) + 1 in
-    let same : next ≡ start + length piece + 1 = ap (λ p. start + length p + 1) (sym read) in
-    let last : number ≡ decimal_worth (piece_at text start) = worth_is ∙ ap decimal_worth read in
-    record {
-      within = omega arith;
-      all = ap (λ k. list_all is_number (left_from text k)) (sym same)
-          ∙ (sym (piece_accepted text start within (piece_told text start within is.all)) ∙ is.all);
-      put =
-          ap (λ ns. ns ++ map decimal_worth (left_from text (start + length piece + 1))) added
-          ∙ append_assoc list (number ∷ []) (map decimal_worth (left_from text (start + length piece + 1)))
-          ∙ ap (λ k. list ++ number ∷ map decimal_worth (left_from text k)) (sym same)
-          ∙ ap (λ n. list ++ n ∷ map decimal_worth (left_from text next)) last
-          ∙ ap (λ ns. list ++ ns) (sym (piece_valued text start within))
-          ∙ is.put;
-    }
+    module _ (within : start ≤ length text) where
+      -- the piece at a place, and those after its comma
+      pub next_piece : left_from text start ≡
+          piece_at text start ∷ left_from text (start + length (piece_at text start) + 1)
+      next_piece = split_at text start _ (omega (arith, piece_length)) within
 
-pub all_put : (text : List ℕ) (start : ℕ) (list : List ℕ) → IsPut text start list → length text < start →
-    list ≡ map decimal_worth (pieces text)
-all_put text start list is past =
-    sym (append-nil list) ∙ ap (λ ps. list ++ map decimal_worth ps) (sym (left_past text start past)) ∙ is.put
+      pub piece_refused : is_number (piece_at text start) ≡ false → list_all is_number (left_from text start) ≡ false
+      piece_refused refused = rw (next_piece, refused) refl
+
+      pub piece_accepted : is_number (piece_at text start) ≡ true →
+          list_all is_number (left_from text start) ≡
+          list_all is_number (left_from text (start + length (piece_at text start) + 1))
+      piece_accepted passed = ap (list_all is_number) (next_piece)
+          ∙ ap (λ b. b && list_all is_number (left_from text (start + length (piece_at text start) + 1))) passed
+
+      pub piece_told : list_all is_number (left_from text start) ≡ true → is_number (piece_at text start) ≡ true
+      piece_told all = let h = rw next_piece at all in grind (arith, common_steps)
+
+      pub piece_counted : length (left_from text start) ≡
+          1 + length (left_from text (start + length (piece_at text start) + 1))
+      piece_counted = ap length next_piece ∙ omega arith
+
+      pub piece_valued : map decimal_worth (left_from text start) ≡
+          decimal_worth (piece_at text start) ∷ map decimal_worth (left_from text (start + length (piece_at text start)
+          + 1))
+      piece_valued = ap (map decimal_worth) (next_piece)
+
+    module _ (list : List ℕ) where
+      pub piece_read : (piece : List ℕ) → IsPut text start list → start ≤ length text → piece ≡ piece_at text start →
+          is_number piece ≡ true
+      piece_read piece is within read = ap is_number read ∙ piece_told within is.all
+
+      -- there is room for one more
+      pub one_room : IsPut text start list → start ≤ length text → length list < length (pieces text)
+      one_room is within =
+          let e : length list + length (map decimal_worth (left_from text start)) ≡ length
+          (map decimal_worth (pieces text)) =
+          sym (length-append list (map decimal_worth (left_from text start))) ∙ ap length is.put in
+          omega (
+            arith,
+            length-map (left_from text start) decimal_worth,
+            length-map (pieces text) decimal_worth,
+            piece_counted within,
+          )
+
+      pub one_put : (more piece : List ℕ) (number : ℕ) → IsPut text start list → start ≤ length text →
+          piece ≡ piece_at text start → length piece + start ≤ length text → number ≡ decimal_worth piece →
+          more ≡ list ++ number ∷ [] → IsPut text (start + length piece + 1) more
+      one_put more piece number is within read end worth_is added =
+          let next : ℕ = start + length (piece_at text start) + 1 in
+          let same : next ≡ start + length piece + 1 = ap (λ p. start + length p + 1) (sym read) in
+          let last : number ≡ decimal_worth (piece_at text start) = worth_is ∙ ap decimal_worth read in
+          record {
+            within = omega arith;
+            all = ap (λ k. list_all is_number (left_from text k)) (sym same)
+                ∙ (sym (piece_accepted within (piece_told within is.all)) ∙ is.all);
+            put =
+                ap (λ ns. ns ++ map decimal_worth (left_from text (start + length piece + 1))) added
+                ∙ append_assoc list (number ∷ []) (map decimal_worth (left_from text (start + length piece + 1)))
+                ∙ ap (λ k. list ++ number ∷ map decimal_worth (left_from text k)) (sym same)
+                ∙ ap (λ n. list ++ n ∷ map decimal_worth (left_from text next)) last
+                ∙ ap (λ ns. list ++ ns) (sym (piece_valued within))
+                ∙ is.put;
+          }
+
+      pub all_put : IsPut text start list → length text < start → list ≡ map decimal_worth (pieces text)
+      all_put is past =
+          sym (append-nil list) ∙ ap (λ ps. list ++ map decimal_worth ps) (sym (left_past text start past)) ∙ is.put

@@ -9,24 +9,25 @@ use Rattle.clap.specs.declared.parser.matches.Found.{Found}
 use Rattle.ra_words.specs.Words.{texts, word_at}
 use Rattle.ra_words.specs.Lines.{plain_of}
 
-pub word_read : (words : List (String Global)) (place : ℕ) (word : String Global) → place < length words →
-    word ≡ get_or words place word → string_bytes word ≡ word_at (texts words) place
-unfolding word_at
-word_read words place word within read = ap string_bytes read ∙ sym (get_or-map string_bytes words place word [] within)
+module _ (words : List (String Global)) (place : ℕ) where
+  pub word_read : (word : String Global) → place < length words → word ≡ get_or words place word →
+      string_bytes word ≡ word_at (texts words) place
+  unfolding word_at
+  word_read word within read = ap string_bytes read ∙ sym (get_or-map string_bytes words place word [] within)
 
-pub word_past : (words : List (String Global)) (place : ℕ) → length words ≤ place → word_at (texts words) place ≡ []
-unfolding word_at
-word_past words place past = get_or_past (texts words) place [] (omega (arith, length-map words string_bytes))
+  pub word_past : length words ≤ place → word_at (texts words) place ≡ []
+  unfolding word_at
+  word_past past = get_or_past (texts words) place [] (omega (arith, length-map words string_bytes))
 
-pub str_read : (words : List (Bor (List ℕ))) (place : ℕ) (word : Bor (List ℕ)) → place < length words →
-    (get_or words place word).now ≡ word_at (map (λ w. w.now) words) place
-unfolding word_at
-str_read words place word within = sym (get_or-map (λ w. w.now) words place word [] within)
+module _ (words : List (Bor (List ℕ))) (place : ℕ) where
+  pub str_read : (word : Bor (List ℕ)) → place < length words →
+      (get_or words place word).now ≡ word_at (map (λ w. w.now) words) place
+  unfolding word_at
+  str_read word within = sym (get_or-map (λ w. w.now) words place word [] within)
 
-pub str_past : (words : List (Bor (List ℕ))) (place : ℕ) → length words ≤ place →
-    word_at (map (λ w. w.now) words) place ≡ []
-unfolding word_at
-str_past words place past = get_or_past (map (λ w. w.now) words) place [] (omega (arith, length-map words (λ w. w.now)))
+  pub str_past : length words ≤ place → word_at (map (λ w. w.now) words) place ≡ []
+  unfolding word_at
+  str_past past = get_or_past (map (λ w. w.now) words) place [] (omega (arith, length-map words (λ w. w.now)))
 
 -- the plain words that were found, by what the matches give
 pub some_plain : (found : Found) (words : List (List ℕ)) (place : ℕ) →

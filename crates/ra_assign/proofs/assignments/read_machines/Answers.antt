@@ -1,6 +1,6 @@
 use Rattle.std.proofs.Common.{refl, ◌∙◌, arith, length-append}
-use Rattle.ra_assign.proofs.AssignLemmas.{taken_more}
-use Rattle.ra_assign.proofs.AssignSteps.{taken_none, in_range_more, refused_now, refused_then, all_taken, all_fit}
+use Rattle.ra_assign.proofs.AssignSteps.{taken_none, in_range_more, all_fit}
+use Rattle.ra_assign.proofs.AssignLemmas.{taken_more, refused_now, refused_then, all_taken}
 use Rattle.ra_token.proofs.ToldLemmas.{at_exit, went_nowhere, went_on, refuses_next}
 use Rattle.ra_assign.proofs.assignments.read_machines.Goals as goal
 

@@ -1,8 +1,9 @@
 use Rattle.std.proofs.Common.{sym, ap, arith}
 use Rattle.ra_model_read.specs.Formats.{pure}
+use Rattle.ra_model_read.specs.Lists.{of_balance}
 use Rattle.ra_model_read.specs.ModelText.{balance}
 use Rattle.ra_model_read.proofs.Steps.{gives_bind, gives_then, refuses_first, refuses_next, refused_at_exit}
-use Rattle.ra_model_read.proofs.Rows.{balance_pushed, has_balance}
+use Rattle.ra_model_read.proofs.Rows.{rows_pushed, has_balance}
 use Rattle.ra_model_read.proofs.balances.read_balance.Goals as goal
 
 pub returns-in_err-first-clause-refuses : goal.returns-in_err-first-clause-refuses
@@ -34,7 +35,7 @@ returns-clause-gives g c =
     gives_bind _ c.in_ok-first.ensures.gives
     (gives_bind _ c.in_ok-second.ensures.gives
     (gives_bind _ c.in_ok-target.ensures.gives
-    (gives_then _ c.in_ok-weight.ensures.gives (ap pure (sym (balance_pushed _ _ _ c.push.ensures.items))))))
+    (gives_then _ c.in_ok-weight.ensures.gives (ap pure (sym (rows_pushed of_balance _ _ _ c.push.ensures.items))))))
 
 pub returns-clause-has : goal.returns-clause-has
 returns-clause-has g c = has_balance _ _ _ _ _ c.requires.has c.push.ensures.items

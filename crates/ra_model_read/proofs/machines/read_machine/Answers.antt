@@ -1,7 +1,8 @@
 use Rattle.std.proofs.Common.{refl, arith}
+use Rattle.ra_model_read.specs.Lists.{of_machine}
 use Rattle.ra_model_read.specs.ModelText.{machine}
 use Rattle.ra_model_read.proofs.Steps.{gives_bind, gives_then, refuses_first, refuses_next, refused_at_exit}
-use Rattle.ra_model_read.proofs.Rows.{machine_pushed, row_within, row_fits, has_machine}
+use Rattle.ra_model_read.proofs.Rows.{rows_pushed, row_within, row_fits, has_machine}
 use Rattle.ra_model_read.proofs.machines.read_machine.Goals as goal
 
 pub returns-in_err-neighbourhood-clause-refuses : goal.returns-in_err-neighbourhood-clause-refuses
@@ -44,7 +45,7 @@ returns-clause-gives g c =
     (gives_bind _ c.in_ok-location.ensures.gives
     (gives_bind _ c.in_ok-read_numbers.ensures.gives
     (gives_bind _ c.in_ok-read_numbers-2.ensures.gives
-    (gives_then _ c.in_ok-read_numbers-3.ensures.gives (rw (machine_pushed _ _ _ c.push.ensures.items) refl)))))
+    (gives_then _ c.in_ok-read_numbers-3.ensures.gives (rw (rows_pushed of_machine _ _ _ c.push.ensures.items) refl)))))
 
 pub returns-clause-has : goal.returns-clause-has
 returns-clause-has g c = has_machine _ _ _ _ _ _ c.requires.has c.push.ensures.items c.in_ok-read_numbers.ensures.length

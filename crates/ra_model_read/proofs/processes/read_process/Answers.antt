@@ -1,7 +1,8 @@
 use Rattle.std.proofs.Common.{refl, arith}
+use Rattle.ra_model_read.specs.Lists.{of_process}
 use Rattle.ra_model_read.specs.ModelText.{process}
 use Rattle.ra_model_read.proofs.Steps.{gives_bind, gives_then, refuses_first, refuses_next, refused_at_exit}
-use Rattle.ra_model_read.proofs.Rows.{process_pushed, row_within, has_process}
+use Rattle.ra_model_read.proofs.Rows.{rows_pushed, row_within, has_process}
 use Rattle.ra_model_read.proofs.processes.read_process.Goals as goal
 
 pub returns-in_err-service-clause-refuses : goal.returns-in_err-service-clause-refuses
@@ -25,7 +26,7 @@ unfolding process
 returns-clause-gives g c =
     gives_bind _ c.in_ok-service.ensures.gives
     (gives_bind _ c.in_ok-read_numbers.ensures.gives
-    (gives_then _ c.in_ok-move_cost.ensures.gives (rw (process_pushed _ _ _ c.push.ensures.items) refl)))
+    (gives_then _ c.in_ok-move_cost.ensures.gives (rw (rows_pushed of_process _ _ _ c.push.ensures.items) refl)))
 
 pub returns-clause-has : goal.returns-clause-has
 returns-clause-has g c =

@@ -1,5 +1,5 @@
 use Rattle.ra_model_read.proofs.Meaning.{means, refuses_as, is_model, has_text, told_model_is_its_numbers, no_content}
-use Rattle.ra_model_read.proofs.Steps.{at_exit}
+use Rattle.ra_token.proofs.ToldLemmas.{at_exit}
 use Rattle.ra_model_read.proofs.reader.read_model.Goals as goal
 
 pub returns-in_default-clause-refused : goal.returns-in_default-clause-refused

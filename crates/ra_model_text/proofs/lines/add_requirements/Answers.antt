@@ -1,18 +1,15 @@
 use Rattle.std.proofs.Common.{arith}
-use Rattle.ra_model.specs.Numbers.{resource_count, requirement_of}
 use Rattle.ra_model_text.proofs.ModelLines.{row_none, row_more, row_all}
 use Rattle.ra_model_text.proofs.lines.add_requirements.Goals as goal
 
 pub loop-r-init : goal.loop-r-init
-loop-r-init g c =
-    row_none g.O.Sink.taken g.O.Sink.faults (requirement_of c.args.inst.now.tables c.args.p.0) c.args.text.now
+loop-r-init g c = row_none g.O.Sink.taken g.O.Sink.faults _ c.args.text.now
 
 pub loop-r-preserved : goal.loop-r-preserved
 loop-r-preserved g c =
-    row_more g.O.Sink.taken g.O.Sink.faults c.loop-r.r (requirement_of c.args.inst.now.tables c.args.p.0)
-    c.args.text.now c.loop-r.text c.add_more.new.text c.loop-r.invariant
+    row_more g.O.Sink.taken g.O.Sink.faults _ _ c.args.text.now c.loop-r.text c.add_more.new.text c.loop-r.invariant
     (rw c.requirement.ensures.value at c.add_more.ensures)
 
 pub returns : goal.returns
-returns g c = row_all g.O.Sink.taken g.O.Sink.faults c.loop-r.r (resource_count c.args.inst.now.tables)
-    (requirement_of c.args.inst.now.tables c.args.p.0) c.args.text.now c.loop-r.text (omega arith) c.loop-r.invariant
+returns g c =
+    row_all g.O.Sink.taken g.O.Sink.faults _ _ _ c.args.text.now c.loop-r.text (omega arith) c.loop-r.invariant

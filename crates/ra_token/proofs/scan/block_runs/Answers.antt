@@ -1,5 +1,4 @@
-use Rattle.std.proofs.Common.{◌≡◌, ◌+◌, ◌-◌, ◌<◌, ◌≤◌, true, length, get_or, rules, arith}
-use Rattle.ra_token.specs.Runs.{is_blank}
+use Rattle.std.proofs.Common.{◌≡◌, ◌+◌, ◌-◌, ◌<◌, ◌≤◌, length, rules, arith}
 use Rattle.ra_token.proofs.Taking.{takes_none, takes_one, takes_then, block_begins, block_after, block_other, block_digits, block_goes, block_next}
 use Rattle.ra_token.proofs.scan.block_runs.Goals as goal
 
@@ -26,7 +25,6 @@ loop-k-preserved c =
     let so_far = c.loop-k.invariant.1 in
     let after = block_after bytes from at c.loop-k.rest bit block c.lowest-bit.ensures.within
     c.lowest-bit.ensures.set in
-    let blank : is_blank (get_or bytes at 0) ≡ true = search rules in
     let digits = block_digits bytes from at c.loop-k.rest bit block c.lowest-bit.ensures.within
     c.lowest-bit.ensures.below in
     let other = block_other bytes from at c.loop-k.rest bit block c.lowest-bit.ensures.within
@@ -37,7 +35,7 @@ loop-k-preserved c =
     let within : end < length bytes = omega (arith, c.requires.within, c.lowest-bit.ensures.within) in
     let one = takes_one bytes at (at + 1) end _ c.loop-k.values c.push.new.self (omega (arith, after)) (omega arith)
     c.push.ensures.items c.push.ensures.room
-    (rw c.eight_worth.ensures (block_next bytes at end count ends some few within blank other digits)) in (
+    (rw c.eight_worth.ensures (block_next bytes at end count ends some few within (search rules) other digits)) in (
       block_goes bytes from at c.loop-k.rest bit c.without-rest.result block c.lowest-bit.ensures.within after
           c.lowest-bit.ensures.below c.without-rest.ensures.gone c.without-rest.ensures.kept,
       takes_then bytes from at end (c.loop-k.k + 1) c.loop-k.k 1 c.args.values.now c.loop-k.values c.push.new.self

@@ -1,4 +1,4 @@
-use Rattle.std.proofs.Common.{rules, ◌+◌, ◌≡◌, length, subst, arith}
+use Rattle.std.proofs.Common.{rules, ◌+◌, subst, arith}
 use Rattle.ra_token.specs.Scan.{InRun}
 use Rattle.ra_token.proofs.InPiece.{piece_more, piece_large, digit_first}
 use Rattle.ra_token.proofs.scan.gather.Goals as goal
@@ -25,5 +25,5 @@ loop-i-preserved c = (
 
 pub returns-clause-goes_on : goal.returns-clause-goes_on
 returns-clause-goes_on c = λ all start first low is run small.
-    let all_seen : c.loop-i.i ≡ length c.args.bytes.now = omega arith in
-    subst (λ i. InRun all first (start + i) c.loop-i.value) all_seen (c.loop-i.invariant.2 all start first low is run)
+    subst (λ i. InRun all first (start + i) c.loop-i.value) (omega arith)
+    (c.loop-i.invariant.2 all start first low is run)

@@ -34,7 +34,6 @@ loop-rest-preserved c =
     let block = c.loop-rest.invariant.0 in
     let so_far = c.loop-rest.invariant.1 in
     let blank = c.loop-rest.invariant.2 in
-    let before = c.loop-rest.invariant.3 in
     let close = c.loop-rest.invariant.4 in
     let after = block_after bytes from at c.loop-rest.rest bit block below c.lowest-bit.ensures.set in
     let other = block_other bytes from at c.loop-rest.rest bit block below c.lowest-bit.ensures.set in
@@ -45,7 +44,7 @@ loop-rest-preserved c =
     let ends : at + 1 + count ≡ end = omega (arith, after, block.low) in
     let worth : get_or c.short_values-worth.result bit 0 ≡ digits_worth bytes (at + 1) count =
     c.short_values-worth.ensures.each bit below ∙ ap (short_worth bytes) (sym there)
-    ∙ short_is bytes at count some few blank before digits in
+    ∙ short_is bytes at count some few blank c.loop-rest.invariant.3 digits in
     let within : end < length bytes = omega (arith, c.requires.within, below) in
     let one = takes_one bytes at (at + 1) end _ c.loop-rest.values c.push.new.self (omega (arith, after)) (omega arith)
     c.push.ensures.items c.push.ensures.room

@@ -1,4 +1,4 @@
-use Rattle.std.proofs.Common.{◌-◌, ◌≤◌, arith}
+use Rattle.std.proofs.Common.{◌-◌, arith}
 use Rattle.ra_token.specs.Scan.{TakesRuns}
 use Rattle.ra_token.proofs.Taking.{takes_none, takes_then, takes_more}
 use Rattle.ra_token.proofs.take.take_runs.Goals.{then-bytes-at, else-bytes-at}
@@ -16,11 +16,11 @@ loop-taken-preserved c =
     let bytes = c.args.bytes.now in
     let before = c.loop-taken.invariant in
     let limit = c.args.most - c.loop-taken.taken in
-    let some : 1 ≤ limit = omega (arith, c.loop-taken-test.true) in
     let more : TakesRuns bytes c.loop-taken.at c.if-bytes-at.end limit c.loop-taken.values c.if-bytes-at.values =
     elim c.if-bytes-at.branch [
       | then-bytes-at w ↦ rw (w.values-is, w.end-is) w.some_runs-end.ensures
-      | else-bytes-at w ↦ rw (w.values-is, w.end-is) (takes_more bytes _ _ 1 limit _ _ some w.one_run-end.ensures)
+      | else-bytes-at w ↦ rw (w.values-is, w.end-is)
+          (takes_more bytes _ _ 1 limit _ _ (omega (arith, c.loop-taken-test.true)) w.one_run-end.ensures)
     ] in (
       takes_then bytes c.args.from c.loop-taken.at c.if-bytes-at.end c.args.most c.args.most limit c.args.values.now
           c.loop-taken.values c.if-bytes-at.values before.0 more

@@ -5,11 +5,11 @@ use Rattle.ra_token.proofs.buffer.Buffer.fill.Goals as goal
 
 pub returns-then-number-eq0 : goal.returns-then-number-eq0
 returns-then-number-eq0 g c =
-    let whole = c.fetch.auto.into ∙ c.as_mut_slice.ensures.len in
     record {
       shows = told_piece (g.F.Files.held c.args.files.now c.args.name.now)
           (g.F.Files.held c.fetch.new.self c.args.name.now) c.fetch.new.into _ c.args.at c.in-Ok.number _
-          (c.in-Ok.ensures.kept c.args.name.now) (with_items_is c.args.self.now.bytes c.fetch.new.into whole)
+          (c.in-Ok.ensures.kept c.args.name.now)
+          (with_items_is c.args.self.now.bytes c.fetch.new.into (c.fetch.auto.into ∙ c.as_mut_slice.ensures.len))
           c.in-Ok.ensures.bytes (omega arith) c.in-Ok.ensures.bound;
       byte = told_past (g.F.Files.held c.args.files.now c.args.name.now) _ c.args.at c.in-Ok.number c.in-Ok.ensures.end
           (omega arith) c.if-number-eq0.true;
@@ -23,8 +23,7 @@ returns-then-number-eq0 g c =
 
 pub returns : goal.returns
 returns g c =
-    let whole = c.fetch.auto.into ∙ c.as_mut_slice.ensures.len in
-    let is = with_items_is c.args.self.now.bytes c.fetch.new.into whole in
+    let is = with_items_is c.args.self.now.bytes c.fetch.new.into (c.fetch.auto.into ∙ c.as_mut_slice.ensures.len) in
     record {
       shows = told_piece (g.F.Files.held c.args.files.now c.args.name.now)
           (g.F.Files.held c.fetch.new.self c.args.name.now) c.fetch.new.into _ c.args.at c.in-Ok.number _

@@ -1,5 +1,4 @@
-use Rattle.std.proofs.Common.{◌+◌, ◌-◌, rules, refl, arith, ◌∙◌, length}
-use Rattle.ra_token.specs.Buffers.{ready_of}
+use Rattle.std.proofs.Common.{◌-◌, rules, refl, arith, ◌∙◌, length}
 use Rattle.ra_token.proofs.ReadingLaws.{told_none, told_ready, told_gave, told_line, told_more, told_long, told_ended_at, not_long}
 use Rattle.ra_token.proofs.line_buffer.Buffer.next_line.Goals as goal
 
@@ -8,8 +7,7 @@ loop-given-init g c = (
   omega arith,
   refl,
   omega arith,
-  told_none (g.F.Files.held c.args.files.now c.args.name.now) c.args.place c.args.line.now.items
-      (ready_of c.args.self.now) c.requires.ready,
+  told_none _ _ _ _ c.requires.ready,
   record { kept = λ other. refl; never_fell = λ other. omega arith },
 )
 
@@ -18,8 +16,7 @@ returns-then-not-branch g c =
     let l = c.loop-given in
     record {
       gave = search rules;
-      next = told_ended_at (g.F.Files.held c.args.files.now c.args.name.now) (g.F.Files.held l.files c.args.name.now)
-          c.args.place l.given c.args.room _ c.args.line.now.items l.line.items (ready_of l.self) _
+      next = told_ended_at _ _ _ l.given _ _ _ _ _ _
           (l.invariant.4.kept c.args.name.now) (omega (arith, l.invariant.0)) (search rules) l.invariant.0
           c.at_end.ensures.none c.at_end.ensures.some l.invariant.3 (c.has_ready.ensures.ended (search rules));
       grows = search rules;
@@ -37,22 +34,16 @@ returns-then-ended g c =
     let l = c.loop-given in
     let told = g.F.Files.held c.args.files.now c.args.name.now in
     record {
-      gave = told_gave told c.args.place l.given _ (length c.give-ended.new.line.items - length l.line.items)
-          c.args.line.now.items l.line.items (ready_of c.has_ready.new.self) c.give-ended.new.line.items
-          (ready_of c.give-ended.new.self)
+      gave = told_gave told _ _ _ _ _ _ _ _ _
           (omega (arith, l.invariant.0, c.give-ended.ensures.grows)) (omega (arith, c.give-ended.ensures.within))
           c.give-ended.ensures.given c.give-ended.ensures.left
-          (told_ready told (g.F.Files.held l.files c.args.name.now) c.args.place l.given (c.args.place + l.given)
-          c.args.line.now.items l.line.items (ready_of l.self) (ready_of c.has_ready.new.self)
+          (told_ready _ _ _ _ _ _ _ _ _
           (l.invariant.4.kept c.args.name.now) refl l.invariant.3 c.has_ready.ensures.fetched);
-      next = told_line told c.args.place l.given (length c.give-ended.new.line.items - length c.args.line.now.items)
-          (length c.give-ended.new.line.items - length l.line.items) c.args.room _ c.args.line.now.items l.line.items
-          (ready_of c.has_ready.new.self)
+      next = told_line told _ _ (length c.give-ended.new.line.items - length c.args.line.now.items) _ _ _ _ _ _
           (omega (arith, l.invariant.0, c.give-ended.ensures.grows)) (omega (arith, c.give-ended.ensures.within)) refl
           (omega (arith, l.invariant.0, l.invariant.2, c.give-ended.ensures.most))
           (c.give-ended.ensures.ended c.if-ended.true)
-          (told_ready told (g.F.Files.held l.files c.args.name.now) c.args.place l.given (c.args.place + l.given)
-          c.args.line.now.items l.line.items (ready_of l.self) (ready_of c.has_ready.new.self)
+          (told_ready _ _ _ _ _ _ _ _ _
           (l.invariant.4.kept c.args.name.now) refl l.invariant.3 c.has_ready.ensures.fetched);
       grows = search rules;
       most = search rules;
@@ -65,8 +56,7 @@ returns-then-ended g c =
 
 pub loop-given-preserved : goal.loop-given-preserved
 loop-given-preserved g c =
-    let l = c.loop-given in
-    let told = g.F.Files.held c.args.files.now c.args.name.now in (
+    let l = c.loop-given in (
       omega (arith, l.invariant.0, c.give-ended.ensures.grows, c.len.ensures.value, c.len-before.ensures.value),
       c.give-ended.ensures.room ∙ l.invariant.1,
       omega (
@@ -77,14 +67,11 @@ loop-given-preserved g c =
         c.len.ensures.value,
         c.len-before.ensures.value,
       ),
-      told_more told c.args.place l.given _ (length c.give-ended.new.line.items - length l.line.items)
-          c.args.line.now.items l.line.items (ready_of c.has_ready.new.self) c.give-ended.new.line.items
-          (ready_of c.give-ended.new.self)
+      told_more (g.F.Files.held c.args.files.now c.args.name.now) _ _ _ _ _ _ _ _ _
           (omega (arith, l.invariant.0, c.give-ended.ensures.grows, c.len.ensures.value, c.len-before.ensures.value))
           (omega (arith, c.give-ended.ensures.within)) c.give-ended.ensures.given c.give-ended.ensures.left
           (c.give-ended.ensures.unended c.if-ended.false)
-          (told_ready told (g.F.Files.held l.files c.args.name.now) c.args.place l.given (c.args.place + l.given)
-          c.args.line.now.items l.line.items (ready_of l.self) (ready_of c.has_ready.new.self)
+          (told_ready _ _ _ _ _ _ _ _ _
           (l.invariant.4.kept c.args.name.now) refl l.invariant.3 c.has_ready.ensures.fetched),
       record {
         kept = λ other. c.has_ready.ensures.kept other ∙ l.invariant.4.kept other;
@@ -97,8 +84,7 @@ returns g c =
     let l = c.loop-given in
     record {
       gave = search rules;
-      next = told_long (g.F.Files.held c.args.files.now c.args.name.now) c.args.place l.given c.args.room
-          c.args.line.now.items l.line.items (ready_of l.self) (search rules) l.invariant.0 l.invariant.3;
+      next = told_long _ _ l.given _ _ _ _ (search rules) l.invariant.0 l.invariant.3;
       grows = search rules;
       most = search rules;
       long = search rules;

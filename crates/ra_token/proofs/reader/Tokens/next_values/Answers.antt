@@ -19,11 +19,10 @@ loop-taken-init g c = (
 pub loop-taken-preserved : goal.loop-taken-preserved
 loop-taken-preserved g c =
     let kept = c.loop-taken.invariant.6 in
-    let pushed = ap length c.push.ensures.items ∙ length_push c.loop-taken.values.items c.in-Some.token.value in
-    let name = c.next.ensures.name ∙ c.loop-taken.invariant.1 in (
+    let pushed = ap length c.push.ensures.items ∙ length_push c.loop-taken.values.items c.in-Some.token.value in (
       subst (λ n. Reads (g.F.Files.held c.next.new.files n) c.take_ready.new.self) (sym c.take_ready.ensures.name)
           (c.take_ready.ensures.reads (g.F.Files.held c.next.new.files c.next.new.self.name) c.next.ensures.reads),
-      c.take_ready.ensures.name ∙ name,
+      c.take_ready.ensures.name ∙ (c.next.ensures.name ∙ c.loop-taken.invariant.1),
       omega (arith, c.take_ready.ensures.grows, pushed),
       omega (arith, c.take_ready.ensures.most, pushed),
       c.take_ready.ensures.room ∙ c.push.ensures.room ∙ c.loop-taken.invariant.4,
