@@ -1,5 +1,6 @@
 -- The greatest of the counts, from how many services have each, if up to three counts change.
-use Rattle.std.proofs.Common.{◌≡◌, ℕ, ◌+◌, ◌-◌, ◌<◌, ◌≤◌, ◌≢◌, max, true, false, eqb, List, length, get_or, set, Option}
+use Rattle.std.proofs.Common.{inl, inr, ◌≡◌, ℕ, ◌+◌, ◌-◌, ◌<◌, ◌≤◌, ◌≢◌, max, true, false, eqb, List, length, get_or}
+use Rattle.std.proofs.Common.{set, Option}
 use Rattle.std.proofs.Common.{Some, None, sym, refl, ap, ◌∙◌, ⊎_elim, arith, eq-eqb, ne_eqb, length-set}
 use Rattle.std.proofs.Common.{get_or-set_other, get_or-set_same}
 use Rattle.std.specs.Prelude.{IfSome}
@@ -26,21 +27,20 @@ counted_other : (o : Option MovedCount) (f : ℕ → ℕ) (s : ℕ) → IfSome o
 unfolding counted_after
 counted_other None f s apart = refl
 counted_other (Some c) f s apart =
-    cond-false (eqb s c.service.0) c.after (f s) (ne_eqb s c.service.0 (λ e. apart (sym e)))
+    cond-false _ c.after _ (ne_eqb s c.service.0 (λ e. apart (sym e)))
 
 counted_here : (c : MovedCount) (f : ℕ → ℕ) → counted_after (Some c) f c.service.0 ≡ c.after
 unfolding counted_after
-counted_here c f = cond-true (eqb c.service.0 c.service.0) c.after (f c.service.0) (eq-eqb c.service.0 c.service.0 refl)
+counted_here c f = cond-true _ c.after _ (eq-eqb c.service.0 c.service.0 refl)
 
 -- a count after a change is at most the greater of the count before and the new one
 counted_le : (o : Option MovedCount) (f : ℕ → ℕ) (s : ℕ) → counted_after o f s ≤ max (f s) (after_in o)
 unfolding counted_after after_in
 counted_le None f s = omega arith
-counted_le (Some c) f s = ⊎_elim
-    (λ (here : s ≡ c.service.0). omega (arith, cond-true (eqb s c.service.0) c.after (f s) (eq-eqb s c.service.0 here)))
-    (λ (apart : s ≢ c.service.0).
-    omega (arith, cond-false (eqb s c.service.0) c.after (f s) (ne_eqb s c.service.0 apart)))
-    (cases_eq s c.service.0)
+counted_le (Some c) f s = elim (cases_eq s c.service.0) [
+  | inl here ↦ omega (arith, cond-true _ c.after (f s) (eq-eqb s c.service.0 here))
+  | inr apart ↦ omega (arith, cond-false _ c.after (f s) (ne_eqb s c.service.0 apart))
+]
 
 -- how many counts are v before and after a change
 counted_tally : (o : Option MovedCount) (n : ℕ) (f : ℕ → ℕ) (v : ℕ) → IfSome o (λ c. Changes n f c) →
@@ -61,31 +61,12 @@ still : (o p : Option MovedCount) (n : ℕ) (f : ℕ → ℕ) → IfSome p (λ c
     IfSome p (λ c. Changes n (counted_after o f) c)
 still o None n f h apart = h
 still None (Some c) n f h apart = still_change None n f c h apart
-still (Some d) (Some c) n f h apart = still_change (Some d) n f c h apart
+still (Some d) (Some c) n f h apart = still_change _ n f c h apart
 
 changes_of : (moved : MovedCounts) (o : Option MovedCount) → IfSome o (λ c. IsChange moved c) →
     IfSome o (λ c. Changes (length moved.counts) (λ s. get_or moved.counts s 0) c)
 changes_of moved None h = h
 changes_of moved (Some c) h = record { there = h.there; before = h.before }
-
--- the least of what no count passes, once up to three counts have changed
-bounded : (counts tallies : List ℕ) (limit most top : ℕ) (first second third : Option MovedCount) →
-    AreCounted counts tallies limit most → most ≤ top → after_in first ≤ top → after_in second ≤ top →
-    after_in third ≤ top → greatest_with counts first second third ≤ top
-unfolding greatest_with
-bounded counts tallies limit most top first second third counted most_within first_within second_within third_within =
-    let f = λ (s : ℕ). get_or counts s 0 in
-    let g = counted_after first f in
-    let h = counted_after second g in
-    greatest_least (length counts) top (counted_after third h)
-    (λ k within. omega (
-      arith,
-      counted_le third h k,
-      counted_le second g k,
-      counted_le first f k,
-      greatest_at (length counts) k f within,
-      counted.greatest_is,
-    ))
 
 -- how many services have count v once up to three counts have changed
 tally_after : (moved : MovedCounts) (first second third : Option MovedCount) (v : ℕ) →
@@ -107,20 +88,20 @@ tally_after moved first second third v one two three one_two one_three two_three
     (still second third n g (still first third n f (changes_of moved third three) one_three) two_three) in
     omega (arith, by_first, by_second, by_third)
 
--- a number that is free is not a service's count, and one that isn't free is
-free_means : (tallies : List ℕ) (first second third : Option MovedCount) (v : ℕ) →
-    is_free tallies first second third v ≡ true →
-    get_or tallies v 0 + (gained_at first v + gained_at second v + gained_at third v) ≡ lost_at first v
-    + lost_at second v + lost_at third v
-unfolding is_free
-free_means tallies first second third v free = eqb-true _ _ free
+module _ (tallies : List ℕ) (first : Option MovedCount) where
+  module _ (second third : Option MovedCount) (v : ℕ) where
+    -- a number that is free is not a service's count, and one that isn't free is
+    free_means : is_free tallies first second third v ≡ true →
+        get_or tallies v 0 + (gained_at first v + gained_at second v + gained_at third v) ≡
+        lost_at first v + lost_at second v + lost_at third v
+    unfolding is_free
+    free_means free = eqb-true _ _ free
 
-taken_means : (tallies : List ℕ) (first second third : Option MovedCount) (v : ℕ) →
-    is_free tallies first second third v ≡ false →
-    get_or tallies v 0 + (gained_at first v + gained_at second v + gained_at third v) ≢ lost_at first v
-    + lost_at second v + lost_at third v
-unfolding is_free
-taken_means tallies first second third v taken same = both_ways _ taken (eq-eqb _ _ same)
+    taken_means : is_free tallies first second third v ≡ false →
+        get_or tallies v 0 + (gained_at first v + gained_at second v + gained_at third v) ≢ lost_at first v + lost_at
+        second v + lost_at third v
+    unfolding is_free
+    taken_means taken same = both_ways _ taken (eq-eqb _ _ same)
 
 -- the highest number that isn't free is the greatest of the counts
 pub highest_is : (moved : MovedCounts) (tallies : List ℕ) (top b : ℕ) (first second third : Option MovedCount) →
@@ -151,6 +132,200 @@ highest_is moved tallies top b first second third tallied bound within below one
       taken_means tallies first second third b (some positive),
     ))
 
+pub after_within : (moved : MovedCounts) (o : Option MovedCount) → IfSome o (λ c. IsChange moved c) →
+    after_in o ≤ moved.limit
+unfolding after_in
+after_within moved None h = omega arith
+after_within moved (Some c) h = h.within
+
+module _ (old : List ℕ) where
+  -- one count less at a place and one more at another
+  pub retallied : (mid new : List ℕ) (left come x y : ℕ) → left < length old → come < length old →
+      x ≡ get_or old left x → 0 < get_or old left 0 → mid ≡ set old left (x - 1) → y ≡ get_or mid come y →
+      new ≡ set mid come (y + 1) → AreRetallied old new left come
+  retallied mid new left come x y left_in come_in x_read some mid_is y_read new_is = record {
+    same_length = ap length new_is ∙ length-set mid come (y + 1) ∙ ap length mid_is ∙ length-set old left (x - 1);
+    changed = λ v. omega (arith, first v, second v);
+  }
+    where
+      x_is : x ≡ get_or old left 0
+      x_is = get_or_read old left x left_in x_read 0
+
+      mid_length : length mid ≡ length old
+      mid_length = ap length mid_is ∙ length-set old left (x - 1)
+
+      y_is : y ≡ get_or mid come 0
+      y_is = get_or_read mid come y (omega (arith, mid_length)) y_read 0
+
+      first : (v : ℕ) → get_or mid v 0 + one_if (eqb left v) ≡ get_or old v 0
+      first v = elim (cases_eq left v) [
+        | inl here ↦ omega (
+          arith,
+          ap (λ xs. get_or xs v 0) mid_is,
+          ap (λ k. get_or (set old k (x - 1)) v 0) here,
+          get_or-set_same old v (x - 1) 0 (omega arith),
+          one_if_true (eqb left v) (eq-eqb left v here),
+          ap (λ k. get_or old k 0) here,
+          x_is,
+        )
+        | inr apart ↦ omega (
+          arith,
+          ap (λ xs. get_or xs v 0) mid_is,
+          get_or-set_other old left v (x - 1) 0 (λ e. apart (sym e)),
+          one_if_false (eqb left v) (ne_eqb left v apart),
+        )
+      ]
+
+      second : (v : ℕ) → get_or new v 0 ≡ get_or mid v 0 + one_if (eqb come v)
+      second v = elim (cases_eq come v) [
+        | inl here ↦ omega (
+          arith,
+          ap (λ xs. get_or xs v 0) new_is,
+          ap (λ k. get_or (set mid k (y + 1)) v 0) here,
+          get_or-set_same mid v (y + 1) 0 (omega (arith, mid_length)),
+          one_if_true (eqb come v) (eq-eqb come v here),
+          ap (λ k. get_or mid k 0) here,
+          y_is,
+        )
+        | inr apart ↦ omega (
+          arith,
+          ap (λ xs. get_or xs v 0) new_is,
+          get_or-set_other mid come v (y + 1) 0 (λ e. apart (sym e)),
+          one_if_false (eqb come v) (ne_eqb come v apart),
+        )
+      ]
+
+  -- what was one less at a place is at most what it was
+  pub lowered_few : (mid : List ℕ) (left come x y : ℕ) → left < length old → come < length old → x ≡ get_or old left x →
+      get_or old come 0 ≤ 50000 → mid ≡ set old left (x - 1) → y ≡ get_or mid come y → y ≤ 50000
+  lowered_few mid left come x y left_in come_in x_read few mid_is y_read =
+      grind (arith, length-set, get_or_read, get_or-set_same, get_or-set_other)
+
+  pub left_positive : (left x : ℕ) → left < length old → x ≡ get_or old left x → 0 < get_or old left 0 → 0 < x
+  left_positive left x left_in x_read some = omega (arith, get_or_read old left x left_in x_read 0)
+
+pub ruleset retallying = (retallied, lowered_few, left_positive)
+
+module _ (counts : List ℕ) where
+  pub greatest_set : (s after most : ℕ) → s < length counts → most ≡ greatest (length counts) (λ k. get_or counts k 0) →
+      greatest (length (set counts s after)) (λ k. get_or (set counts s after) k 0) ≤ max most after
+  greatest_set s after most there is = greatest_least (length (set counts s after)) (max most after)
+      (λ k. get_or (set counts s after) k 0) (λ k within. elim (cases_eq k s) [
+        | inl here ↦ omega
+            (arith, ap (λ j. get_or (set counts s after) j 0) here, get_or-set_same counts s after 0 there)
+        | inr apart ↦ omega (
+          arith,
+          is,
+          get_or-set_other counts s k after 0 apart,
+          greatest_at (length counts) k (λ j. get_or counts j 0) (omega (arith, length-set counts s after)),
+        )
+      ])
+
+  with_none : greatest_with counts None None None ≡ greatest (length counts) (λ k. get_or counts k 0)
+  unfolding greatest_with counted_after
+  with_none = refl
+
+  module _ (tallies : List ℕ) (limit most : ℕ) where
+    -- the least of what no count passes, once up to three counts have changed
+    bounded : (top : ℕ) (first second third : Option MovedCount) → AreCounted counts tallies limit most → most ≤ top →
+        after_in first ≤ top → after_in second ≤ top → after_in third ≤ top →
+        greatest_with counts first second third ≤ top
+    unfolding greatest_with
+    bounded top first second third counted most_within first_within second_within third_within =
+        let f = λ (s : ℕ). get_or counts s 0 in
+        let g = counted_after first f in
+        let h = counted_after second g in
+        greatest_least (length counts) top (counted_after third h)
+        (λ k within. omega (
+          arith,
+          counted_le third h k,
+          counted_le second g k,
+          counted_le first f k,
+          greatest_at (length counts) k f within,
+          counted.greatest_is,
+        ))
+
+    -- the most is within the limit
+    pub most_within : AreCounted counts tallies limit most → most ≤ limit
+    most_within counted = grind (arith, greatest_least)
+
+  module _ (tallies : List ℕ) (limit s x : ℕ) (tallied : AreTallied counts tallies limit) (there : s < length counts)
+      (read : x ≡ get_or counts s x) where
+    -- a count read is within the limit, and some service has it
+    pub count_within : x ≤ limit
+    count_within =
+        omega (arith, get_or_read counts s x there read 0, tallied.within s there)
+
+    pub count_held : 0 < get_or tallies x 0
+    count_held =
+        omega (
+          arith,
+          tallied.each x (count_within),
+          count_some (length counts) s (λ k. eqb (get_or counts k 0) x) there
+              (eq-eqb (get_or counts s 0) x (sym (get_or_read counts s x there read 0))),
+        )
+
+module _ (counts tallies : List ℕ) where
+  pub tally_few : (limit v : ℕ) → AreTallied counts tallies limit → v ≤ limit → get_or tallies v 0 ≤ 50000
+  tally_few limit v tallied within = grind (arith, count_le)
+
+  module _ (new : List ℕ) (limit s x after : ℕ) where
+    -- the counts with that of one service changed
+    pub tallied_set : AreTallied counts tallies limit → s < length counts → x ≡ get_or counts s x → after ≤ limit →
+        AreRetallied tallies new x after → AreTallied (set counts s after) new limit
+    tallied_set tallied there read within changed = record {
+      few = omega (arith, length-set counts s after, tallied.few);
+      one_each = changed.same_length ∙ tallied.one_each;
+      within = λ k inside. elim (cases_eq k s) [
+        | inl here ↦ omega
+            (arith, ap (λ j. get_or (set counts s after) j 0) here, get_or-set_same counts s after 0 there)
+        | inr apart ↦ omega (
+          arith,
+          get_or-set_other counts s k after 0 apart,
+          tallied.within k (omega (arith, length-set counts s after)),
+        )
+      ];
+      each = λ v v_in.
+          omega (
+            arith,
+            changed.changed v,
+            tallied.each v v_in,
+            change v,
+            ap (λ n. count n (λ k. eqb (get_or (set counts s after) k 0) v)) (length-set counts s after),
+          );
+    }
+      where
+        change : (v : ℕ) → count (length counts) (λ k. eqb (get_or (set counts s after) k 0) v) + one_if (eqb x v) ≡
+            count (length counts) (λ k. eqb (get_or counts k 0) v) + one_if (eqb after v)
+        change v = omega (
+          arith,
+          count_change (length counts) s (λ k. eqb (get_or (set counts s after) k 0) v)
+              (λ k. eqb (get_or counts k 0) v) there
+              (λ k k_in apart. ap (λ y. eqb y v) (get_or-set_other counts s k after 0 apart)),
+          ap (λ y. one_if (eqb y v)) (get_or-set_same counts s after 0 there),
+          ap (λ y. one_if (eqb y v)) (get_or_read counts s x there read 0),
+        )
+
+    pub counted_set : (most top b : ℕ) → AreCounted counts tallies limit most → s < length counts →
+        x ≡ get_or counts s x → after ≤ limit → AreRetallied tallies new x after → top ≡ max most after → b ≤ top →
+        ((v : ℕ) → b < v → v ≤ top → is_free new None None None v ≡ true) →
+        (0 < b → is_free new None None None b ≡ false) → AreCounted (set counts s after) new limit b
+    counted_set most top b counted there read within changed top_is below none some =
+        let tallied = tallied_set counted.tallied there read within changed in
+        let moved : MovedCounts = record { counts = set counts s after; limit = limit } in
+        record {
+          tallied = tallied;
+          greatest_is =
+              sym (highest_is moved new top b None None None tallied
+              (omega (
+                arith,
+                with_none (set counts s after),
+                greatest_set counts s after most there counted.greatest_is,
+              ))
+              (omega (arith, most_within counts tallies limit most counted)) below tt tt tt tt tt tt none some)
+              ∙ with_none (set counts s after);
+        }
+
 -- after up to three changes: within the greatest of the most and the new counts
 pub after_is : (moved : MovedCounts) (tallies : List ℕ) (most top b : ℕ) (first second third : Option MovedCount) →
     AreCounted moved.counts tallies moved.limit most → most ≤ top → after_in first ≤ top → after_in second ≤ top →
@@ -165,210 +340,6 @@ after_is moved tallies most top b first second third counted most_in first_in se
     (bounded moved.counts tallies moved.limit most top first second third counted most_in first_in second_in
     third_in) within below one two three one_two one_three two_three none some)
 
-pub after_within : (moved : MovedCounts) (o : Option MovedCount) → IfSome o (λ c. IsChange moved c) →
-    after_in o ≤ moved.limit
-unfolding after_in
-after_within moved None h = omega arith
-after_within moved (Some c) h = h.within
-
--- the most is within the limit
-pub most_within : (counts tallies : List ℕ) (limit most : ℕ) → AreCounted counts tallies limit most → most ≤ limit
-most_within counts tallies limit most counted =
-    omega (
-      arith,
-      counted.greatest_is,
-      greatest_least (length counts) limit (λ s. get_or counts s 0)
-          (λ s within. counted.tallied.within s within),
-    )
-
--- a count read is within the limit, and some service has it
-pub count_within : (counts tallies : List ℕ) (limit s x : ℕ) → AreTallied counts tallies limit → s < length counts →
-    x ≡ get_or counts s x → x ≤ limit
-count_within counts tallies limit s x tallied there read =
-    omega (arith, get_or_read counts s x there read 0, tallied.within s there)
-
-pub count_held : (counts tallies : List ℕ) (limit s x : ℕ) → AreTallied counts tallies limit → s < length counts →
-    x ≡ get_or counts s x → 0 < get_or tallies x 0
-count_held counts tallies limit s x tallied there read =
-    omega (
-      arith,
-      tallied.each x (count_within counts tallies limit s x tallied there read),
-      count_some (length counts) s (λ k. eqb (get_or counts k 0) x) there
-          (eq-eqb (get_or counts s 0) x (sym (get_or_read counts s x there read 0))),
-    )
-
-pub tally_few : (counts tallies : List ℕ) (limit v : ℕ) → AreTallied counts tallies limit → v ≤ limit →
-    get_or tallies v 0 ≤ 50000
-tally_few counts tallies limit v tallied within =
-    omega (arith, tallied.few, tallied.each v within, count_le (length counts) (λ k. eqb (get_or counts k 0) v))
-
--- one count less at a place and one more at another
-pub retallied : (old mid new : List ℕ) (left come x y : ℕ) → left < length old → come < length old →
-    x ≡ get_or old left x → 0 < get_or old left 0 → mid ≡ set old left (x - 1) → y ≡ get_or mid come y →
-    new ≡ set mid come (y + 1) → AreRetallied old new left come
-retallied old mid new left come x y left_in come_in x_read some mid_is y_read new_is = record {
-  same_length = ap length new_is ∙ length-set mid come (y + 1) ∙ ap length mid_is ∙ length-set old left (x - 1);
-  changed = λ v. omega (arith, first v, second v);
-}
-  where
-    x_is : x ≡ get_or old left 0
-    x_is = get_or_read old left x left_in x_read 0
-
-    mid_length : length mid ≡ length old
-    mid_length = ap length mid_is ∙ length-set old left (x - 1)
-
-    y_is : y ≡ get_or mid come 0
-    y_is = get_or_read mid come y (omega (arith, mid_length)) y_read 0
-
-    first : (v : ℕ) → get_or mid v 0 + one_if (eqb left v) ≡ get_or old v 0
-    first v = ⊎_elim
-        (λ (here : left ≡ v).
-        omega (
-          arith,
-          ap (λ xs. get_or xs v 0) mid_is,
-          ap (λ k. get_or (set old k (x - 1)) v 0) here,
-          get_or-set_same old v (x - 1) 0 (omega arith),
-          one_if_true (eqb left v) (eq-eqb left v here),
-          ap (λ k. get_or old k 0) here,
-          x_is,
-        ))
-        (λ (apart : left ≢ v).
-        omega (
-          arith,
-          ap (λ xs. get_or xs v 0) mid_is,
-          get_or-set_other old left v (x - 1) 0 (λ e. apart (sym e)),
-          one_if_false (eqb left v) (ne_eqb left v apart),
-        ))
-        (cases_eq left v)
-
-    second : (v : ℕ) → get_or new v 0 ≡ get_or mid v 0 + one_if (eqb come v)
-    second v = ⊎_elim
-        (λ (here : come ≡ v).
-        omega (
-          arith,
-          ap (λ xs. get_or xs v 0) new_is,
-          ap (λ k. get_or (set mid k (y + 1)) v 0) here,
-          get_or-set_same mid v (y + 1) 0 (omega (arith, mid_length)),
-          one_if_true (eqb come v) (eq-eqb come v here),
-          ap (λ k. get_or mid k 0) here,
-          y_is,
-        ))
-        (λ (apart : come ≢ v).
-        omega (
-          arith,
-          ap (λ xs. get_or xs v 0) new_is,
-          get_or-set_other mid come v (y + 1) 0 (λ e. apart (sym e)),
-          one_if_false (eqb come v) (ne_eqb come v apart),
-        ))
-        (cases_eq come v)
-
--- what was one less at a place is at most what it was
-pub lowered_few : (old mid : List ℕ) (left come x y : ℕ) → left < length old → come < length old →
-    x ≡ get_or old left x → get_or old come 0 ≤ 50000 → mid ≡ set old left (x - 1) → y ≡ get_or mid come y → y ≤ 50000
-lowered_few old mid left come x y left_in come_in x_read few mid_is y_read =
-    let same_length : length mid ≡ length old = ap length mid_is ∙ length-set old left (x - 1) in
-    let y_is = get_or_read mid come y (omega (arith, same_length)) y_read 0 in
-    let x_is = get_or_read old left x left_in x_read 0 in
-    ⊎_elim
-    (λ (here : come ≡ left).
-    omega (
-      arith,
-      y_is,
-      ap (λ xs. get_or xs come 0) mid_is,
-      ap (λ k. get_or (set old left (x - 1)) k 0) here,
-      get_or-set_same old left (x - 1) 0 left_in,
-      ap (λ k. get_or old k 0) here,
-      x_is,
-    ))
-    (λ (apart : come ≢ left).
-    omega (arith, y_is, ap (λ xs. get_or xs come 0) mid_is, get_or-set_other old left come (x - 1) 0 apart))
-    (cases_eq come left)
-
-pub left_positive : (old : List ℕ) (left x : ℕ) → left < length old → x ≡ get_or old left x → 0 < get_or old left 0 →
-    0 < x
-left_positive old left x left_in x_read some = omega (arith, get_or_read old left x left_in x_read 0)
-
-pub ruleset retallying = (retallied, lowered_few, left_positive)
-
--- the counts with that of one service changed
-pub tallied_set : (counts tallies new : List ℕ) (limit s x after : ℕ) → AreTallied counts tallies limit →
-    s < length counts → x ≡ get_or counts s x → after ≤ limit → AreRetallied tallies new x after →
-    AreTallied (set counts s after) new limit
-tallied_set counts tallies new limit s x after tallied there read within changed = record {
-  few = omega (arith, length-set counts s after, tallied.few);
-  one_each = changed.same_length ∙ tallied.one_each;
-  within = λ k inside. ⊎_elim
-      (λ (here : k ≡ s).
-      omega (arith, ap (λ j. get_or (set counts s after) j 0) here, get_or-set_same counts s after 0 there))
-      (λ (apart : k ≢ s).
-      omega (
-        arith,
-        get_or-set_other counts s k after 0 apart,
-        tallied.within k (omega (arith, length-set counts s after)),
-      ))
-      (cases_eq k s);
-  each = λ v v_in.
-      omega (
-        arith,
-        changed.changed v,
-        tallied.each v v_in,
-        change v,
-        ap (λ n. count n (λ k. eqb (get_or (set counts s after) k 0) v)) (length-set counts s after),
-      );
-}
-  where
-    change : (v : ℕ) → count (length counts) (λ k. eqb (get_or (set counts s after) k 0) v) + one_if (eqb x v) ≡
-        count (length counts) (λ k. eqb (get_or counts k 0) v) + one_if (eqb after v)
-    change v = omega (
-      arith,
-      count_change (length counts) s (λ k. eqb (get_or (set counts s after) k 0) v)
-          (λ k. eqb (get_or counts k 0) v) there
-          (λ k k_in apart. ap (λ y. eqb y v) (get_or-set_other counts s k after 0 apart)),
-      ap (λ y. one_if (eqb y v)) (get_or-set_same counts s after 0 there),
-      ap (λ y. one_if (eqb y v)) (get_or_read counts s x there read 0),
-    )
-
-pub greatest_set : (counts : List ℕ) (s after most : ℕ) → s < length counts →
-    most ≡ greatest (length counts) (λ k. get_or counts k 0) →
-    greatest (length (set counts s after)) (λ k. get_or (set counts s after) k 0) ≤ max most after
-greatest_set counts s after most there is = greatest_least (length (set counts s after)) (max most after)
-    (λ k. get_or (set counts s after) k 0) (λ k within. ⊎_elim
-    (λ (here : k ≡ s).
-    omega (arith, ap (λ j. get_or (set counts s after) j 0) here, get_or-set_same counts s after 0 there))
-    (λ (apart : k ≢ s).
-    omega (
-      arith,
-      is,
-      get_or-set_other counts s k after 0 apart,
-      greatest_at (length counts) k (λ j. get_or counts j 0) (omega (arith, length-set counts s after)),
-    ))
-    (cases_eq k s))
-
-with_none : (counts : List ℕ) → greatest_with counts None None None ≡ greatest (length counts) (λ k. get_or counts k 0)
-unfolding greatest_with counted_after
-with_none counts = refl
-
-pub counted_set : (counts tallies new : List ℕ) (limit s x after most top b : ℕ) →
-    AreCounted counts tallies limit most → s < length counts → x ≡ get_or counts s x → after ≤ limit →
-    AreRetallied tallies new x after → top ≡ max most after → b ≤ top →
-    ((v : ℕ) → b < v → v ≤ top → is_free new None None None v ≡ true) → (0 < b → is_free new None None None b ≡ false) →
-    AreCounted (set counts s after) new limit b
-counted_set counts tallies new limit s x after most top b counted there read within changed top_is below none some =
-    let tallied = tallied_set counts tallies new limit s x after counted.tallied there read within changed in
-    let moved : MovedCounts = record { counts = set counts s after; limit = limit } in
-    record {
-      tallied = tallied;
-      greatest_is =
-          sym (highest_is moved new top b None None None tallied
-          (omega (
-            arith,
-            with_none (set counts s after),
-            greatest_set counts s after most there counted.greatest_is,
-          ))
-          (omega (arith, most_within counts tallies limit most counted)) below tt tt tt tt tt tt none some)
-          ∙ with_none (set counts s after);
-    }
-
 -- no process has moved
 pub counted_none : (n limit : ℕ) (tallies : List ℕ) → n ≤ 50000 → tallies ≡ set (replicate {A = ℕ} (limit + 1) 0) 0 n →
     AreCounted (replicate {A = ℕ} n 0) tallies limit 0
@@ -381,7 +352,7 @@ counted_none n limit tallies few is = record {
         ∙ sym (ap (λ m. count m (λ k. eqb (get_or (replicate {A = ℕ} n 0) k 0) v)) (length-replicate {A = ℕ} n 0));
   };
   greatest_is = let bound : greatest (length (replicate {A = ℕ} n 0)) (λ k. get_or (replicate {A = ℕ} n 0) k 0) ≤
-      0 = greatest_least (length (replicate {A = ℕ} n 0)) 0 (λ k. get_or (replicate {A = ℕ} n 0) k 0)
+      0 = greatest_least _ 0 (λ k. get_or (replicate {A = ℕ} n 0) k 0)
       (λ k inside. omega (arith, zero_at k (omega (arith, length-replicate {A = ℕ} n 0)))) in omega arith;
 }
   where

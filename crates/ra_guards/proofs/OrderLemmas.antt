@@ -1,7 +1,7 @@
 -- Guards and their numbers.
-use Rattle.std.proofs.Common.{◌≡◌, ℕ, ◌+◌, ◌-◌, ◌<◌, ◌≤◌, true, List, length, refl, ap, ◌∙◌, ⊎_elim, arith, lt-ltb}
+use Rattle.std.proofs.Common.{inl, inr, ◌≡◌, ℕ, ◌+◌, ◌-◌, ◌<◌, ◌≤◌, true, List, length, ap, arith, lt-ltb}
 use Rattle.std.proofs.Common.{le-ltb}
-use Rattle.std.proofs.lemmas.Bool.{cases_lt, cond-true, cond-false}
+use Rattle.std.proofs.lemmas.Bool.{cases_lt}
 use Rattle.ra_base.specs.declared.ids.Guard.{Guard}
 use Rattle.ra_base.specs.declared.ids.Guard.TheVariants as guard
 use Rattle.ra_base.specs.declared.ids.Service.{Service}
@@ -14,36 +14,16 @@ use Rattle.ra_guards.specs.Order.{IsKnown, number_in, guard_of, is_before}
 use Rattle.ra_guards.specs.VersionTable.{VersionTable}
 use Rattle.ra_guards.specs.Kept.{HasGuard, IsTableOf}
 
-pub guard_below : (machines n : ℕ) → n < machines → guard_of machines n ≡ guard.Machine (record { 0 = n })
-unfolding guard_of
-guard_below machines n below = cond-true _ _ _ (lt-ltb n machines below)
+-- the guards of machine n and of service n
 
-pub guard_above : (machines n : ℕ) → machines ≤ n → guard_of machines n ≡ guard.Service (record { 0 = n - machines })
-unfolding guard_of
-guard_above machines n above = cond-false _ _ _ (le-ltb n machines above)
+abbrev pub of_machine : ℕ → Guard
+of_machine n = guard.Machine (record { 0 = n })
 
-service_same : (s t : ℕ) → s ≡ t → guard.Service (record { 0 = s }) ≡ guard.Service (record { 0 = t })
-service_same s t same = ap (λ (n : ℕ). guard.Service (record { 0 = n })) same
+abbrev pub of_service : ℕ → Guard
+of_service n = guard.Service (record { 0 = n })
 
--- the guard of a service's number
-pub guard_service : (machines s : ℕ) → guard_of machines (machines + s) ≡ guard.Service (record { 0 = s })
-guard_service machines s = guard_above machines (machines + s) (omega arith) ∙ service_same _ _ (omega arith)
-
--- a guard of the instance is that of its number
-pub guard_number : (i : Tables) (g : Guard) → IsKnown i g → guard_of (machine_count i) (number_in (machine_count i) g) ≡
-    g
-unfolding IsKnown number_in
-guard_number i (guard.Machine m) known = guard_below (machine_count i) m.0 known
-guard_number i (guard.Service s) known = guard_service (machine_count i) s.0
-
--- the guard of a number below the count of all is one of the instance
-pub known_number : (i : Tables) (n : ℕ) → n < machine_count i + service_count i →
-    IsKnown i (guard_of (machine_count i) n)
-unfolding IsKnown
-known_number i n within = ⊎_elim
-    (λ (below : n < machine_count i). rw (guard_below (machine_count i) n below) below)
-    (λ (above : machine_count i ≤ n). rw (guard_above (machine_count i) n above) (omega arith))
-    (cases_lt n (machine_count i))
+service_same : (s t : ℕ) → s ≡ t → of_service s ≡ of_service t
+service_same s t same = ap (λ (n : ℕ). of_service n) same
 
 -- a table of an instance has each of its guards
 pub has_known : (i : Tables) (v : VersionTable) (g : Guard) → IsTableOf i v → IsKnown i g → HasGuard v g
@@ -51,37 +31,58 @@ unfolding IsKnown HasGuard
 has_known i v (guard.Machine m) sized known = omega (arith, known, sized.machines)
 has_known i v (guard.Service s) sized known = omega (arith, known, sized.services)
 
-pub has_guard : (i : Tables) (v : VersionTable) (g : Guard) (n m : ℕ) → IsTableOf i v → m ≡ machine_count i →
-    n < machine_count i + service_count i → g ≡ guard_of m n → HasGuard v g
-has_guard i v g n m sized count within is = has_known i v g sized (rw (is, count) (known_number i n within))
+module _ (machines : ℕ) where
+  pub guard_below : (n : ℕ) → n < machines → guard_of machines n ≡ guard.Machine (record { 0 = n })
+  unfolding guard_of
+  guard_below n below = grind (arith, lt-ltb)
 
--- less numbers are those of earlier guards
-pub before_number : (machines m n : ℕ) → m < n → is_before (guard_of machines m) (guard_of machines n) ≡ true
-unfolding is_before
-before_number machines m n less = ⊎_elim
-    (λ (n_below : n < machines). let m_below : m < machines = omega arith in
-    rw (guard_below machines m m_below, guard_below machines n n_below) (lt-ltb m n less))
-    (λ (n_above : machines ≤ n). ⊎_elim
-    (λ (m_below : m < machines). rw (guard_below machines m m_below, guard_above machines n n_above) refl)
-    (λ (m_above : machines ≤ m). rw (guard_above machines m m_above, guard_above machines n n_above)
-    (lt-ltb (m - machines) (n - machines) (omega arith)))
-    (cases_lt m machines))
-    (cases_lt n machines)
+  pub guard_above : (n : ℕ) → machines ≤ n → guard_of machines n ≡ guard.Service (record { 0 = n - machines })
+  unfolding guard_of
+  guard_above n above = grind (arith, le-ltb)
 
--- the guards of a step of a move within the instance
-pub from_has : (i : Tables) (steps : List Step) (j : ℕ) (s : Step) (v : VersionTable) → AreWithin i steps →
-    j < length steps → IsTableOf i v → s ≡ step_at steps j → HasGuard v (guard.Machine s.from)
-unfolding HasGuard from_in
-from_has i steps j s v within there sized is =
-    let known : s.from.0 < machine_count i = rw is (within.from j there) in omega (arith, sized.machines)
+  -- the guard of a service's number
+  pub guard_service : (s : ℕ) → guard_of machines (machines + s) ≡ of_service s
+  guard_service s = grind (arith, guard_above, service_same)
 
-pub to_has : (i : Tables) (steps : List Step) (j : ℕ) (s : Step) (v : VersionTable) → AreWithin i steps →
-    j < length steps → IsTableOf i v → s ≡ step_at steps j → HasGuard v (guard.Machine s.to)
-unfolding HasGuard to_in
-to_has i steps j s v within there sized is =
-    let known : s.to.0 < machine_count i = rw is (within.to j there) in omega (arith, sized.machines)
+  -- less numbers are those of earlier guards
+  pub before_number : (m n : ℕ) → m < n → is_before (guard_of machines m) (guard_of machines n) ≡ true
+  unfolding is_before
+  before_number m n less = grind (arith, guard_below, lt-ltb, guard_above)
 
-pub service_has : (i : Tables) (s : Service) (v : VersionTable) → s.0 < service_count i → IsTableOf i v →
-    HasGuard v (guard.Service s)
-unfolding HasGuard
-service_has i s v known sized = omega (arith, sized.services)
+module _ (i : Tables) where
+  -- a guard of the instance is that of its number
+  pub guard_number : (g : Guard) → IsKnown i g → guard_of (machine_count i) (number_in (machine_count i) g) ≡
+      g
+  unfolding IsKnown number_in
+  guard_number (guard.Machine m) known = guard_below _ m.0 known
+  guard_number (guard.Service s) known = guard_service _ s.0
+
+  -- the guard of a number below the count of all is one of the instance
+  pub known_number : (n : ℕ) → n < machine_count i + service_count i → IsKnown i (guard_of (machine_count i) n)
+  unfolding IsKnown
+  known_number n within = elim (cases_lt n (machine_count i)) [
+    | inl below ↦ rw (guard_below (machine_count i) n below) below
+    | inr above ↦ rw (guard_above (machine_count i) n above) (omega arith)
+  ]
+
+  pub has_guard : (v : VersionTable) (g : Guard) (n m : ℕ) → IsTableOf i v → m ≡ machine_count i →
+      n < machine_count i + service_count i → g ≡ guard_of m n → HasGuard v g
+  has_guard v g n m sized count within is = has_known i v g sized (rw (is, count) (known_number n within))
+
+  module _ (steps : List Step) (j : ℕ) (s : Step) (v : VersionTable) (within : AreWithin i steps)
+      (there : j < length steps) (sized : IsTableOf i v) (is : s ≡ step_at steps j) where
+    -- the guards of a step of a move within the instance
+    pub from_has : HasGuard v (guard.Machine s.from)
+    unfolding HasGuard from_in
+    from_has =
+        let known : s.from.0 < machine_count i = rw is (within.from j there) in omega (arith, sized.machines)
+
+    pub to_has : HasGuard v (guard.Machine s.to)
+    unfolding HasGuard to_in
+    to_has =
+        let known : s.to.0 < machine_count i = rw is (within.to j there) in omega (arith, sized.machines)
+
+  pub service_has : (s : Service) (v : VersionTable) → s.0 < service_count i → IsTableOf i v →
+      HasGuard v (guard.Service s)
+  unfolding HasGuard
+  service_has s v known sized = omega (arith, sized.services)

@@ -1,5 +1,5 @@
 -- Pins are made of exact flags and of the loads by the flagged processes.
-use Rattle.std.proofs.Common.{◌≡◌, ℕ, ◌<◌, Bool, ◌&&◌, cond, eqb, List, ap, ◌∙◌}
+use Rattle.std.proofs.Common.{arith, ◌≡◌, ℕ, ◌<◌, Bool, ◌&&◌, cond, eqb, List, ap}
 use Rattle.ra_base.specs.Tables.{cell}
 use Rattle.ra_base.specs.declared.ids.Machine.{Machine}
 use Rattle.ra_model.specs.declared.raw.Tables.{Tables}
@@ -11,28 +11,26 @@ use Rattle.ra_pins.specs.PinLists.{PinLists, flag_at}
 use Rattle.ra_pins.specs.Pins.{AreExact, ArePins}
 use Rattle.ra_pins.specs.Loads.{IsTallyTable}
 
-share_exact : (i : Tables) (a0 : List Machine) (flags : List Bool) (m r z : ℕ) → AreExact i a0 flags →
-    z < process_count i → flagged_share i (flag_at flags) m r z (machine_at a0 z) ≡ flagged_share i (is_pinned i a0) m r
-    z (machine_at a0 z)
-unfolding flagged_share
-share_exact i a0 flags m r z exact h =
-    ap (λ b. cond (b && eqb (machine_at a0 z) m) (requirement_of i z r) 0) (exact.each z h)
+module _ (i : Tables) (a0 : List Machine) where
+  share_exact : (flags : List Bool) (m r z : ℕ) → AreExact i a0 flags → z < process_count i →
+      flagged_share i (flag_at flags) m r z (machine_at a0 z) ≡ flagged_share i (is_pinned i a0) m r z (machine_at a0 z)
+  unfolding flagged_share
+  share_exact flags m r z exact h =
+      ap (λ b. cond (b && eqb (machine_at a0 z) m) (requirement_of i z r) 0) (exact.each z h)
 
-pub loads_pinned : (i : Tables) (a0 : List Machine) (flags : List Bool) (table : List ℕ) (m r : ℕ) →
-    AreExact i a0 flags → IsTallyTable i (process_count i) (flagged_share i (flag_at flags)) a0 table →
-    r < resource_count i → cell (resource_count i) table m r ≡ pinned_load i a0 m r
-unfolding pinned_load flagged_use
-loads_pinned i a0 flags table m r exact sums w = sums.each m r w
-    ∙ tally_same (process_count i) (flagged_share i (flag_at flags) m r) (flagged_share i (is_pinned i a0) m r) a0 a0
-    (λ z h. share_exact i a0 flags m r z exact h)
+  pub loads_pinned : (flags : List Bool) (table : List ℕ) (m r : ℕ) → AreExact i a0 flags →
+      IsTallyTable i (process_count i) (flagged_share i (flag_at flags)) a0 table → r < resource_count i →
+      cell (resource_count i) table m r ≡ pinned_load i a0 m r
+  unfolding pinned_load flagged_use
+  loads_pinned flags table m r exact sums w = grind (arith, tally_same, share_exact)
 
-pub pins_made : (i : Tables) (a0 : List Machine) (pins : PinLists) → IsAssignment i a0 →
-    pins.machines ≡ machine_count i → pins.resources ≡ resource_count i → AreExact i a0 pins.flags →
-    IsTallyTable i (process_count i) (flagged_share i (flag_at pins.flags)) a0 pins.loads → ArePins pins i a0
-pins_made i a0 pins fits machines resources exact sums = record {
-  fits = fits;
-  pinned = exact;
-  machines = machines;
-  resources = resources;
-  loads = λ m r m_in r_in. loads_pinned i a0 pins.flags pins.loads m r exact sums r_in;
-}
+  pub pins_made : (pins : PinLists) → IsAssignment i a0 → pins.machines ≡ machine_count i →
+      pins.resources ≡ resource_count i → AreExact i a0 pins.flags →
+      IsTallyTable i (process_count i) (flagged_share i (flag_at pins.flags)) a0 pins.loads → ArePins pins i a0
+  pins_made pins fits machines resources exact sums = record {
+    fits = fits;
+    pinned = exact;
+    machines = machines;
+    resources = resources;
+    loads = λ m r m_in r_in. loads_pinned pins.flags pins.loads m r exact sums r_in;
+  }

@@ -1,5 +1,5 @@
 -- Tables by machine and resource: rows that are added cell by cell, and sums over the processes.
-use Rattle.std.proofs.Common.{◌≡◌, ◌≢◌, ℕ, ◌+◌, ◌*◌, ◌^◌, ◌<◌, ◌≤◌, inl, inr, ⊎_elim, Bool, true, false, ◌&&◌, ◌||◌}
+use Rattle.std.proofs.Common.{◌≡◌, ◌≢◌, ℕ, ◌+◌, ◌*◌, ◌^◌, ◌<◌, ◌≤◌, inl, inr, Bool, true, false, ◌&&◌, ◌||◌}
 use Rattle.std.proofs.Common.{cond, eqb, ltb, List, length, replicate, get_or, set, refl, sym, ap, ◌∙◌, arith, le_refl}
 use Rattle.std.proofs.Common.{length-set, eq-eqb, ne_eqb}
 use Rattle.std.proofs.lemmas.Bool.{cases_eq, cases_lt, cases_Bool, cond-true, cond-false, cond_both, or_cases, or_left}
@@ -26,18 +26,6 @@ use Rattle.ra_pins.proofs.RoundLemmas.{some_yes, some_found, same_tests, flagged
 use Rattle.ra_pins.proofs.RoundLemmas.{flagged_share_elsewhere}
 use Rattle.ra_pins.proofs.StayLemmas.{flagged_below, use_share_yes, use_share_no}
 
--- amounts and shares
-
-amount_taken : (i : Tables) (columns : Columns) (p r : ℕ) → takes columns (transient_at i r) ≡ true →
-    amount_in i columns p r ≡ requirement_of i p r
-unfolding amount_in
-amount_taken i columns p r e = cond-true _ _ _ e
-
-amount_left : (i : Tables) (columns : Columns) (p r : ℕ) → takes columns (transient_at i r) ≡ false →
-    amount_in i columns p r ≡ 0
-unfolding amount_in
-amount_left i columns p r e = cond-false _ _ _ e
-
 takes_transient : (t : Bool) → takes Transient t ≡ t
 unfolding takes
 takes_transient t = refl
@@ -56,39 +44,6 @@ unfolding takes
 takes_no_transient true e = refl
 takes_no_transient false e = sym e
 
-row_share_here : (i : Tables) (columns : Columns) (m r p at : ℕ) → at ≡ m →
-    row_share i columns m r p at ≡ amount_in i columns p r
-unfolding row_share
-row_share_here i columns m r p at e = cond-true _ _ _ (eq-eqb at m e)
-
-row_share_elsewhere : (i : Tables) (columns : Columns) (m r p at : ℕ) → at ≢ m → row_share i columns m r p at ≡ 0
-unfolding row_share
-row_share_elsewhere i columns m r p at e = cond-false _ _ _ (ne_eqb at m e)
-
-row_share_nothing : (i : Tables) (columns : Columns) (m r p at : ℕ) → takes columns (transient_at i r) ≡ false →
-    row_share i columns m r p at ≡ 0
-row_share_nothing i columns m r p at e = ⊎_elim
-    (λ (here : at ≡ m). row_share_here i columns m r p at here ∙ amount_left i columns p r e)
-    (λ (apart : at ≢ m). row_share_elsewhere i columns m r p at apart)
-    (cases_eq at m)
-
-row_share_use : (i : Tables) (columns : Columns) (m r p at : ℕ) → takes columns (transient_at i r) ≡ true →
-    row_share i columns m r p at ≡ use_share i m r p at
-row_share_use i columns m r p at e = ⊎_elim
-    (λ (here : at ≡ m). row_share_here i columns m r p at here ∙ amount_taken i columns p r e
-    ∙ sym (use_share_yes i m r p at here))
-    (λ (apart : at ≢ m). row_share_elsewhere i columns m r p at apart ∙ sym (use_share_no i m r p at apart))
-    (cases_eq at m)
-
-row_share_flagged : (i : Tables) (columns : Columns) (x : ℕ → Bool) (m r p at : ℕ) →
-    takes columns (transient_at i r) ≡ true → x p ≡ true → row_share i columns m r p at ≡ flagged_share i x m r p at
-row_share_flagged i columns x m r p at e flag = ⊎_elim
-    (λ (here : at ≡ m). row_share_here i columns m r p at here ∙ amount_taken i columns p r e
-    ∙ sym (flagged_share_yes i x m r p at flag here))
-    (λ (apart : at ≢ m). row_share_elsewhere i columns m r p at apart
-    ∙ sym (flagged_share_elsewhere i x m r p at apart))
-    (cases_eq at m)
-
 -- a row is added cell by cell: the first n columns have grown by the shares of process p, and no other cell has changed
 pub record AddsPart (i : Tables) (columns : Columns) (p at n : ℕ) (old new : List ℕ) : Type 0 where
   pub done : (m r : ℕ) → r < resource_count i → r < n →
@@ -97,229 +52,14 @@ pub record AddsPart (i : Tables) (columns : Columns) (p at n : ℕ) (old new : L
       cell (resource_count i) new m r ≡ cell (resource_count i) old m r
   pub same_length : length new ≡ length old
 
-pub part_none : (i : Tables) (columns : Columns) (p at : ℕ) (old : List ℕ) → AddsPart i columns p at 0 old old
-part_none i columns p at old = record {
-  done = λ m r w h. absurd (omega arith);
-  rest = λ m r w h. refl;
-  same_length = refl;
-}
-
-part_more : (i : Tables) (columns : Columns) (p at n : ℕ) (old mid : List ℕ) → n < resource_count i →
-    at * resource_count i + n < length mid → AddsPart i columns p at n old mid →
-    AddsPart i columns p at (n + 1) old
-    (set mid (at * resource_count i + n) (cell (resource_count i) mid at n + amount_in i columns p n))
-part_more i columns p at n old mid column within part =
-    let width = resource_count i in
-    let value = cell width mid at n + amount_in i columns p n in
-    let new = set mid (at * width + n) value in
-    let here : cell width new at n ≡ cell width old at n + row_share i columns at n p at =
-    omega (
-      arith,
-      cell_write_same width mid at n value within,
-      part.rest at n column (le_refl n),
-      row_share_here i columns at n p at refl,
-    ) in
-    let last = λ (m r : ℕ) (row : m ≡ at) (e : r ≡ n). let goal : cell width new m r ≡ cell width old m r
-    + row_share i columns m r p at = rw (row, e) here in goal in
-    record {
-      done = λ m r w h. ⊎_elim
-          (λ (before : r < n). omega (
-            arith,
-            cell_write_other width mid at n value m r column w (inr (omega arith)),
-            part.done m r w before,
-          ))
-          (λ (late : n ≤ r). let e : r ≡ n = omega arith in ⊎_elim
-          (λ (row : m ≡ at). last m r row e)
-          (λ (apart : m ≢ at). omega (
-            arith,
-            cell_write_other width mid at n value m r column w (inl apart),
-            part.rest m r w late,
-            row_share_elsewhere i columns m r p at (λ d. apart (sym d)),
-          ))
-          (cases_eq m at))
-          (cases_lt r n);
-      rest = λ m r w h. cell_write_other width mid at n value m r column w (inr (omega arith))
-          ∙ part.rest m r w (omega arith);
-      same_length = length-set mid (at * width + n) value ∙ part.same_length;
-    }
-
--- as a loop writes it: the width and the amount are what calls have given
-pub part_write : (i : Tables) (columns : Columns) (p at n width amount : ℕ) (old mid new : List ℕ) →
-    width ≡ resource_count i → amount ≡ amount_in i columns p n → n < resource_count i →
-    at * resource_count i + n < length mid → new ≡ set mid (at * width + n) (cell width mid at n + amount) →
-    AddsPart i columns p at n old mid → AddsPart i columns p at (n + 1) old new
-part_write i columns p at n width amount old mid new wide read column within written part =
-    let all : new ≡ set mid (at * resource_count i + n) (cell (resource_count i) mid at n + amount_in i columns p n) =
-    rw (← wide, ← read) written in
-    rw all (part_more i columns p at n old mid column within part)
-
-pub part_all : (i : Tables) (columns : Columns) (p at n : ℕ) (old new : List ℕ) → n ≡ resource_count i →
-    AddsPart i columns p at n old new → AddsRow i columns p at old new
-part_all i columns p at n old new all part = record {
-  each = λ m r w. part.done m r w (omega arith);
-  same_length = part.same_length;
-}
-
--- a cell within the grid, and room in it
-pub grid_place : (i : Tables) (width at n : ℕ) (table : List ℕ) → width ≡ resource_count i →
-    length table ≡ machine_count i * resource_count i → at < machine_count i → n < resource_count i →
-    at * width + n < length table
-grid_place i width at n table wide all row column =
-    rw (wide, all) (place_within at n (machine_count i) (resource_count i) row column)
-
-pub part_place : (i : Tables) (columns : Columns) (p at n width : ℕ) (old mid : List ℕ) → width ≡ resource_count i →
-    length old ≡ machine_count i * resource_count i → at < machine_count i → n < resource_count i →
-    AddsPart i columns p at n old mid → at * width + n < length mid
-part_place i columns p at n width old mid wide all row column part =
-    grid_place i width at n mid wide (part.same_length ∙ all) row column
-
-amount_small : (i : Tables) (columns : Columns) (p r : ℕ) → Small i → amount_in i columns p r < 2 ^ 32
-amount_small i columns p r small = ⊎_elim
-    (λ (e : takes columns (transient_at i r) ≡ true).
-    omega (arith, amount_taken i columns p r e, small.requirements p r))
-    (λ (e : takes columns (transient_at i r) ≡ false). omega (arith, amount_left i columns p r e))
-    (cases_Bool (takes columns (transient_at i r)))
-
-pub part_fits : (i : Tables) (columns : Columns) (p at n width amount : ℕ) (old mid : List ℕ) →
-    width ≡ resource_count i → amount ≡ amount_in i columns p n → n < resource_count i → Small i →
-    IsBelow i (2 ^ 62) old → AddsPart i columns p at n old mid → cell width mid at n + amount < 2 ^ 64
-part_fits i columns p at n width amount old mid wide read column small below part =
-    let fits : cell (resource_count i) mid at n + amount < 2 ^ 64 =
-    omega (
-      arith,
-      read,
-      amount_small i columns p n small,
-      below.each at n column,
-      part.rest at n column (le_refl n),
-    ) in
-    rw wide fits
-
 -- sums over the processes
 
 zeros_at : (n k : ℕ) → get_or {A = ℕ} (replicate n 0) k 0 ≡ 0
-zeros_at n k =
-    ⊎_elim (λ within. get_or-replicate n k 0 0 within)
-    (λ past. get_or_past (replicate n 0) k 0 (omega (arith, length-replicate {A = ℕ} n 0))) (cases_lt k n)
-
-pub tally_start : (i : Tables) (share : ℕ → ℕ → ℕ → ℕ → ℕ) (a : List Machine) (table : List ℕ) →
-    table ≡ replicate (machine_count i * resource_count i) 0 → IsTallyTable i 0 share a table
-tally_start i share a table zeros = rw zeros (record {
-  grid = length-replicate {A = ℕ} (machine_count i * resource_count i) 0;
-  each = λ m r w. cell_is (resource_count i) (replicate (machine_count i * resource_count i) 0) m r
-      ∙ zeros_at (machine_count i * resource_count i) (m * resource_count i + r) ∙ sym (tally_none (share m r) a);
-})
-
--- one process more, with its row
-pub tally_row : (i : Tables) (columns : Columns) (p at : ℕ) (a : List Machine) (old new : List ℕ) →
-    at ≡ machine_at a p → IsTallyTable i p (row_share i columns) a old → AddsRow i columns p at old new →
-    IsTallyTable i (p + 1) (row_share i columns) a new
-tally_row i columns p at a old new is before adds = record {
-  grid = adds.same_length ∙ before.grid;
-  each = λ m r w. omega (
-    arith,
-    tally_more p (row_share i columns m r) a,
-    before.each m r w,
-    adds.each m r w,
-    ap (row_share i columns m r p) is,
-  );
-}
-
-pub tally_flagged : (i : Tables) (x : ℕ → Bool) (p at : ℕ) (a : List Machine) (old new : List ℕ) → at ≡ machine_at a p →
-    x p ≡ true → IsTallyTable i p (flagged_share i x) a old → AddsRow i All p at old new →
-    IsTallyTable i (p + 1) (flagged_share i x) a new
-tally_flagged i x p at a old new is flag before adds = record {
-  grid = adds.same_length ∙ before.grid;
-  each = λ m r w. omega (
-    arith,
-    tally_more p (flagged_share i x m r) a,
-    before.each m r w,
-    adds.each m r w,
-    ap (row_share i All m r p) is,
-    row_share_flagged i All x m r p (machine_at a p) (takes_all (transient_at i r))
-        flag,
-  );
-}
-
-pub tally_free : (i : Tables) (x : ℕ → Bool) (p : ℕ) (a : List Machine) (table : List ℕ) → x p ≡ false →
-    IsTallyTable i p (flagged_share i x) a table → IsTallyTable i (p + 1) (flagged_share i x) a table
-tally_free i x p a table free before = record {
-  grid = before.grid;
-  each = λ m r w.
-      omega (
-        arith,
-        tally_more p (flagged_share i x m r) a,
-        before.each m r w,
-        flagged_share_free i x m r p (machine_at a p) free,
-      );
-}
+zeros_at n k = grind (arith, get_or-replicate, get_or_past, length-replicate)
 
 -- sums of small shares are small
 pub record AreSmall (share : ℕ → ℕ → ℕ → ℕ → ℕ) : Type 0 where
   pub each : (m r p at : ℕ) → share m r p at ≤ 2 ^ 32
-
-pub row_share_small : (i : Tables) (columns : Columns) → Small i → AreSmall (row_share i columns)
-row_share_small i columns small = record {
-  each = λ m r p at. ⊎_elim
-      (λ (here : at ≡ m). omega (arith, row_share_here i columns m r p at here, amount_small i columns p r small))
-      (λ (apart : at ≢ m). omega (arith, row_share_elsewhere i columns m r p at apart))
-      (cases_eq at m);
-}
-
-pub flagged_share_small : (i : Tables) (x : ℕ → Bool) → Small i → AreSmall (flagged_share i x)
-unfolding flagged_share
-flagged_share_small i x small = record {
-  each = λ m r p at. cond_both (x p && eqb at m) (requirement_of i p r) 0 (λ v. v ≤ 2 ^ 32)
-      (λ e. omega (arith, small.requirements p r)) (λ e. omega arith);
-}
-
-pub tally_below : (i : Tables) (n : ℕ) (share : ℕ → ℕ → ℕ → ℕ → ℕ) (a : List Machine) (table : List ℕ) →
-    AreSmall share → n ≤ 50000 → IsTallyTable i n share a table → IsBelow i (2 ^ 62) table
-tally_below i n share a table small few sums = record {
-  each = λ m r w.
-      omega (arith, sums.each m r w, tally_bound n (2 ^ 32) (share m r) a (λ p h. small.each m r p (machine_at a p)));
-}
-
--- what is used at all times
-
-kept_transient : (i : Tables) (a0 : List Machine) (x : ℕ → Bool) (m r : ℕ) → transient_at i r ≡ true →
-    kept_use i a0 x m r ≡ use_of i a0 m r
-unfolding kept_use
-kept_transient i a0 x m r e = cond-true _ _ _ e
-
-kept_plain : (i : Tables) (a0 : List Machine) (x : ℕ → Bool) (m r : ℕ) → transient_at i r ≡ false →
-    kept_use i a0 x m r ≡ flagged_use i a0 x m r
-unfolding kept_use
-kept_plain i a0 x m r e = cond-false _ _ _ e
-
-none_flagged : (i : Tables) (a0 : List Machine) (x : ℕ → Bool) (m r : ℕ) →
-    ((z : ℕ) → z < process_count i → x z ≡ false) → flagged_use i a0 x m r ≡ 0
-unfolding flagged_use
-none_flagged i a0 x m r none = tally_zero (process_count i) (flagged_share i x m r) a0
-    (λ z h. flagged_share_free i x m r z (machine_at a0 z) (none z h))
-
-between_sum : (i : Tables) (a0 : List Machine) (m r : ℕ) → transient_at i r ≡ true →
-    tally (process_count i) (row_share i Transient m r) a0 ≡ use_of i a0 m r
-unfolding use_of
-between_sum i a0 m r e = tally_same (process_count i) (row_share i Transient m r) (use_share i m r) a0 a0
-    (λ z h. row_share_use i Transient m r z (machine_at a0 z) (takes_transient (transient_at i r) ∙ e))
-
-between_nothing : (i : Tables) (a0 : List Machine) (m r : ℕ) → transient_at i r ≡ false →
-    tally (process_count i) (row_share i Transient m r) a0 ≡ 0
-between_nothing i a0 m r e = tally_zero (process_count i) (row_share i Transient m r) a0
-    (λ z h. row_share_nothing i Transient m r z (machine_at a0 z) (takes_transient (transient_at i r) ∙ e))
-
--- if nothing is flagged
-pub kept_start : (i : Tables) (a0 : List Machine) (x : ℕ → Bool) (table : List ℕ) →
-    ((z : ℕ) → z < process_count i → x z ≡ false) → IsTallyTable i (process_count i) (row_share i Transient) a0 table →
-    AreKept i a0 x table
-kept_start i a0 x table none sums = record {
-  grid = sums.grid;
-  each = λ m r w. ⊎_elim
-      (λ (e : transient_at i r ≡ true). sums.each m r w ∙ between_sum i a0 m r e ∙ sym (kept_transient i a0 x m r e))
-      (λ (e : transient_at i r ≡ false). sums.each m r w ∙ between_nothing i a0 m r e
-      ∙ sym (none_flagged i a0 x m r none) ∙ sym (kept_plain i a0 x m r e))
-      (cases_Bool (transient_at i r));
-}
 
 -- y flags process p besides
 pub record OneMore (i : Tables) (x y : ℕ → Bool) (p : ℕ) : Type 0 where
@@ -327,10 +67,208 @@ pub record OneMore (i : Tables) (x y : ℕ → Bool) (p : ℕ) : Type 0 where
   pub now : y p ≡ true
   pub others : (z : ℕ) → z ≢ p → y z ≡ x z
 
-other_share : (i : Tables) (x y : ℕ → Bool) (m r z at : ℕ) → y z ≡ x z →
-    flagged_share i y m r z at ≡ flagged_share i x m r z at
-unfolding flagged_share
-other_share i x y m r z at same = ap (λ b. cond (b && eqb at m) (requirement_of i z r) 0) same
+or_assoc : (a b c : Bool) → ((a || b) || c) ≡ (a || (b || c))
+or_assoc true b c = refl
+or_assoc false b c = refl
+
+module _ (i : Tables) where
+  module _ (columns : Columns) (p r : ℕ) where
+    -- amounts and shares
+
+    amount_taken : takes columns (transient_at i r) ≡ true → amount_in i columns p r ≡ requirement_of i p r
+    unfolding amount_in
+    amount_taken e = cond-true _ _ _ e
+
+    amount_left : takes columns (transient_at i r) ≡ false → amount_in i columns p r ≡ 0
+    unfolding amount_in
+    amount_left e = cond-false _ _ _ e
+
+  module _ (columns : Columns) (m r p at : ℕ) where
+    row_share_here : at ≡ m → row_share i columns m r p at ≡ amount_in i columns p r
+    unfolding row_share
+    row_share_here e = grind (arith, eq-eqb)
+
+    row_share_elsewhere : at ≢ m → row_share i columns m r p at ≡ 0
+    unfolding row_share
+    row_share_elsewhere e = cond-false _ _ _ (ne_eqb at m e)
+
+    row_share_nothing : takes columns (transient_at i r) ≡ false → row_share i columns m r p at ≡ 0
+    row_share_nothing e = grind (arith, row_share_here, amount_left, row_share_elsewhere)
+
+    row_share_use : takes columns (transient_at i r) ≡ true → row_share i columns m r p at ≡ use_share i m r p at
+    row_share_use e = grind (arith, row_share_here, amount_taken, use_share_yes, row_share_elsewhere, use_share_no)
+
+  row_share_flagged : (columns : Columns) (x : ℕ → Bool) (m r p at : ℕ) → takes columns (transient_at i r) ≡ true →
+      x p ≡ true → row_share i columns m r p at ≡ flagged_share i x m r p at
+  row_share_flagged columns x m r p at e flag =
+      grind (arith, row_share_here, amount_taken, flagged_share_yes, row_share_elsewhere, flagged_share_elsewhere)
+
+  module _ (columns : Columns) (p at : ℕ) where
+    pub part_none : (old : List ℕ) → AddsPart i columns p at 0 old old
+    part_none old = record {
+      done = λ m r w h. absurd (omega arith);
+      rest = λ m r w h. refl;
+      same_length = refl;
+    }
+
+    part_more : (n : ℕ) (old mid : List ℕ) → n < resource_count i → at * resource_count i + n < length mid →
+        AddsPart i columns p at n old mid →
+        AddsPart i columns p at (n + 1) old (set mid (at * resource_count i + n) (cell (resource_count i) mid at n +
+        amount_in i columns p n))
+    part_more n old mid column within part =
+        let width = resource_count i in
+        let value = cell width mid at n + amount_in i columns p n in
+        let new = set mid _ value in
+        let here : cell width new at n ≡ cell width old at n + row_share i columns at n p at =
+        omega (
+          arith,
+          cell_write_same width mid at n value within,
+          part.rest at n column (le_refl n),
+          row_share_here columns at n p at refl,
+        ) in
+        let last = λ (m r : ℕ) (row : m ≡ at) (e : r ≡ n). let goal : cell width new m r ≡ cell width old m r
+        + row_share i columns m r p at = rw (row, e) here in goal in
+        record {
+          done = λ m r w h. elim (cases_lt r n) [
+            | inl before ↦ omega (
+              arith,
+              cell_write_other width mid at n value m r column w (inr (omega arith)),
+              part.done m r w before,
+            )
+            | inr late ↦ elim (cases_eq m at) [
+              | inl row ↦ last m r row (omega arith)
+              | inr apart ↦ omega (
+                arith,
+                cell_write_other width mid at n value m r column w (inl apart),
+                part.rest m r w late,
+                row_share_elsewhere columns m r p at (λ d. apart (sym d)),
+              )
+            ]
+          ];
+          rest = λ m r w h. cell_write_other width mid at n value m r column w (inr (omega arith))
+              ∙ part.rest m r w (omega arith);
+          same_length = length-set mid (at * width + n) value ∙ part.same_length;
+        }
+
+    -- as a loop writes it: the width and the amount are what calls have given
+    pub part_write : (n width amount : ℕ) (old mid new : List ℕ) → width ≡ resource_count i →
+        amount ≡ amount_in i columns p n → n < resource_count i → at * resource_count i + n < length mid →
+        new ≡ set mid (at * width + n) (cell width mid at n + amount) → AddsPart i columns p at n old mid →
+        AddsPart i columns p at (n + 1) old new
+    part_write n width amount old mid new wide read column within written part =
+        let all : new ≡ set mid (at * resource_count i + n)
+        (cell (resource_count i) mid at n + amount_in i columns p n) =
+        rw (← wide, ← read) written in
+        rw all (part_more n old mid column within part)
+
+    pub part_all : (n : ℕ) (old new : List ℕ) → n ≡ resource_count i → AddsPart i columns p at n old new →
+        AddsRow i columns p at old new
+    part_all n old new all part = record {
+      each = λ m r w. part.done m r w (omega arith);
+      same_length = part.same_length;
+    }
+
+  -- a cell within the grid, and room in it
+  pub grid_place : (width at n : ℕ) (table : List ℕ) → width ≡ resource_count i →
+      length table ≡ machine_count i * resource_count i → at < machine_count i → n < resource_count i →
+      at * width + n < length table
+  grid_place width at n table wide all row column = grind (arith, place_within)
+
+  module _ (columns : Columns) (p : ℕ) where
+    pub part_place : (at n width : ℕ) (old mid : List ℕ) → width ≡ resource_count i →
+        length old ≡ machine_count i * resource_count i → at < machine_count i → n < resource_count i →
+        AddsPart i columns p at n old mid → at * width + n < length mid
+    part_place at n width old mid wide all row column part = grind (arith, grid_place)
+
+    amount_small : (r : ℕ) → Small i → amount_in i columns p r < 2 ^ 32
+    amount_small r small = grind (arith, amount_taken, amount_left)
+
+    pub part_fits : (at n width amount : ℕ) (old mid : List ℕ) → width ≡ resource_count i →
+        amount ≡ amount_in i columns p n → n < resource_count i → Small i → IsBelow i (2 ^ 62) old →
+        AddsPart i columns p at n old mid → cell width mid at n + amount < 2 ^ 64
+    part_fits at n width amount old mid wide read column small below part = grind (arith, amount_small)
+
+  pub tally_start : (share : ℕ → ℕ → ℕ → ℕ → ℕ) (a : List Machine) (table : List ℕ) →
+      table ≡ replicate (machine_count i * resource_count i) 0 → IsTallyTable i 0 share a table
+  tally_start share a table zeros = rw zeros (record {
+    grid = length-replicate {A = ℕ} (machine_count i * resource_count i) 0;
+    each = λ m r w. cell_is _ _ m r
+        ∙ zeros_at (machine_count i * resource_count i) (m * resource_count i + r) ∙ sym (tally_none (share m r) a);
+  })
+
+  -- one process more, with its row
+  pub tally_row : (columns : Columns) (p at : ℕ) (a : List Machine) (old new : List ℕ) → at ≡ machine_at a p →
+      IsTallyTable i p (row_share i columns) a old → AddsRow i columns p at old new →
+      IsTallyTable i (p + 1) (row_share i columns) a new
+  tally_row columns p at a old new is before adds = record {
+    grid = adds.same_length ∙ before.grid;
+    each = λ m r w. omega (
+      arith,
+      tally_more,
+      before.each m r w,
+      adds.each m r w,
+      ap (row_share i columns m r p) is,
+    );
+  }
+
+  module _ (x : ℕ → Bool) (p : ℕ) where
+    pub tally_flagged : (at : ℕ) (a : List Machine) (old new : List ℕ) → at ≡ machine_at a p → x p ≡ true →
+        IsTallyTable i p (flagged_share i x) a old → AddsRow i All p at old new →
+        IsTallyTable i (p + 1) (flagged_share i x) a new
+    tally_flagged at a old new is flag before adds = record {
+      grid = adds.same_length ∙ before.grid;
+      each = λ m r w. omega (
+        arith,
+        tally_more p (flagged_share i x m r) a,
+        before.each m r w,
+        adds.each m r w,
+        ap (row_share i All m r p) is,
+        row_share_flagged All x m r p (machine_at a p) (takes_all (transient_at i r))
+            flag,
+      );
+    }
+
+    pub tally_free : (a : List Machine) (table : List ℕ) → x p ≡ false → IsTallyTable i p (flagged_share i x) a table →
+        IsTallyTable i (p + 1) (flagged_share i x) a table
+    tally_free a table free before = record {
+      grid = before.grid;
+      each = λ m r w.
+          omega (arith, tally_more, before.each m r w, flagged_share_free);
+    }
+
+  pub row_share_small : (columns : Columns) → Small i → AreSmall (row_share i columns)
+  row_share_small columns small = record {
+    each = λ m r p at. elim (cases_eq at m) [
+      | inl here ↦ omega (arith, row_share_here, amount_small)
+      | inr apart ↦ omega (arith, row_share_elsewhere)
+    ];
+  }
+
+  pub flagged_share_small : (x : ℕ → Bool) → Small i → AreSmall (flagged_share i x)
+  unfolding flagged_share
+  flagged_share_small x small = record {
+    each = λ m r p at. cond_both (x p && eqb at m) (requirement_of i p r) 0 (λ v. v ≤ 2 ^ 32)
+        (λ e. omega (arith, small.requirements p r)) (λ e. omega arith);
+  }
+
+  pub tally_below : (n : ℕ) (share : ℕ → ℕ → ℕ → ℕ → ℕ) (a : List Machine) (table : List ℕ) → AreSmall share →
+      n ≤ 50000 → IsTallyTable i n share a table → IsBelow i (2 ^ 62) table
+  tally_below n share a table small few sums = record {
+    each = λ m r w.
+        omega (arith, sums.each m r w, tally_bound n (2 ^ 32) (share m r) a (λ p h. small.each m r p (machine_at a p)));
+  }
+
+  module _ (a0 : List Machine) (m r : ℕ) where
+    between_sum : transient_at i r ≡ true → tally (process_count i) (row_share i Transient m r) a0 ≡ use_of i a0 m r
+    unfolding use_of
+    between_sum e = grind (arith, tally_same, row_share_use, takes_transient)
+
+    between_nothing : transient_at i r ≡ false → tally (process_count i) (row_share i Transient m r) a0 ≡ 0
+    between_nothing e = grind (arith, tally_zero, row_share_nothing, takes_transient)
+
+  other_share : (x y : ℕ → Bool) (m r z at : ℕ) → y z ≡ x z → flagged_share i y m r z at ≡ flagged_share i x m r z at
+  unfolding flagged_share
+  other_share x y m r z at same = ap (λ b. cond (b && eqb at m) (requirement_of i z r) 0) same
 
 flagged_one_more : (i : Tables) (a0 : List Machine) (x y : ℕ → Bool) (p m r : ℕ) → OneMore i x y p →
     p < process_count i → flagged_use i a0 y m r ≡ flagged_use i a0 x m r + flagged_share i y m r p (machine_at a0 p)
@@ -339,176 +277,181 @@ flagged_one_more i a0 x y p m r more h = omega (
   arith,
   total_change (process_count i) p (λ z. flagged_share i y m r z (machine_at a0 z))
       (λ z. flagged_share i x m r z (machine_at a0 z)) h
-      (λ z z_in apart. other_share i x y m r z (machine_at a0 z) (more.others z apart)),
-  flagged_share_free i x m r p (machine_at a0 p) more.before,
+      (λ z z_in apart. other_share i x y m r z _ (more.others z apart)),
+  flagged_share_free,
 )
 
--- one process more is flagged, and its row is added
-pub kept_more : (i : Tables) (a0 : List Machine) (x y : ℕ → Bool) (p home : ℕ) (old new : List ℕ) → OneMore i x y p →
-    p < process_count i → home ≡ machine_at a0 p → AreKept i a0 x old → AddsRow i Others p home old new →
-    AreKept i a0 y new
-kept_more i a0 x y p home old new more h is kept adds = record {
-  grid = adds.same_length ∙ kept.grid;
-  each = λ m r w. ⊎_elim
-      (λ (e : transient_at i r ≡ true).
-      omega (
-        arith,
-        adds.each m r w,
-        kept.each m r w,
-        row_share_nothing i Others m r p home (takes_no_transient (transient_at i r) e),
-        kept_transient i a0 x m r e,
-        kept_transient i a0 y m r e,
-      ))
-      (λ (e : transient_at i r ≡ false).
-      omega (
-        arith,
-        adds.each m r w,
-        kept.each m r w,
-        kept_plain i a0 x m r e,
-        kept_plain i a0 y m r e,
-        flagged_one_more i a0 x y p m r more h,
-        row_share_flagged i Others y m r p home (takes_plain (transient_at i r) e) more.now,
-        ap (flagged_share i y m r p) is,
-      ))
-      (cases_Bool (transient_at i r));
-}
+module _ (i : Tables) (kept : List ℕ) (p m r : ℕ) where
+  -- what the table says of one resource
 
-flagged_small : (i : Tables) (a0 : List Machine) (x : ℕ → Bool) (m r : ℕ) → WellFormed i → Small i →
-    flagged_use i a0 x m r < 2 ^ 62
-unfolding flagged_use
-flagged_small i a0 x m r formed small =
-    omega (
-      arith,
-      formed.few_processes,
-      tally_bound (process_count i) (2 ^ 32) (flagged_share i x m r) a0
-          (λ p h. (flagged_share_small i x small).each m r p (machine_at a0 p)),
-    )
+  overfull_yes : capacity_of i m r < cell (resource_count i) kept m r
+      + requirement_of i p r → overfull i kept p m r ≡ true
+  unfolding overfull
+  overfull_yes e = lt-ltb _ _ e
 
-pub kept_below : (i : Tables) (a0 : List Machine) (x : ℕ → Bool) (kept : List ℕ) → WellFormed i → Small i →
-    AreKept i a0 x kept → IsBelow i (2 ^ 62) kept
-kept_below i a0 x kept formed small stands = record {
-  each = λ m r w. ⊎_elim
-      (λ (e : transient_at i r ≡ true).
-      omega (arith, stands.each m r w, kept_transient i a0 x m r e, use_under i a0 m r formed small))
-      (λ (e : transient_at i r ≡ false).
-      omega (arith, stands.each m r w, kept_plain i a0 x m r e, flagged_small i a0 x m r formed small))
-      (cases_Bool (transient_at i r));
-}
+  overfull_means : overfull i kept p m r ≡ true →
+      capacity_of i m r < cell (resource_count i) kept m r + requirement_of i p r
+  unfolding overfull
+  overfull_means e = ltb-true _ _ e
 
--- the flagged processes use a part of the initial use
-flagged_part : (i : Tables) (a0 : List Machine) (x : ℕ → Bool) (m r : ℕ) → flagged_use i a0 x m r ≤ use_of i a0 m r
-flagged_part i a0 x m r = flagged_below i a0 a0 x m r (record { each = λ z h e. refl })
+module _ (i : Tables) (a0 : List Machine) where
+  module _ (p m r : ℕ) where
+    between_yes : transient_at i r ≡ true → capacity_of i m r < use_of i a0 m r + requirement_of i p r →
+        lacks_between i a0 p m r ≡ true
+    unfolding lacks_between
+    between_yes t e = grind (arith, and_from, lt-ltb)
 
--- what the table says of one resource
+    between_means : lacks_between i a0 p m r ≡ true →
+        (transient_at i r ≡ true) × (capacity_of i m r < use_of i a0 m r + requirement_of i p r)
+    unfolding lacks_between
+    between_means e =
+        let parts = and_parts (transient_at i r) (ltb (capacity_of i m r) (use_of i a0 m r + requirement_of i p r)) e in
+        (parts.0, ltb-true _ _ parts.1)
 
-overfull_yes : (i : Tables) (kept : List ℕ) (p m r : ℕ) → capacity_of i m r < cell (resource_count i) kept m r
-    + requirement_of i p r → overfull i kept p m r ≡ true
-unfolding overfull
-overfull_yes i kept p m r e = lt-ltb _ _ e
+  module _ (x : ℕ → Bool) (m r : ℕ) where
+    -- what is used at all times
 
-overfull_means : (i : Tables) (kept : List ℕ) (p m r : ℕ) → overfull i kept p m r ≡ true →
-    capacity_of i m r < cell (resource_count i) kept m r + requirement_of i p r
-unfolding overfull
-overfull_means i kept p m r e = ltb-true _ _ e
+    kept_transient : transient_at i r ≡ true → kept_use i a0 x m r ≡ use_of i a0 m r
+    unfolding kept_use
+    kept_transient e = cond-true _ _ _ e
 
-lacks_yes : (i : Tables) (a0 : List Machine) (x : ℕ → Bool) (p m r : ℕ) → capacity_of i m r < flagged_use i a0 x m r
-    + requirement_of i p r → lacks i a0 x p m r ≡ true
-unfolding lacks
-lacks_yes i a0 x p m r e = lt-ltb _ _ e
+    kept_plain : transient_at i r ≡ false → kept_use i a0 x m r ≡ flagged_use i a0 x m r
+    unfolding kept_use
+    kept_plain e = cond-false _ _ _ e
 
-lacks_means : (i : Tables) (a0 : List Machine) (x : ℕ → Bool) (p m r : ℕ) → lacks i a0 x p m r ≡ true →
-    capacity_of i m r < flagged_use i a0 x m r + requirement_of i p r
-unfolding lacks
-lacks_means i a0 x p m r e = ltb-true _ _ e
+    none_flagged : ((z : ℕ) → z < process_count i → x z ≡ false) → flagged_use i a0 x m r ≡ 0
+    unfolding flagged_use
+    none_flagged none = grind (arith, tally_zero, flagged_share_free)
 
-between_yes : (i : Tables) (a0 : List Machine) (p m r : ℕ) → transient_at i r ≡ true →
-    capacity_of i m r < use_of i a0 m r + requirement_of i p r → lacks_between i a0 p m r ≡ true
-unfolding lacks_between
-between_yes i a0 p m r t e = and_from _ _ t (lt-ltb _ _ e)
+  module _ (x : ℕ → Bool) where
+    -- if nothing is flagged
+    pub kept_start : (table : List ℕ) → ((z : ℕ) → z < process_count i → x z ≡ false) →
+        IsTallyTable i (process_count i) (row_share i Transient) a0 table → AreKept i a0 x table
+    kept_start table none sums = record {
+      grid = sums.grid;
+      each = λ m r w. elim (cases_Bool (transient_at i r)) [
+        | inl e ↦ sums.each m r w ∙ between_sum i a0 m r e ∙ sym (kept_transient x m r e)
+        | inr e ↦ sums.each m r w ∙ between_nothing i a0 m r e
+            ∙ sym (none_flagged x m r none) ∙ sym (kept_plain x m r e)
+      ];
+    }
 
-between_means : (i : Tables) (a0 : List Machine) (p m r : ℕ) → lacks_between i a0 p m r ≡ true →
-    (transient_at i r ≡ true) × (capacity_of i m r < use_of i a0 m r + requirement_of i p r)
-unfolding lacks_between
-between_means i a0 p m r e =
-    let parts = and_parts (transient_at i r) (ltb (capacity_of i m r) (use_of i a0 m r + requirement_of i p r)) e in
-    (parts.0, ltb-true _ _ parts.1)
+    -- one process more is flagged, and its row is added
+    pub kept_more : (y : ℕ → Bool) (p home : ℕ) (old new : List ℕ) → OneMore i x y p → p < process_count i →
+        home ≡ machine_at a0 p → AreKept i a0 x old → AddsRow i Others p home old new → AreKept i a0 y new
+    kept_more y p home old new more h is kept adds = record {
+      grid = adds.same_length ∙ kept.grid;
+      each = λ m r w. elim (cases_Bool (transient_at i r)) [
+        | inl e ↦ omega (
+          arith,
+          adds.each m r w,
+          kept.each m r w,
+          row_share_nothing i Others m r p home (takes_no_transient _ e),
+          kept_transient x m r e,
+          kept_transient y m r e,
+        )
+        | inr e ↦ omega (
+          arith,
+          adds.each m r w,
+          kept.each m r w,
+          kept_plain x m r e,
+          kept_plain y m r e,
+          flagged_one_more i a0 x y p m r more h,
+          row_share_flagged i Others y m r p home (takes_plain _ e) more.now,
+          ap (flagged_share i y m r p) is,
+        )
+      ];
+    }
 
-lack_there : (i : Tables) (a0 : List Machine) (x : ℕ → Bool) (kept : List ℕ) (p m : ℕ) → AreKept i a0 x kept →
-    some_of (resource_count i) (overfull i kept p m) ≡ true →
-    (some_of (resource_count i) (lacks i a0 x p m) || some_of (resource_count i) (lacks_between i a0 p m)) ≡ true
-lack_there i a0 x kept p m stands e =
-    let found = some_found (resource_count i) (overfull i kept p m) e in
-    let r = found.0 in
-    let over = overfull_means i kept p m r found.2 in
-    ⊎_elim
-    (λ (t : transient_at i r ≡ true). or_right (some_of (resource_count i) (lacks i a0 x p m)) _
-    (some_yes (resource_count i) r (lacks_between i a0 p m) found.1
-    (between_yes i a0 p m r t (omega (arith, over, stands.each m r found.1, kept_transient i a0 x m r t)))))
-    (λ (t : transient_at i r ≡ false).
-    or_left _ _ (some_yes (resource_count i) r (lacks i a0 x p m) found.1
-    (lacks_yes i a0 x p m r (omega (arith, over, stands.each m r found.1, kept_plain i a0 x m r t)))))
-    (cases_Bool (transient_at i r))
+    flagged_small : (m r : ℕ) → WellFormed i → Small i → flagged_use i a0 x m r < 2 ^ 62
+    unfolding flagged_use
+    flagged_small m r formed small =
+        omega (
+          arith,
+          formed.few_processes,
+          tally_bound (process_count i) (2 ^ 32) (flagged_share i x m r) a0
+              (λ p h. (flagged_share_small i x small).each m r p (machine_at a0 p)),
+        )
 
-kept_most : (i : Tables) (a0 : List Machine) (x : ℕ → Bool) (m r : ℕ) → flagged_use i a0 x m r ≤ kept_use i a0 x m r
-kept_most i a0 x m r = ⊎_elim
-    (λ (t : transient_at i r ≡ true). omega (arith, kept_transient i a0 x m r t, flagged_part i a0 x m r))
-    (λ (t : transient_at i r ≡ false). omega (arith, kept_plain i a0 x m r t))
-    (cases_Bool (transient_at i r))
+    pub kept_below : (kept : List ℕ) → WellFormed i → Small i → AreKept i a0 x kept → IsBelow i (2 ^ 62) kept
+    kept_below kept formed small stands = record {
+      each = λ m r w. elim (cases_Bool (transient_at i r)) [
+        | inl e ↦ omega (arith, stands.each m r w, kept_transient, use_under)
+        | inr e ↦ omega (arith, stands.each m r w, kept_plain, flagged_small)
+      ];
+    }
 
-lack_back : (i : Tables) (a0 : List Machine) (x : ℕ → Bool) (kept : List ℕ) (p m : ℕ) → AreKept i a0 x kept →
-    (some_of (resource_count i) (lacks i a0 x p m) || some_of (resource_count i) (lacks_between i a0 p m)) ≡ true →
-    some_of (resource_count i) (overfull i kept p m) ≡ true
-lack_back i a0 x kept p m stands e = ⊎_elim
-    (λ (plain : some_of (resource_count i) (lacks i a0 x p m) ≡ true). let found = some_found (resource_count i)
-    (lacks i a0 x p m) plain in
-    some_yes (resource_count i) found.0 (overfull i kept p m) found.1
-    (overfull_yes i kept p m found.0
-    (omega (
-      arith,
-      lacks_means i a0 x p m found.0 found.2,
-      stands.each m found.0 found.1,
-      kept_most i a0 x m found.0,
-    ))))
-    (λ (twice : some_of (resource_count i) (lacks_between i a0 p m) ≡ true). let found = some_found (resource_count i)
-    (lacks_between i a0 p m) twice in
-    let means = between_means i a0 p m found.0 found.2 in
-    some_yes (resource_count i) found.0 (overfull i kept p m) found.1
-    (overfull_yes i kept p m found.0
-    (omega (arith, means.1, stands.each m found.0 found.1, kept_transient i a0 x m found.0 means.0))))
-    (or_cases (some_of (resource_count i) (lacks i a0 x p m)) (some_of (resource_count i) (lacks_between i a0 p m)) e)
+    -- the flagged processes use a part of the initial use
+    flagged_part : (m r : ℕ) → flagged_use i a0 x m r ≤ use_of i a0 m r
+    flagged_part m r = flagged_below i a0 a0 x m r (record { each = λ z h e. refl })
 
-or_assoc : (a b c : Bool) → ((a || b) || c) ≡ (a || (b || c))
-or_assoc true b c = refl
-or_assoc false b c = refl
+    lacks_yes : (p m r : ℕ) → capacity_of i m r < flagged_use i a0 x m r
+        + requirement_of i p r → lacks i a0 x p m r ≡ true
+    unfolding lacks
+    lacks_yes p m r e = lt-ltb _ _ e
 
--- a process is blocked if the machine is closed, the table has too little room, or the machine is taken
-pub blocked_is : (i : Tables) (a0 : List Machine) (x : ℕ → Bool) (kept : List ℕ) (p m : ℕ) → AreKept i a0 x kept →
-    blocked i a0 x p m ≡
-    (closed_at i m || (some_of (resource_count i) (overfull i kept p m) || flagged_starts_on i a0 x (service_of i p) m))
-unfolding blocked
-blocked_is i a0 x kept p m stands =
-    let same : some_of (resource_count i) (overfull i kept p m) ≡
-    (some_of (resource_count i) (lacks i a0 x p m) || some_of (resource_count i) (lacks_between i a0 p m)) =
-    same_tests _ _ (lack_there i a0 x kept p m stands) (lack_back i a0 x kept p m stands) in
-    ap (λ b. closed_at i m || b)
-    (sym (or_assoc (some_of (resource_count i) (lacks i a0 x p m))
-    (some_of (resource_count i) (lacks_between i a0 p m)) (flagged_starts_on i a0 x (service_of i p) m))
-    ∙ ap (λ b. b || flagged_starts_on i a0 x (service_of i p) m) (sym same))
+    lacks_means : (p m r : ℕ) → lacks i a0 x p m r ≡ true →
+        capacity_of i m r < flagged_use i a0 x m r + requirement_of i p r
+    unfolding lacks
+    lacks_means p m r e = ltb-true _ _ e
 
-pub blocked_shut : (i : Tables) (a0 : List Machine) (x : ℕ → Bool) (kept : List ℕ) (p m : ℕ) → AreKept i a0 x kept →
-    closed_at i m ≡ true → blocked i a0 x p m ≡ true
-blocked_shut i a0 x kept p m stands e = blocked_is i a0 x kept p m stands ∙ or_left _ _ e
+    lack_there : (kept : List ℕ) (p m : ℕ) → AreKept i a0 x kept →
+        some_of (resource_count i) (overfull i kept p m) ≡ true →
+        (some_of (resource_count i) (lacks i a0 x p m) || some_of (resource_count i) (lacks_between i a0 p m)) ≡ true
+    lack_there kept p m stands e =
+        let found = some_found _ _ e in
+        let r = found.0 in
+        let over = overfull_means i kept p m r found.2 in
+        elim (cases_Bool (transient_at i r)) [
+          | inl t ↦ or_right _ _
+              (some_yes (resource_count i) r _ found.1
+              (between_yes p m r t (omega (arith, over, stands.each m r found.1, kept_transient x m r t))))
+          | inr t ↦ or_left _ _ (some_yes (resource_count i) r _ found.1
+              (lacks_yes p m r (omega (arith, over, stands.each m r found.1, kept_plain x m r t))))
+        ]
 
-pub blocked_full : (i : Tables) (a0 : List Machine) (x : ℕ → Bool) (kept : List ℕ) (p m : ℕ) → AreKept i a0 x kept →
-    some_of (resource_count i) (overfull i kept p m) ≡ true → blocked i a0 x p m ≡ true
-blocked_full i a0 x kept p m stands e = blocked_is i a0 x kept p m stands ∙ or_right (closed_at i m) _ (or_left _ _ e)
+    kept_most : (m r : ℕ) → flagged_use i a0 x m r ≤ kept_use i a0 x m r
+    kept_most m r = grind (arith, kept_transient, flagged_part, kept_plain)
 
-pub blocked_open : (i : Tables) (a0 : List Machine) (x : ℕ → Bool) (kept : List ℕ) (p m s : ℕ) → AreKept i a0 x kept →
-    closed_at i m ≡ false → some_of (resource_count i) (overfull i kept p m) ≡ false → s ≡ service_of i p →
-    blocked i a0 x p m ≡ flagged_starts_on i a0 x s m
-blocked_open i a0 x kept p m s stands open_is room is =
-    blocked_is i a0 x kept p m stands
-    ∙ ap (λ b. b || (some_of (resource_count i) (overfull i kept p m) || flagged_starts_on i a0 x (service_of i p) m))
-    open_is
-    ∙ ap (λ b. b || flagged_starts_on i a0 x (service_of i p) m) room
-    ∙ ap (λ k. flagged_starts_on i a0 x k m) (sym is)
+module _ (i : Tables) (a0 : List Machine) (x : ℕ → Bool) (kept : List ℕ) (p : ℕ) where
+  module _ (m : ℕ) (stands : AreKept i a0 x kept) where
+    lack_back : (some_of (resource_count i) (lacks i a0 x p m) || some_of (resource_count i) (lacks_between i a0 p m)) ≡
+        true → some_of (resource_count i) (overfull i kept p m) ≡ true
+    lack_back e = elim (or_cases (some_of (resource_count i) (lacks i a0 x p m))
+        (some_of (resource_count i) (lacks_between i a0 p m)) e) [
+          | inl plain ↦ let found = some_found _
+              _ plain in
+              some_yes _ found.0 _ found.1
+              (overfull_yes i kept p m found.0
+              (omega (
+                arith,
+                lacks_means i a0 x p m found.0 found.2,
+                stands.each m found.0 found.1,
+                kept_most i a0 x m found.0,
+              )))
+          | inr twice ↦ let found = some_found
+              _
+              _ twice in
+              let means = between_means i a0 p m found.0 found.2 in
+              some_yes _ found.0 _ found.1
+              (overfull_yes i kept p m found.0
+              (omega (arith, means.1, stands.each m found.0 found.1, kept_transient i a0 x m found.0 means.0)))
+        ]
+
+    -- a process is blocked if the machine is closed, the table has too little room, or the machine is taken
+    pub blocked_is : blocked i a0 x p m ≡
+        (closed_at i m ||
+        (some_of (resource_count i) (overfull i kept p m) || flagged_starts_on i a0 x (service_of i p) m))
+    unfolding blocked
+    blocked_is = grind (arith, or_assoc, same_tests, lack_there, lack_back)
+
+    pub blocked_shut : closed_at i m ≡ true → blocked i a0 x p m ≡ true
+    blocked_shut e = blocked_is ∙ or_left _ _ e
+
+    pub blocked_full : some_of (resource_count i) (overfull i kept p m) ≡ true → blocked i a0 x p m ≡ true
+    blocked_full e = grind (arith, blocked_is, or_right, or_left)
+
+  pub blocked_open : (m s : ℕ) → AreKept i a0 x kept → closed_at i m ≡ false →
+      some_of (resource_count i) (overfull i kept p m) ≡ false → s ≡ service_of i p →
+      blocked i a0 x p m ≡ flagged_starts_on i a0 x s m
+  blocked_open m s stands open_is room is = grind (arith, blocked_is)

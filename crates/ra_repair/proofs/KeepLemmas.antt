@@ -1,5 +1,5 @@
 -- What is kept, of an assignment that is known.
-use Rattle.std.proofs.Common.{◌≡◌, ℕ, ◌+◌, ◌-◌, ◌^◌, ◌<◌, ◌≤◌, List, set, ap, ◌∙◌, arith}
+use Rattle.std.proofs.Common.{◌≡◌, ℕ, ◌+◌, ◌-◌, ◌^◌, ◌<◌, ◌≤◌, List, set, ap, arith}
 use Rattle.ra_base.specs.declared.ids.Machine.{Machine}
 use Rattle.ra_model.specs.declared.raw.Tables.{Tables}
 use Rattle.ra_model.specs.Limits.{WellFormed, Small}
@@ -25,9 +25,9 @@ stands_on kept i a0 a is fits tables start by_rows by_cells = record {
 }
 
 -- the penalty is kept after the step
-pub keeps_on : (kept : Kept) (now : ℕ) (i : Tables) (a0 : List Machine) → StandsForKept kept i a0 →
+pub keeps_on : {kept : Kept} (now : ℕ) {i : Tables} {a0 : List Machine} → StandsForKept kept i a0 →
     now ≡ penalty i a0 kept.assignment.items → KeepsPenalty (record kept { penalty = now }) i a0
-keeps_on kept now i a0 stands is = record {
+keeps_on now stands is = record {
   stands = record {
     fits = stands.fits;
     tables = stands.tables;
@@ -44,16 +44,18 @@ pub record Renews (i : Tables) (a0 b : List Machine) (now before after : ℕ) : 
   pub enough : before ≤ now + after
   pub renewed : now + after - before ≡ penalty i a0 b
 
-pub renews : (i : Tables) (a0 a b : List Machine) (p from : ℕ) (to : Machine) (now before after : ℕ) → WellFormed i →
-    Small i → Goes i a p from to → b ≡ set a p to → now ≡ penalty i a0 a → before ≡ touched i a0 a p from to.0 →
-    after ≡ touched i a0 b p from to.0 → after ≤ 2 ^ 60 → Renews i a0 b now before after
-renews i a0 a b p from to now before after limits small goes is now_is before_is after_is few =
+pub renews : {kept : Kept} {i : Tables} {a0 b : List Machine} {p from : ℕ} (to : Machine) {before after : ℕ} →
+    WellFormed i → Small i → KeepsPenalty kept i a0 → Goes i kept.assignment.items p from to →
+    b ≡ set kept.assignment.items p to → before ≡ touched i a0 kept.assignment.items p from to.0 →
+    after ≡ touched i a0 b p from to.0 → after ≤ 2 ^ 60 → Renews i a0 b kept.penalty before after
+renews {kept} {i} {a0} {p} {from} to limits small keeps goes is before_is after_is few =
+    let a = kept.assignment.items in
     let change = penalty_set i a0 a p from to limits small goes in
-    let same : penalty i a0 b ≡ penalty i a0 (set a p to) = ap (penalty i a0) is in
-    let later : after ≡ touched i a0 (set a p to) p from to.0 = after_is ∙ ap (λ xs. touched i a0 xs p from to.0) is in
+    let same = ap (penalty i a0) is in
+    let later = ap (λ xs. touched i a0 xs p from to.0) is in
     let bound = penalty_few i a0 a limits small in
     record {
-      fits = omega (arith, bound, now_is, few);
-      enough = omega (arith, change, same, later, now_is, before_is);
-      renewed = omega (arith, change, same, later, now_is, before_is);
+      fits = omega (arith, bound, keeps.penalty_is, few);
+      enough = omega (arith, change, same, later, keeps.penalty_is, before_is, after_is);
+      renewed = omega (arith, change, same, later, keeps.penalty_is, before_is, after_is);
     }

@@ -1,5 +1,5 @@
 -- The penalty is 0 exactly if no constraint is broken, sum by sum.
-use Rattle.std.proofs.Common.{◌≡◌, ℕ, ◌-◌, Bool, true, false, cond, eqb, ltb, ◌&&◌, not, List, None, refl, arith}
+use Rattle.std.proofs.Common.{◌≡◌, ℕ, ◌-◌, Bool, true, false, cond, ltb, ◌&&◌, List, None, refl, arith}
 use Rattle.std.specs.Prelude.{Option}
 use Rattle.std.proofs.lemmas.Bool.{ltb-false, le-ltb}
 use Rattle.ra_base.specs.Sums.{total, one_if}
@@ -10,14 +10,10 @@ use Rattle.ra_base.proofs.Counts.{one_if_zero, one_if_false}
 use Rattle.ra_base.proofs.Sums.{total_zero, total_zero_at}
 use Rattle.ra_base.proofs.Searches.{first_none_at, first_none_from}
 use Rattle.ra_model.specs.declared.raw.Tables.{Tables}
-use Rattle.ra_model.specs.Numbers.{resource_count, machine_count, service_count, process_count, dependency_count}
-use Rattle.ra_model.specs.Numbers.{transient_at, capacity_of, spread_of, closed_at}
-use Rattle.ra_model.specs.Assignments.{machine_at, tally}
-use Rattle.ra_model.specs.Usage.{use_of, transient_of}
-use Rattle.ra_model.specs.Services.{is_of, on_machine, locations_of}
+use Rattle.ra_model.specs.Assignments.{tally}
 use Rattle.ra_model.specs.Broken.{cause_if, capacity_test, row_capacity, broken_capacity, transient_test, row_transient}
 use Rattle.ra_model.specs.Broken.{broken_transient, conflict_test, service_conflict, broken_conflict, spread_test}
-use Rattle.ra_model.specs.Broken.{broken_spread, near_of, far_test, dependency_test, pair_dependency}
+use Rattle.ra_model.specs.Broken.{broken_spread, far_test, dependency_test, pair_dependency}
 use Rattle.ra_model.specs.Broken.{service_dependency, broken_dependency, closed_test, broken_closed}
 use Rattle.ra_model.proofs.BrokenLemmas.{Fine, cause_none, cause_free, feasible_from_fine, fine_from_feasible}
 use Rattle.ra_repair.specs.Penalty.{use_above, row_above, capacity_penalty, transient_above, row_transient_above}
@@ -54,77 +50,79 @@ flag_agrees t cause = record {
   zero = λ nones. one_if_false t (cause_none t cause nones);
 }
 
-capacity_agrees : (i : Tables) (a : List Machine) → Agree (capacity_penalty i a) (broken_capacity i a)
-unfolding capacity_penalty row_above use_above broken_capacity row_capacity capacity_test
-capacity_agrees i a =
-    all_agree (machine_count i) _ _
-    (λ m. all_agree (resource_count i) _ _ (λ r. above_agrees (use_of i a m r) (capacity_of i m r) _))
-
 transient_term : (t : Bool) (used bound : ℕ) (cause : Cause) →
     Agree (cond t (used - bound) 0) (cause_if (t && ltb bound used) cause)
 transient_term true used bound cause = above_agrees used bound cause
 transient_term false used bound cause = record { none = λ zeros. cause_free false cause refl; zero = λ nones. refl }
 
-transient_agrees : (i : Tables) (a0 a : List Machine) → Agree (transient_penalty i a0 a) (broken_transient i a0 a)
-unfolding transient_penalty row_transient_above transient_above broken_transient row_transient transient_test
-transient_agrees i a0 a =
-    all_agree (machine_count i) _ _
-    (λ m. all_agree (resource_count i) _ _
-    (λ r. transient_term (transient_at i r) (transient_of i a0 a m r) (capacity_of i m r) _))
-
-conflict_agrees : (i : Tables) (a : List Machine) → Agree (conflict_penalty i a) (broken_conflict i a)
-unfolding conflict_penalty service_crowd crowd_on broken_conflict service_conflict conflict_test
-conflict_agrees i a =
-    all_agree (service_count i) _ _ (λ s. all_agree (machine_count i) _ _ (λ m. above_agrees (on_machine i a s m) 1 _))
-
-spread_agrees : (i : Tables) (a : List Machine) → Agree (spread_penalty i a) (broken_spread i a)
-unfolding spread_penalty spread_lack broken_spread spread_test
-spread_agrees i a = all_agree (service_count i) _ _ (λ s. above_agrees (spread_of i s) (locations_of i a s) _)
-
 far_agrees : (t u : Bool) (cause : Cause) → Agree (one_if (t && u)) (cond t (cause_if u cause) None)
 far_agrees true u cause = flag_agrees u cause
 far_agrees false u cause = record { none = λ zeros. refl; zero = λ nones. refl }
 
-dependency_agrees : (i : Tables) (a : List Machine) → Agree (dependency_penalty i a) (broken_dependency i a)
-unfolding dependency_penalty service_far pair_far far_share broken_dependency service_dependency pair_dependency
-    dependency_test far_test
-dependency_agrees i a =
-    all_agree (service_count i) _ _
-    (λ s. all_agree (dependency_count i s) _ _
-    (λ k. all_agree (process_count i) _ _ (λ p. far_agrees (is_of i s p) (eqb (near_of i a s k p) 0) _)))
+module _ (i : Tables) where
+  module _ (a : List Machine) where
+    capacity_agrees : Agree (capacity_penalty i a) (broken_capacity i a)
+    unfolding capacity_penalty row_above use_above broken_capacity row_capacity capacity_test
+    capacity_agrees =
+        all_agree _ _ _
+        (λ m. all_agree _ _ _ (λ r. above_agrees _ _ _))
 
-closed_agrees : (i : Tables) (a0 a : List Machine) → Agree (closed_penalty i a0 a) (broken_closed i a0 a)
-unfolding closed_penalty tally closed_share broken_closed closed_test
-closed_agrees i a0 a =
-    all_agree (process_count i) _ _
-    (λ p. flag_agrees (closed_at i (machine_at a p) && not (eqb (machine_at a0 p) (machine_at a p))) _)
+    conflict_agrees : Agree (conflict_penalty i a) (broken_conflict i a)
+    unfolding conflict_penalty service_crowd crowd_on broken_conflict service_conflict conflict_test
+    conflict_agrees =
+        all_agree _ _ _
+        (λ s. all_agree _ _ _ (λ m. above_agrees _ 1 _))
 
-fine_from_zero : (i : Tables) (a0 a : List Machine) → penalty i a0 a ≡ 0 → Fine i a0 a
-unfolding penalty
-fine_from_zero i a0 a zeros = record {
-  capacity = (capacity_agrees i a).none (omega arith);
-  transient = (transient_agrees i a0 a).none (omega arith);
-  conflict = (conflict_agrees i a).none (omega arith);
-  spread = (spread_agrees i a).none (omega arith);
-  dependency = (dependency_agrees i a).none (omega arith);
-  closed = (closed_agrees i a0 a).none (omega arith);
-}
+    spread_agrees : Agree (spread_penalty i a) (broken_spread i a)
+    unfolding spread_penalty spread_lack broken_spread spread_test
+    spread_agrees = all_agree _ _ _ (λ s. above_agrees _ _ _)
 
-zero_from_fine : (i : Tables) (a0 a : List Machine) → Fine i a0 a → penalty i a0 a ≡ 0
-unfolding penalty
-zero_from_fine i a0 a fine =
-    omega (
-      arith,
-      (capacity_agrees i a).zero fine.capacity,
-      (transient_agrees i a0 a).zero fine.transient,
-      (conflict_agrees i a).zero fine.conflict,
-      (spread_agrees i a).zero fine.spread,
-      (dependency_agrees i a).zero fine.dependency,
-      (closed_agrees i a0 a).zero fine.closed,
-    )
+    dependency_agrees : Agree (dependency_penalty i a) (broken_dependency i a)
+    unfolding dependency_penalty service_far pair_far far_share broken_dependency service_dependency pair_dependency
+        dependency_test far_test
+    dependency_agrees =
+        all_agree _ _ _
+        (λ s. all_agree _ _ _
+        (λ k. all_agree _ _ _ (λ p. far_agrees _ _ _)))
+
+  module _ (a0 a : List Machine) where
+    transient_agrees : Agree (transient_penalty i a0 a) (broken_transient i a0 a)
+    unfolding transient_penalty row_transient_above transient_above broken_transient row_transient transient_test
+    transient_agrees =
+        all_agree _ _ _
+        (λ m. all_agree _ _ _
+        (λ r. transient_term _ _ _ _))
+
+    closed_agrees : Agree (closed_penalty i a0 a) (broken_closed i a0 a)
+    unfolding closed_penalty tally closed_share broken_closed closed_test
+    closed_agrees =
+        all_agree _ _ _
+        (λ p. flag_agrees _ _)
+
+    fine_from_zero : penalty i a0 a ≡ 0 → Fine i a0 a
+    unfolding penalty
+    fine_from_zero zeros = record {
+      capacity = (capacity_agrees a).none (omega arith);
+      transient = (transient_agrees).none (omega arith);
+      conflict = (conflict_agrees a).none (omega arith);
+      spread = (spread_agrees a).none (omega arith);
+      dependency = (dependency_agrees a).none (omega arith);
+      closed = (closed_agrees).none (omega arith);
+    }
+
+    zero_from_fine : Fine i a0 a → penalty i a0 a ≡ 0
+    unfolding penalty
+    zero_from_fine fine =
+        omega (
+          arith,
+          (capacity_agrees a).zero fine.capacity,
+          (transient_agrees).zero fine.transient,
+          (conflict_agrees a).zero fine.conflict,
+          (spread_agrees a).zero fine.spread,
+          (dependency_agrees a).zero fine.dependency,
+          (closed_agrees).zero fine.closed,
+        )
 
 pub zero_is_feasible : ZeroIsFeasible
-zero_is_feasible i a0 a limits fits = (
-  (λ zeros. feasible_from_fine i a0 a limits fits (fine_from_zero i a0 a zeros)),
-  (λ feasible. zero_from_fine i a0 a (fine_from_feasible i a0 a feasible)),
-)
+zero_is_feasible i a0 a limits fits =
+    grind (arith, feasible_from_fine, fine_from_zero, zero_from_fine, fine_from_feasible)

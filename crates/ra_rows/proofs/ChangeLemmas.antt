@@ -1,7 +1,8 @@
 -- Tables changed column by column, and what the whole change is.
-use Rattle.std.proofs.Common.{◌≡◌, ◌≢◌, ℕ, ◌+◌, ◌*◌, ◌^◌, ◌<◌, ◌≤◌, ⊎_elim, List, length, get_or, replicate, refl, sym}
-use Rattle.std.proofs.Common.{ap, ◌∙◌, arith, eq-eqb, ne_eqb, eqb, ◌||◌}
-use Rattle.std.proofs.lemmas.Bool.{cases_eq, cases_lt, cond-true, cond-false, or_left, or_right, or_from}
+use Rattle.std.proofs.Common.{inl, inr, ◌≡◌, ℕ, ◌+◌, ◌*◌, ◌^◌, ◌<◌, ◌≤◌, List, length, get_or, replicate}
+use Rattle.std.proofs.Common.{refl, sym}
+use Rattle.std.proofs.Common.{ap, ◌∙◌, arith}
+use Rattle.std.proofs.lemmas.Bool.{cases_lt}
 use Rattle.std.proofs.lemmas.List.{length-replicate, get_or-replicate, get_or_past}
 use Rattle.ra_base.specs.Tables.{cell}
 use Rattle.ra_base.proofs.Tables.{cell_is}
@@ -44,55 +45,14 @@ part_more : (width n : ℕ) (left come : ℕ → ℕ → ℕ) (gone here : ℕ �
     ((m : ℕ) → left m n ≡ gone m) → ((m : ℕ) → come m n ≡ here m) → Part width n left come old mid →
     Moves width n gone here mid new → Part width (n + 1) left come old new
 part_more width n left come gone here old mid new column left_is come_is part step = record {
-  done = λ m r w h. ⊎_elim
-      (λ (before : r < n). omega (arith, step.others m r w (omega arith), part.done m r w before))
-      (λ (late : n ≤ r). let e : r ≡ n = omega arith in
-      rw e (omega (arith, step.here m, part.rest m n column (omega arith), left_is m, come_is m)))
-      (cases_lt r n);
+  done = λ m r w h. elim (cases_lt r n) [
+    | inl before ↦ omega (arith, step.others m r w (omega arith), part.done m r w before)
+    | inr late ↦ let e : r ≡ n = omega arith in
+        rw e (omega (arith, step.here m, part.rest m n column (omega arith), left_is m, come_is m))
+  ];
   rest = λ m r w h. step.others m r w (omega arith) ∙ part.rest m r w (omega arith);
   same_length = step.same_length ∙ part.same_length;
 }
-
-share_is : (i : Tables) (p at n amount m : ℕ) → amount ≡ requirement_of i p n → share_at i p at m n ≡ at_row at amount m
-unfolding share_at
-share_is i p at n amount m is = rw is refl
-
-away_is : (i : Tables) (p home at n amount m : ℕ) → amount ≡ requirement_of i p n →
-    share_away i p home at m n ≡ away_row home at amount m
-unfolding share_away
-away_is i p home at n amount m is = rw is refl
-
-pub part_moves : (i : Tables) (width : ℕ) (p from to n amount : ℕ) (old mid new : List ℕ) → width ≡ resource_count i →
-    n < width → amount ≡ requirement_of i p n → Part (resource_count i) n (share_at i p from) (share_at i p to) old
-    mid → Moves width n (at_row from amount) (at_row to amount) mid new →
-    Part (resource_count i) (n + 1) (share_at i p from) (share_at i p to) old new
-part_moves i width p from to n amount old mid new wide column is part step =
-    part_more (resource_count i) n (share_at i p from) (share_at i p to) (at_row from amount) (at_row to amount) old mid
-    new (omega arith) (λ m. share_is i p from n amount m is) (λ m. share_is i p to n amount m is) part
-    (rw (← wide) step)
-
-pub part_beside : (i : Tables) (width : ℕ) (p home from to n amount : ℕ) (old mid new : List ℕ) →
-    width ≡ resource_count i → n < width → amount ≡ requirement_of i p n →
-    Part (resource_count i) n (share_away i p home from) (share_away i p home to) old mid →
-    Moves width n (away_row home from amount) (away_row home to amount) mid new →
-    Part (resource_count i) (n + 1) (share_away i p home from) (share_away i p home to) old new
-part_beside i width p home from to n amount old mid new wide column is part step =
-    part_more (resource_count i) n (share_away i p home from) (share_away i p home to) (away_row home from amount)
-    (away_row home to amount) old mid new (omega arith) (λ m. away_is i p home from n amount m is)
-    (λ m. away_is i p home to n amount m is) part (rw (← wide) step)
-
-pub part_adds : (i : Tables) (width : ℕ) (p at n amount : ℕ) (old mid new : List ℕ) → width ≡ resource_count i →
-    n < width → amount ≡ requirement_of i p n → Part (resource_count i) n no_share (share_at i p at) old mid →
-    HasMore width n (at_row at amount) mid new → Part (resource_count i) (n + 1) no_share (share_at i p at) old new
-unfolding no_share
-part_adds i width p at n amount old mid new wide column is part more =
-    part_more (resource_count i) n no_share (share_at i p at) (λ m. 0) (at_row at amount) old mid new (omega arith)
-    (λ m. refl) (λ m. share_is i p at n amount m is) part
-    (rw (← wide) (record {
-      here = λ m. omega (arith, more.here m);
-      others = more.others;
-      same_length = more.same_length;
-    }))
 
 -- in the columns that are still to come, there is room and enough
 
@@ -101,124 +61,116 @@ pub part_fits : (width n at amount : ℕ) (left come : ℕ → ℕ → ℕ) (old
 part_fits width n at amount left come old mid column small below part =
     omega (arith, below.each at n column, part.rest at n column (omega arith))
 
--- shares, as the definitions have them
+module _ (i : Tables) where
+  module _ (a0 : List Machine) (p home : ℕ) where
+    -- a process is counted at its home, and also at its machine if that is another
+    transient_share_is : (at m r : ℕ) → machine_at a0 p ≡ home →
+        transient_share i a0 m r p at ≡ share_at i p home m r + share_away i p home at m r
+    unfolding transient_share share_at share_away
+    transient_share_is at m r is = grind (arith, at_row_here, away_row_home, away_row_other, at_row_elsewhere)
 
-use_share_is : (i : Tables) (p at m r : ℕ) → use_share i m r p at ≡ share_at i p at m r
-unfolding use_share share_at at_row
-use_share_is i p at m r = refl
+    pub shifts_transient : (from to n : ℕ) (old new : List ℕ) → n ≡ resource_count i → machine_at a0 p ≡ home →
+        Part (resource_count i) n (share_away i p home from) (share_away i p home to) old new →
+        Shifts (resource_count i) (transient_share i a0) p from to old new
+    shifts_transient from to n old new all is part = record {
+      each = λ m r w. omega (
+        arith,
+        part.done m r w (omega arith),
+        transient_share_is,
+        transient_share_is,
+      );
+      same_length = part.same_length;
+    }
 
--- a process is counted at its home, and also at its machine if that is another
-transient_share_is : (i : Tables) (a0 : List Machine) (p home at m r : ℕ) → machine_at a0 p ≡ home →
-    transient_share i a0 m r p at ≡ share_at i p home m r + share_away i p home at m r
-unfolding transient_share share_at share_away
-transient_share_is i a0 p home at m r is = rw is (⊎_elim
-    (λ (in_home : home ≡ m). ⊎_elim
-    (λ (stays : home ≡ at).
-    omega (
-      arith,
-      cond-true (eqb home m || eqb at m) (requirement_of i p r) 0
-          (or_left (eqb home m) (eqb at m) (eq-eqb home m in_home)),
-      at_row_here home (requirement_of i p r) m in_home,
-      away_row_home home at (requirement_of i p r) m stays,
-    ))
-    (λ (moves : home ≢ at).
-    omega (
-      arith,
-      cond-true (eqb home m || eqb at m) (requirement_of i p r) 0
-          (or_left (eqb home m) (eqb at m) (eq-eqb home m in_home)),
-      at_row_here home (requirement_of i p r) m in_home,
-      away_row_other home at (requirement_of i p r) m moves,
-      at_row_elsewhere at (requirement_of i p r) m
-          (λ e. moves (in_home ∙ sym e)),
-    ))
-    (cases_eq home at))
-    (λ (not_home : home ≢ m). ⊎_elim
-    (λ (there : at ≡ m).
-    omega (
-      arith,
-      cond-true (eqb home m || eqb at m) (requirement_of i p r) 0
-          (or_right (eqb home m) (eqb at m) (eq-eqb at m there)),
-      at_row_elsewhere home (requirement_of i p r) m not_home,
-      away_row_other home at (requirement_of i p r) m
-          (λ e. not_home (e ∙ there)),
-      at_row_here at (requirement_of i p r) m there,
-    ))
-    (λ (gone : at ≢ m). ⊎_elim
-    (λ (stays : home ≡ at).
-    omega (
-      arith,
-      cond-false (eqb home m || eqb at m) (requirement_of i p r) 0
-          (or_from (eqb home m) (eqb at m) (ne_eqb home m not_home) (ne_eqb at m gone)),
-      at_row_elsewhere home (requirement_of i p r) m not_home,
-      away_row_home home at (requirement_of i p r) m stays,
-    ))
-    (λ (moves : home ≢ at).
-    omega (
-      arith,
-      cond-false (eqb home m || eqb at m) (requirement_of i p r) 0
-          (or_from (eqb home m) (eqb at m) (ne_eqb home m not_home) (ne_eqb at m gone)),
-      at_row_elsewhere home (requirement_of i p r) m not_home,
-      away_row_other home at (requirement_of i p r) m moves,
-      at_row_elsewhere at (requirement_of i p r) m gone,
-    ))
-    (cases_eq home at))
-    (cases_eq at m))
-    (cases_eq home m))
+  module _ (p : ℕ) where
+    share_is : (at n amount m : ℕ) → amount ≡ requirement_of i p n → share_at i p at m n ≡ at_row at amount m
+    unfolding share_at
+    share_is at n amount m is = rw is refl
 
--- all columns are done
+    away_is : (home at n amount m : ℕ) → amount ≡ requirement_of i p n →
+        share_away i p home at m n ≡ away_row home at amount m
+    unfolding share_away
+    away_is home at n amount m is = rw is refl
 
-pub shifts_use : (i : Tables) (p from to n : ℕ) (old new : List ℕ) → n ≡ resource_count i →
-    Part (resource_count i) n (share_at i p from) (share_at i p to) old new →
-    Shifts (resource_count i) (use_share i) p from to old new
-shifts_use i p from to n old new all part = record {
-  each = λ m r w. omega (arith, part.done m r w (omega arith), use_share_is i p from m r, use_share_is i p to m r);
-  same_length = part.same_length;
-}
+    -- shares, as the definitions have them
 
-pub shifts_transient : (i : Tables) (a0 : List Machine) (p home from to n : ℕ) (old new : List ℕ) →
-    n ≡ resource_count i → machine_at a0 p ≡ home →
-    Part (resource_count i) n (share_away i p home from) (share_away i p home to) old new →
-    Shifts (resource_count i) (transient_share i a0) p from to old new
-shifts_transient i a0 p home from to n old new all is part = record {
-  each = λ m r w. omega (
-    arith,
-    part.done m r w (omega arith),
-    transient_share_is i a0 p home from m r is,
-    transient_share_is i a0 p home to m r is,
-  );
-  same_length = part.same_length;
-}
+    use_share_is : (at m r : ℕ) → use_share i m r p at ≡ share_at i p at m r
+    unfolding use_share share_at at_row
+    use_share_is at m r = refl
 
-pub adds_use : (i : Tables) (p at n : ℕ) (old new : List ℕ) → n ≡ resource_count i →
-    Part (resource_count i) n no_share (share_at i p at) old new → Adds (resource_count i) (use_share i) p at old new
-unfolding no_share
-adds_use i p at n old new all part = record {
-  each = λ m r w. omega (arith, part.done m r w (omega arith), use_share_is i p at m r);
-  same_length = part.same_length;
-}
+    -- all columns are done
+
+    pub shifts_use : (from to n : ℕ) (old new : List ℕ) → n ≡ resource_count i →
+        Part (resource_count i) n (share_at i p from) (share_at i p to) old new →
+        Shifts (resource_count i) (use_share i) p from to old new
+    shifts_use from to n old new all part = record {
+      each = λ m r w. omega (arith, part.done m r w (omega arith), use_share_is, use_share_is);
+      same_length = part.same_length;
+    }
+
+    pub adds_use : (at n : ℕ) (old new : List ℕ) → n ≡ resource_count i →
+        Part (resource_count i) n no_share (share_at i p at) old new →
+        Adds (resource_count i) (use_share i) p at old new
+    unfolding no_share
+    adds_use at n old new all part = record {
+      each = λ m r w. omega (arith, part.done m r w (omega arith), use_share_is);
+      same_length = part.same_length;
+    }
+
+  module _ (width p : ℕ) where
+    pub part_moves : (from to n amount : ℕ) (old mid new : List ℕ) → width ≡ resource_count i → n < width →
+        amount ≡ requirement_of i p n → Part (resource_count i) n (share_at i p from) (share_at i p to) old mid →
+        Moves width n (at_row from amount) (at_row to amount) mid new →
+        Part (resource_count i) (n + 1) (share_at i p from) (share_at i p to) old new
+    part_moves from to n amount old mid new wide column is part step =
+        part_more _ n _ _ (at_row from amount)
+        (at_row to amount) old mid
+        new (omega arith) (λ m. share_is p from n amount m is) (λ m. share_is p to n amount m is) part
+        (rw (← wide) step)
+
+    pub part_beside : (home from to n amount : ℕ) (old mid new : List ℕ) → width ≡ resource_count i → n < width →
+        amount ≡ requirement_of i p n →
+        Part (resource_count i) n (share_away i p home from) (share_away i p home to) old mid →
+        Moves width n (away_row home from amount) (away_row home to amount) mid new →
+        Part (resource_count i) (n + 1) (share_away i p home from) (share_away i p home to) old new
+    part_beside home from to n amount old mid new wide column is part step =
+        part_more _ n _ _ (away_row home from amount)
+        (away_row home to amount) old mid new (omega arith) (λ m. away_is p home from n amount m is)
+        (λ m. away_is p home to n amount m is) part (rw (← wide) step)
+
+    pub part_adds : (at n amount : ℕ) (old mid new : List ℕ) → width ≡ resource_count i → n < width →
+        amount ≡ requirement_of i p n → Part (resource_count i) n no_share (share_at i p at) old mid →
+        HasMore width n (at_row at amount) mid new → Part (resource_count i) (n + 1) no_share (share_at i p at) old new
+    unfolding no_share
+    part_adds at n amount old mid new wide column is part more =
+        part_more _ n no_share _ (λ m. 0) (at_row at amount) old mid new (omega arith)
+        (λ m. refl) (λ m. share_is p at n amount m is) part
+        (rw (← wide) (record {
+          here = λ m. omega (arith, more.here m);
+          others = more.others;
+          same_length = more.same_length;
+        }))
 
 -- sums over the processes
 
 zeros_at : (n k : ℕ) → get_or {A = ℕ} (replicate n 0) k 0 ≡ 0
-zeros_at n k =
-    ⊎_elim (λ within. get_or-replicate n k 0 0 within)
-    (λ past. get_or_past (replicate n 0) k 0 (omega (arith, length-replicate {A = ℕ} n 0))) (cases_lt k n)
+zeros_at n k = grind (arith, get_or-replicate, get_or_past, length-replicate)
 
 pub tally_start : (width n : ℕ) (share : ℕ → ℕ → ℕ → ℕ → ℕ) (a : List Machine) (table : List ℕ) →
     table ≡ replicate n 0 → IsTally width 0 share a table
 tally_start width n share a table zeros = rw zeros (record {
-  each = λ m r w. cell_is width (replicate n 0) m r ∙ zeros_at n (m * width + r) ∙ sym (tally_none (share m r) a);
+  each = λ m r w. cell_is width _ m r ∙ zeros_at n (m * width + r) ∙ sym (tally_none (share m r) a);
 })
 
 pub tally_next : (width p at : ℕ) (share : ℕ → ℕ → ℕ → ℕ → ℕ) (a : List Machine) (old new : List ℕ) →
     at ≡ machine_at a p → IsTally width p share a old → Adds width share p at old new →
     IsTally width (p + 1) share a new
 tally_next width p at share a old new is before adds = record {
-  each = λ m r w. omega (arith, tally_more p (share m r) a, before.each m r w, adds.each m r w, ap (share m r p) is);
+  each = λ m r w. omega (arith, tally_more, before.each m r w, adds.each m r w, ap (share m r p) is);
 }
 
 pub tally_below : (i : Tables) (a : List Machine) (n : ℕ) (table : List ℕ) → WellFormed i → Small i →
     n ≤ process_count i → IsTally (resource_count i) n (use_share i) a table → IsBelow (resource_count i) (2 ^ 48) table
 tally_below i a n table formed small few sums = record {
-  each = λ m r w. omega (arith, sums.each m r w, use_part_under i a m r n formed small few);
+  each = λ m r w. omega (arith, sums.each m r w, use_part_under);
 }

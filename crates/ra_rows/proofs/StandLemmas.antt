@@ -1,7 +1,7 @@
 -- What rows stand for, when they are made and when a process is put on another machine.
-use Rattle.std.proofs.Common.{◌≡◌, ◌≢◌, ℕ, ◌*◌, ◌^◌, ◌<◌, ◌≤◌, ⊎_elim, List, length, set, refl, sym, ap, ◌∙◌, arith}
-use Rattle.std.proofs.Common.{eq-eqb, ne_eqb, eqb}
-use Rattle.std.proofs.lemmas.Bool.{cases_eq, cond-true, cond-false, or_left, or_right, or_from}
+use Rattle.std.proofs.Common.{◌≡◌, ℕ, ◌*◌, ◌^◌, ◌<◌, ◌≤◌, List, length, set, refl, sym, ap, ◌∙◌, arith}
+use Rattle.std.proofs.Common.{eq-eqb, eqb}
+use Rattle.std.proofs.lemmas.Bool.{cond-true, or_left, or_right, or_from}
 use Rattle.ra_base.specs.Tables.{cell}
 use Rattle.ra_base.specs.declared.ids.Machine.{Machine}
 use Rattle.ra_model.specs.declared.raw.Tables.{Tables}
@@ -19,106 +19,104 @@ use Rattle.ra_rows.specs.Changes.{Shifts, IsTally, HasEnoughFor}
 abbrev pub rows_of : Tables → List Machine → List ℕ → List ℕ → RowTables
 rows_of i start used between = record { tables = i; start = start; used = used; between = between }
 
--- at the start each process is at home, so transient use is use
-
-share_at_home : (i : Tables) (a0 : List Machine) (m r p : ℕ) → transient_share i a0 m r p (machine_at a0 p) ≡
-    use_share i m r p (machine_at a0 p)
-unfolding transient_share use_share
-share_at_home i a0 m r p = ⊎_elim
-    (λ (here : machine_at a0 p ≡ m). cond-true _ _ _ (or_left _ _ (eq-eqb (machine_at a0 p) m here))
-    ∙ sym (cond-true _ _ _ (eq-eqb (machine_at a0 p) m here)))
-    (λ (apart : machine_at a0 p ≢ m).
-    cond-false _ _ _ (or_from _ _ (ne_eqb (machine_at a0 p) m apart) (ne_eqb (machine_at a0 p) m apart))
-    ∙ sym (cond-false _ _ _ (ne_eqb (machine_at a0 p) m apart)))
-    (cases_eq (machine_at a0 p) m)
-
-transient_at_start : (i : Tables) (a0 : List Machine) (m r : ℕ) → transient_of i a0 a0 m r ≡ use_of i a0 m r
-unfolding transient_of use_of
-transient_at_start i a0 m r =
-    tally_same (process_count i) (transient_share i a0 m r) (use_share i m r) a0 a0 (λ p h. share_at_home i a0 m r p)
-
-pub stand_at_start : (i : Tables) (a0 : List Machine) (used between : List ℕ) → IsAssignment i a0 →
-    IsTally (resource_count i) (process_count i) (use_share i) a0 used → between ≡ used →
-    StandFor (rows_of i a0 used between) a0
-unfolding use_of
-stand_at_start i a0 used between fits sums copied = record {
-  fits = fits;
-  usage = sums.each;
-  transient = λ m r w. ap (λ t. cell (resource_count i) t m r) copied ∙ sums.each m r w
-      ∙ sym (transient_at_start i a0 m r);
-}
-
 -- what represents an assignment is small
 
 pub stands_below : (i : Tables) (start a : List Machine) (used between : List ℕ) → WellFormed i → Small i →
     StandFor (rows_of i start used between) a → (IsBelow (resource_count i) (2 ^ 48) used)
     × (IsBelow (resource_count i) (2 ^ 48) between)
 stands_below i start a used between formed small stands = (
-  record { each = λ m r w. omega (arith, stands.usage m r w, use_under i a m r formed small) },
-  record { each = λ m r w. omega (arith, stands.transient m r w, transient_under i start a m r formed small) },
+  record { each = λ m r w. omega (arith, stands.usage m r w, use_under) },
+  record { each = λ m r w. omega (arith, stands.transient m r w, transient_under) },
 )
 
-pub are_rows : (i : Tables) (start a : List Machine) (used between : List ℕ) → WellFormed i → Small i →
-    IsAssignment i start → length used ≡ machine_count i * resource_count i →
-    length between ≡ machine_count i * resource_count i → StandFor (rows_of i start used between) a →
-    AreRows (rows_of i start used between)
-are_rows i start a used between formed small fits used_grid between_grid stands = record {
-  start = fits;
-  used_grid = used_grid;
-  between_grid = between_grid;
-  used_below = (stands_below i start a used between formed small stands).0;
-  between_below = (stands_below i start a used between formed small stands).1;
-}
+module _ (i : Tables) where
+  pub are_rows : (start a : List Machine) (used between : List ℕ) → WellFormed i → Small i → IsAssignment i start →
+      length used ≡ machine_count i * resource_count i → length between ≡ machine_count i * resource_count i →
+      StandFor (rows_of i start used between) a → AreRows (rows_of i start used between)
+  are_rows start a used between formed small fits used_grid between_grid stands = record {
+    start = fits;
+    used_grid = used_grid;
+    between_grid = between_grid;
+    used_below = (stands_below i start a used between formed small stands).0;
+    between_below = (stands_below i start a used between formed small stands).1;
+  }
 
--- the machine of a process has at least what the process requires
+  -- the machine of a process has at least what the process requires
 
-use_share_own : (i : Tables) (m r p : ℕ) → use_share i m r p m ≡ requirement_of i p r
-unfolding use_share
-use_share_own i m r p = cond-true _ _ _ (eq-eqb m m refl)
+  use_share_own : (m r p : ℕ) → use_share i m r p m ≡ requirement_of i p r
+  unfolding use_share
+  use_share_own m r p = cond-true _ _ _ (eq-eqb m m refl)
 
-transient_share_own : (i : Tables) (a0 : List Machine) (m r p : ℕ) → transient_share i a0 m r p m ≡ requirement_of i p r
-unfolding transient_share
-transient_share_own i a0 m r p = cond-true _ _ _ (or_right (eqb (machine_at a0 p) m) (eqb m m) (eq-eqb m m refl))
+  module _ (a0 : List Machine) (m r : ℕ) where
+    -- at the start each process is at home, so transient use is use
 
-used_within : (i : Tables) (a : List Machine) (p at r : ℕ) → p < process_count i → machine_at a p ≡ at →
-    requirement_of i p r ≤ use_of i a at r
-unfolding use_of
-used_within i a p at r there is =
-    omega (
-      arith,
-      use_share_own i at r p,
-      tally_term (process_count i) p (use_share i at r) a there,
-      ap (use_share i at r p) is,
-    )
+    share_at_home : (p : ℕ) → transient_share i a0 m r p (machine_at a0 p) ≡
+        use_share i m r p (machine_at a0 p)
+    unfolding transient_share use_share
+    share_at_home p = grind (arith, or_left, eq-eqb, or_from)
 
-transient_within : (i : Tables) (a0 a : List Machine) (p at r : ℕ) → p < process_count i → machine_at a p ≡ at →
-    requirement_of i p r ≤ transient_of i a0 a at r
-unfolding transient_of
-transient_within i a0 a p at r there is =
-    omega (
-      arith,
-      transient_share_own i a0 at r p,
-      tally_term (process_count i) p (transient_share i a0 at r) a there,
-      ap (transient_share i a0 at r p) is,
-    )
+    transient_at_start : transient_of i a0 a0 m r ≡ use_of i a0 m r
+    unfolding transient_of use_of
+    transient_at_start =
+        tally_same _ _ _ a0 a0 (λ p h. share_at_home p)
 
-pub used_enough : (rows : RowTables) (p from : ℕ) → p < process_count rows.tables → HasAt rows p from →
-    HasEnoughFor rows.tables p from rows.used
-used_enough rows p from there has = record {
-  each = λ r w. omega (arith, has.stands.usage from r w, used_within rows.tables has.assignment p from r there has.at);
-}
+    transient_share_own : (p : ℕ) → transient_share i a0 m r p m ≡ requirement_of i p r
+    unfolding transient_share
+    transient_share_own p = cond-true _ _ _ (or_right (eqb (machine_at a0 p) m) _ (eq-eqb m m refl))
 
-pub transient_enough : (rows : RowTables) (p from : ℕ) → p < process_count rows.tables → HasAt rows p from →
-    HasEnoughFor rows.tables p from rows.between
-transient_enough rows p from there has = record {
-  each = λ r w.
+  pub stand_at_start : (a0 : List Machine) (used between : List ℕ) → IsAssignment i a0 →
+      IsTally (resource_count i) (process_count i) (use_share i) a0 used → between ≡ used →
+      StandFor (rows_of i a0 used between) a0
+  unfolding use_of
+  stand_at_start a0 used between fits sums copied = record {
+    fits = fits;
+    usage = sums.each;
+    transient = λ m r w. ap (λ t. cell (resource_count i) t m r) copied ∙ sums.each m r w
+        ∙ sym (transient_at_start a0 m r);
+  }
+
+  used_within : (a : List Machine) (p at r : ℕ) → p < process_count i → machine_at a p ≡ at →
+      requirement_of i p r ≤ use_of i a at r
+  unfolding use_of
+  used_within a p at r there is =
       omega (
         arith,
-        has.stands.transient from r w,
-        transient_within rows.tables rows.start has.assignment p from r there
-            has.at,
-      );
-}
+        use_share_own at r p,
+        tally_term (process_count i) p (use_share i at r) a there,
+        ap (use_share i at r p) is,
+      )
+
+  transient_within : (a0 a : List Machine) (p at r : ℕ) → p < process_count i → machine_at a p ≡ at →
+      requirement_of i p r ≤ transient_of i a0 a at r
+  unfolding transient_of
+  transient_within a0 a p at r there is =
+      omega (
+        arith,
+        transient_share_own a0 at r p,
+        tally_term (process_count i) p (transient_share i a0 at r) a there,
+        ap (transient_share i a0 at r p) is,
+      )
+
+module _ (rows : RowTables) (p from : ℕ) (there : p < process_count rows.tables) (has : HasAt rows p from) where
+  pub used_enough : HasEnoughFor rows.tables p from rows.used
+  used_enough = record {
+    each = λ r w. omega (
+      arith,
+      has.stands.usage from r w,
+      used_within rows.tables has.assignment p from r there has.at,
+    );
+  }
+
+  pub transient_enough : HasEnoughFor rows.tables p from rows.between
+  transient_enough = record {
+    each = λ r w.
+        omega (
+          arith,
+          has.stands.transient from r w,
+          transient_within rows.tables rows.start has.assignment p from r there
+              has.at,
+        );
+  }
 
 -- after a shift
 
@@ -135,7 +133,7 @@ stand_after i start a p from to used between used_then between_then there within
         arith,
         use_shifts.each m r w,
         stands.usage m r w,
-        use_set i a p to m r stands.fits there,
+        use_set,
         ap (use_share i m r p) is,
       );
       transient = λ m r w.
@@ -143,7 +141,7 @@ stand_after i start a p from to used between used_then between_then there within
             arith,
             transient_shifts.each m r w,
             stands.transient m r w,
-            transient_set i start a p to m r stands.fits there,
+            transient_set,
             ap (transient_share i start m r p) is,
           );
     }

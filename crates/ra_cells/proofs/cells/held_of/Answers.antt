@@ -7,12 +7,7 @@ use Rattle.ra_cells.proofs.cells.held_of.Goals as goal
 
 pub held_in-requires-clause-part : goal.held_in-requires-clause-part
 held_in-requires-clause-part c =
-    omega (
-      arith,
-      c.start_at-start.ensures.value,
-      c.start_at-end.ensures.value,
-      part_ordered c.args.inst.now.tables c.args.s.0,
-    )
+    omega (arith, c.start_at-start.ensures.value, c.start_at-end.ensures.value, part_ordered)
 
 pub held_in-requires-clause-there : goal.held_in-requires-clause-there
 held_in-requires-clause-there c =
@@ -42,10 +37,4 @@ returns-clause-count c = c.held_in.ensures.count
 
 pub returns-clause-within : goal.returns-clause-within
 returns-clause-within c =
-    omega (
-      arith,
-      c.held_in.ensures.count,
-      held_le c.args.labels.now.items c.start_at-start.result c.start_at-end.result
-          c.args.x,
-      c.start_at-end.ensures.within,
-    )
+    omega (arith, c.held_in.ensures.count, held_le, c.start_at-end.ensures.within)

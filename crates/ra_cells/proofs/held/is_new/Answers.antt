@@ -12,9 +12,8 @@ pub returns-clause-new : goal.returns-clause-new
 returns-clause-new c is =
     let labels = c.args.labels.now.items in
     let k = c.args.k in
-    let differ = not-true _ is in
     new_at labels c.args.start k c.requires.ascends (omega arith)
-    (λ same. both_ways _ differ
+    (λ same. both_ways _ (not-true _ is)
     (eq-eqb c.label_at.result c.label_at-label.result
     (get_or_read labels (k - 1) c.label_at.result (omega arith) c.label_at.ensures 0 ∙ same
     ∙ sym (get_or_read labels k c.label_at-label.result c.requires.there c.label_at-label.ensures 0))))

@@ -1,7 +1,5 @@
-use Rattle.std.proofs.Common.{sym, subst, length}
+use Rattle.std.proofs.Common.{sym, subst}
 use Rattle.ra_topology.specs.Lists.{AreNeedsOf, AreDependantsOf}
-use Rattle.ra_guards.specs.Kept.{version_in}
-use Rattle.ra_guards.specs.Lowest.{IsReadIn, IsReadBy}
 use Rattle.ra_guards.proofs.LowestLemmas.{lower_both}
 use Rattle.ra_guards.proofs.JoinLemmas.{needs_known, dependants_known, both_lists}
 use Rattle.ra_guards.proofs.lowest.lower_joined.Goals as goal
@@ -25,12 +23,11 @@ returns c =
     let s = c.args.service.0 in
     let needs = c.needs.result.now in
     let dependants = c.dependants.result.now in
-    let are_needs =
-    subst (AreNeedsOf i s) (sym c.needs.ensures) (c.requires.topology.needs.each s c.requires.service) in
-    let are_dependants = subst (AreDependantsOf i s) (sym c.dependants.ensures)
-    (c.requires.topology.dependants.each s c.requires.service) in
-    lower_both i (version_in c.args.versions.now) c.args.q (IsReadIn i steps needs (length needs))
-    (IsReadIn i steps dependants (length dependants)) (IsReadBy i steps s) c.args.before c.lower_listed-least.result
+    lower_both i _ c.args.q _
+    _ _ c.args.before c.lower_listed-least.result
     c.lower_listed.result
-    (both_lists i steps s needs dependants are_needs are_dependants c.args.inst.now.well_formed c.requires.service)
+    (both_lists i steps s needs dependants
+    (subst (AreNeedsOf i s) (sym c.needs.ensures) (c.requires.topology.needs.each s c.requires.service))
+    (subst (AreDependantsOf i s) (sym c.dependants.ensures)
+    (c.requires.topology.dependants.each s c.requires.service)) c.args.inst.now.well_formed c.requires.service)
     c.lower_listed-least.ensures c.lower_listed.ensures

@@ -1,6 +1,5 @@
 use Rattle.std.proofs.Common.{◌<◌, arith}
 use Rattle.ra_model.specs.Numbers.{service_count}
-use Rattle.ra_guards.specs.Kept.{version_in}
 use Rattle.ra_guards.proofs.GuardLemmas.{step_known, service_known, within_known}
 use Rattle.ra_guards.proofs.OrderLemmas.{from_has, to_has, service_has}
 use Rattle.ra_guards.proofs.LowestLemmas.{step_lowered}
@@ -14,10 +13,10 @@ pub overflow_add-number : goal.overflow_add-number
 overflow_add-number c =
     let i = c.args.inst.now.tables in
     let limits = c.args.inst.now.well_formed in
-    let process = step_known i c.args.mv.now.steps c.args.j c.step-step.result (within_known _ _ c.requires.within)
-    c.requires.there c.step-step.ensures in
     let service : c.service_of-service.result.0 < service_count i =
-    service_known i c.step-step.result.process.0 c.service_of-service.result.0 limits process
+    service_known i c.step-step.result.process.0 c.service_of-service.result.0 limits
+    (step_known i c.args.mv.now.steps c.args.j c.step-step.result (within_known _ _ c.requires.within)
+    c.requires.there c.step-step.ensures)
     c.service_of-service.ensures in
     omega (arith, limits.few_machines, limits.few_services, c.machines.ensures)
 
@@ -32,21 +31,20 @@ lower-least-requires-2 c = to_has c.args.inst.now.tables c.args.mv.now.steps c.a
 pub lower-requires : goal.lower-requires
 lower-requires c =
     let i = c.args.inst.now.tables in
-    let process = step_known i c.args.mv.now.steps c.args.j c.step-step.result (within_known _ _ c.requires.within)
-    c.requires.there c.step-step.ensures in
     service_has i c.service_of-service.result c.args.versions.now
-    (service_known i c.step-step.result.process.0 c.service_of-service.result.0 c.args.inst.now.well_formed process
+    (service_known i c.step-step.result.process.0 c.service_of-service.result.0 c.args.inst.now.well_formed
+    (step_known i c.args.mv.now.steps c.args.j c.step-step.result (within_known _ _ c.requires.within)
+    c.requires.there c.step-step.ensures)
     c.service_of-service.ensures) c.requires.sized
 
 pub returns : goal.returns
 returns c =
     let i = c.args.inst.now.tables in
-    let process = step_known i c.args.mv.now.steps c.args.j c.step-step.result (within_known _ _ c.requires.within)
-    c.requires.there c.step-step.ensures in
-    let service = service_known i c.step-step.result.process.0 c.service_of-service.result.0 c.args.inst.now.well_formed
-    process c.service_of-service.ensures in
-    step_lowered i c.args.mv.now.steps (version_in c.args.versions.now) c.args.q c.args.j c.step-step.result
+    step_lowered i c.args.mv.now.steps _ c.args.q c.args.j c.step-step.result
     c.service_of-service.result c.machines.result c.args.before c.lower-least.result c.lower-least-2.result
     c.lower.result
-    c.requires.within c.requires.there c.step-step.ensures c.machines.ensures c.service_of-service.ensures service
+    c.requires.within c.requires.there c.step-step.ensures c.machines.ensures c.service_of-service.ensures
+    (service_known i c.step-step.result.process.0 c.service_of-service.result.0 c.args.inst.now.well_formed
+    (step_known i c.args.mv.now.steps c.args.j c.step-step.result (within_known _ _ c.requires.within)
+    c.requires.there c.step-step.ensures) c.service_of-service.ensures)
     c.lower-least.ensures c.lower-least-2.ensures c.lower.ensures

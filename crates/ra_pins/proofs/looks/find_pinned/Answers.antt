@@ -5,10 +5,4 @@ use Rattle.ra_pins.proofs.looks.find_pinned.Goals as goal
 
 pub returns : goal.returns
 returns g c =
-    absurd (omega (
-      arith,
-      count_within c.args.inst.now.tables c.loop-t.search,
-      c.loop-t.invariant.flagged,
-      c.loop-t-test.false,
-      c.processes-t-end.ensures,
-    ))
+    absurd (omega (arith, count_within, c.loop-t.invariant.flagged, c.loop-t-test.false, c.processes-t-end.ensures))

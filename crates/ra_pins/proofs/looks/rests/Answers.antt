@@ -8,9 +8,8 @@ use Rattle.ra_pins.proofs.looks.rests.Goals as goal
 
 pub returns-then-get-clause-rests : goal.returns-then-get-clause-rests
 returns-then-get-clause-rests c = λ e (a0 : List Machine) at.
-    let within : c.args.p.0 < length c.args.search.now.flags.items =
-    omega (arith, c.requires.flags, c.requires.process) in
-    inl (sym (flag_read c.args.search.now.flags.items c.args.p.0 c.get.result within c.get.ensures) ∙ e)
+    inl (sym (flag_read c.args.search.now.flags.items c.args.p.0 c.get.result
+    (omega (arith, c.requires.flags, c.requires.process)) c.get.ensures) ∙ e)
 
 pub returns-else-get-clause-rests : goal.returns-else-get-clause-rests
 returns-else-get-clause-rests c = λ e (a0 : List Machine) at.
@@ -29,6 +28,5 @@ returns-else-get-clause-rests c = λ e (a0 : List Machine) at.
 
 pub returns-else-get-clause-free : goal.returns-else-get-clause-free
 returns-else-get-clause-free c = λ e.
-    let within : c.args.p.0 < length c.args.search.now.flags.items =
-    omega (arith, c.requires.flags, c.requires.process) in
-    sym (flag_read c.args.search.now.flags.items c.args.p.0 c.get.result within c.get.ensures) ∙ c.if-get.false
+    sym (flag_read c.args.search.now.flags.items c.args.p.0 c.get.result
+    (omega (arith, c.requires.flags, c.requires.process)) c.get.ensures) ∙ c.if-get.false

@@ -1,5 +1,5 @@
 -- The marks after the stamp, and the case that no process of the service is flagged.
-use Rattle.std.proofs.Common.{◌+◌, ◌<◌, length, arith}
+use Rattle.std.proofs.Common.{◌+◌, arith}
 use Rattle.ra_pins.proofs.MarkLemmas.{seated, marks_after, stamped_after, stamped_free, flag_read}
 use Rattle.ra_pins.proofs.marks.mark_service.Goals as goal
 
@@ -24,9 +24,8 @@ returns-then-get-clause-stamped c =
 
 pub returns-else-get-clause-stamped : goal.returns-else-get-clause-stamped
 returns-else-get-clause-stamped c =
-    let within : c.args.s.0 < length c.args.touched.now.items =
-    omega (arith, c.requires.touched.one_each, c.requires.service) in
     stamped_free c.args.inst.now.tables c.args.a0.now.items c.args.flags.now.items c.args.touched.now.items c.args.s.0
     c.args.marks.now.items c.get.result c.requires.touched
-    (flag_read c.args.touched.now.items c.args.s.0 c.get.result within c.get.ensures) c.if-get.false
+    (flag_read c.args.touched.now.items c.args.s.0 c.get.result
+    (omega (arith, c.requires.touched.one_each, c.requires.service)) c.get.ensures) c.if-get.false
     c.requires.marked

@@ -1,13 +1,12 @@
 -- One process more is stamped, if it is flagged.
 use Rattle.std.proofs.Common.{refl, arith, get_or}
 use Rattle.ra_model.specs.Members.{member_at}
-use Rattle.ra_pins.specs.Marks.{is_seat}
 use Rattle.ra_pins.proofs.MarkLemmas.{set_none, set_free, set_more, seat_flagged, seat_free, flag_read}
 use Rattle.ra_pins.proofs.marks.stamp.Goals as goal
 use Rattle.ra_pins.proofs.marks.stamp.Goals.{then-get, else-get}
 
 pub loop-k-init : goal.loop-k-init
-loop-k-init c = set_none (is_seat c.args.a0.now.items c.args.flags.now.items c.args.processes.now) c.args.stamp
+loop-k-init c = set_none _ c.args.stamp
     c.args.marks.now.items
 
 pub get-requires : goal.get-requires
@@ -39,7 +38,7 @@ loop-k-preserved c =
     elim c.if-get.branch [
       | then-get w ↦
           rw (w.marks-is, w.set.ensures.items)
-          (set_more (is_seat a0 flags processes) c.loop-k.k c.args.stamp w.machine_of-at.result.0 c.args.marks.now.items
+          (set_more _ c.loop-k.k c.args.stamp w.machine_of-at.result.0 c.args.marks.now.items
           c.loop-k.marks.items
           (λ m. seat_flagged a0 flags processes m c.loop-k.k p w.machine_of-at.result.0 c.get.result refl
           w.machine_of-at.ensures read w.if-get.true)
@@ -47,6 +46,6 @@ loop-k-preserved c =
           c.loop-k.invariant)
       | else-get w ↦
           rw w.marks-is
-          (set_free (is_seat a0 flags processes) c.loop-k.k c.args.stamp c.args.marks.now.items c.loop-k.marks.items
+          (set_free _ c.loop-k.k c.args.stamp c.args.marks.now.items c.loop-k.marks.items
           (λ m. seat_free a0 flags processes m c.loop-k.k p c.get.result refl read w.if-get.false) c.loop-k.invariant)
     ]

@@ -1,6 +1,5 @@
 -- The table begins as zeros, and each flagged process adds its row.
-use Rattle.std.proofs.Common.{◌<◌, ◌≤◌, ◌∙◌, sym, length, arith}
-use Rattle.ra_pins.specs.Pinned.{flagged_share}
+use Rattle.std.proofs.Common.{◌≤◌, ◌∙◌, sym, arith}
 use Rattle.ra_pins.specs.PinLists.{flag_at}
 use Rattle.ra_pins.proofs.TableLemmas.{tally_start, tally_flagged, tally_free, tally_below, flagged_share_small}
 use Rattle.ra_pins.proofs.MarkLemmas.{flag_read}
@@ -9,7 +8,7 @@ use Rattle.ra_pins.proofs.pins.add_loads.Goals.{then-get, else-get}
 
 pub loop-p-init : goal.loop-p-init
 loop-p-init g c =
-    tally_start c.args.inst.now.tables (flagged_share c.args.inst.now.tables (flag_at c.args.flags.now.items))
+    tally_start c.args.inst.now.tables _
     c.args.a0.now.items c.args.table.now.items c.requires.zeros
 
 pub add_row-requires-clause-grid : goal.add_row-requires-clause-grid
@@ -19,23 +18,22 @@ pub add_row-requires-clause-below : goal.add_row-requires-clause-below
 add_row-requires-clause-below g c =
     let few : c.loop-p.p ≤ 50000 = omega (arith, c.args.inst.now.well_formed.few_processes) in
     tally_below c.args.inst.now.tables c.loop-p.p
-    (flagged_share c.args.inst.now.tables (flag_at c.args.flags.now.items)) c.args.a0.now.items c.loop-p.table.items
+    _ c.args.a0.now.items c.loop-p.table.items
     (flagged_share_small c.args.inst.now.tables (flag_at c.args.flags.now.items) c.args.inst.now.small) few
     c.loop-p.invariant
 
 pub loop-p-preserved : goal.loop-p-preserved
 loop-p-preserved g c =
-    let within : c.loop-p.p < length c.args.flags.now.items =
-    omega (arith, c.requires.flags, c.processes-p-end.ensures) in
-    let read = flag_read c.args.flags.now.items c.loop-p.p c.get.result within c.get.ensures in
+    let read = flag_read c.args.flags.now.items c.loop-p.p c.get.result
+    (omega (arith, c.requires.flags, c.processes-p-end.ensures)) c.get.ensures in
     elim c.if-get.branch [
       | then-get w ↦
           rw w.table-is
-          (tally_flagged c.args.inst.now.tables (flag_at c.args.flags.now.items) c.loop-p.p w.machine_of-at.result.0
+          (tally_flagged c.args.inst.now.tables _ c.loop-p.p w.machine_of-at.result.0
           c.args.a0.now.items c.loop-p.table.items w.add_row.new.table.items w.machine_of-at.ensures
           (sym read ∙ w.if-get.true) c.loop-p.invariant w.add_row.ensures)
       | else-get w ↦
           rw w.table-is
-          (tally_free c.args.inst.now.tables (flag_at c.args.flags.now.items) c.loop-p.p c.args.a0.now.items
+          (tally_free c.args.inst.now.tables _ c.loop-p.p c.args.a0.now.items
           c.loop-p.table.items (sym read ∙ w.if-get.false) c.loop-p.invariant)
     ]

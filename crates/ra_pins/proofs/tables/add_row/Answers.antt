@@ -24,12 +24,12 @@ add_to_cell-requires-clause-fits g c =
 pub loop-r-preserved : goal.loop-r-preserved
 loop-r-preserved g c =
     let column : c.loop-r.r < resource_count c.args.inst.now.tables = omega arith in
-    let place = part_place c.args.inst.now.tables c.args.columns c.args.p.0 c.args.at.0 c.loop-r.r
-    (resource_count c.args.inst.now.tables) c.args.table.now.items c.loop-r.table.items refl c.requires.grid
-    c.requires.at column c.loop-r.invariant in
     part_write c.args.inst.now.tables c.args.columns c.args.p.0 c.args.at.0 c.loop-r.r c.resources-width.result
     c.amount_in-amount.result c.args.table.now.items c.loop-r.table.items c.add_to_cell.new.table.items
-    c.resources-width.ensures c.amount_in-amount.ensures column place c.add_to_cell.ensures c.loop-r.invariant
+    c.resources-width.ensures c.amount_in-amount.ensures column
+    (part_place c.args.inst.now.tables c.args.columns c.args.p.0 c.args.at.0 c.loop-r.r
+    (resource_count c.args.inst.now.tables) c.args.table.now.items c.loop-r.table.items refl c.requires.grid
+    c.requires.at column c.loop-r.invariant) c.add_to_cell.ensures c.loop-r.invariant
 
 pub returns : goal.returns
 returns g c =

@@ -8,29 +8,20 @@ use Rattle.ra_repair.proofs.following.follow.Goals as goal
 pub loop-j-init : goal.loop-j-init
 loop-j-init g c = record { keeps = c.requires.keeps; made = sym (after_none _ _) }
 
-pub follow_step-requires-clause-process : goal.follow_step-requires-clause-process
-follow_step-requires-clause-process g c =
-    (step_of c.args.inst.now.tables c.args.kept.now.assignment.items c.loop-j.kept.assignment.items c.args.mv.now.steps
-    c.loop-j.j c.step.result c.requires.keeps.stands.fits c.requires.moves
-    (omega (arith, c.loop-j-test.true, c.steps-j-end.ensures.value)) c.loop-j.invariant.made c.step.ensures).known
-
-pub follow_step-requires-clause-to : goal.follow_step-requires-clause-to
-follow_step-requires-clause-to g c =
-    (step_of c.args.inst.now.tables c.args.kept.now.assignment.items c.loop-j.kept.assignment.items c.args.mv.now.steps
-    c.loop-j.j c.step.result c.requires.keeps.stands.fits c.requires.moves
-    (omega (arith, c.loop-j-test.true, c.steps-j-end.ensures.value)) c.loop-j.invariant.made c.step.ensures).reach
-
-pub follow_step-requires-clause-apart : goal.follow_step-requires-clause-apart
-follow_step-requires-clause-apart g c =
-    (step_of c.args.inst.now.tables c.args.kept.now.assignment.items c.loop-j.kept.assignment.items c.args.mv.now.steps
-    c.loop-j.j c.step.result c.requires.keeps.stands.fits c.requires.moves
-    (omega (arith, c.loop-j-test.true, c.steps-j-end.ensures.value)) c.loop-j.invariant.made c.step.ensures).apart
-
-pub follow_step-requires-clause-at_from : goal.follow_step-requires-clause-at_from
-follow_step-requires-clause-at_from g c =
-    (step_of c.args.inst.now.tables c.args.kept.now.assignment.items c.loop-j.kept.assignment.items c.args.mv.now.steps
-    c.loop-j.j c.step.result c.requires.keeps.stands.fits c.requires.moves
-    (omega (arith, c.loop-j-test.true, c.steps-j-end.ensures.value)) c.loop-j.invariant.made c.step.ensures).at_from
+pub follow_step-requires : goal.follow_step-requires
+follow_step-requires g c =
+    let step = step_of c.args.inst.now.tables c.args.kept.now.assignment.items c.loop-j.kept.assignment.items
+    c.args.mv.now.steps c.loop-j.j c.step.result c.requires.keeps.stands.fits c.requires.moves
+    (omega (arith, c.loop-j-test.true, c.steps-j-end.ensures.value)) c.loop-j.invariant.made c.step.ensures in
+    record {
+      start = c.requires.start;
+      topology = c.requires.topology;
+      keeps = c.loop-j.invariant.keeps;
+      process = step.known;
+      to = step.reach;
+      apart = step.apart;
+      at_from = step.at_from;
+    }
 
 pub loop-j-preserved : goal.loop-j-preserved
 loop-j-preserved g c = record {

@@ -8,37 +8,19 @@ use Rattle.ra_repair.proofs.following.go_back.Goals as goal
 pub loop-j-init : goal.loop-j-init
 loop-j-init g c = record { stands = c.requires.stands; made = sym (after_none _ _); penalty = refl }
 
-pub put-requires-clause-process : goal.put-requires-clause-process
+pub put-requires : goal.put-requires
 unfolding turned_step
-put-requires-clause-process g c =
-    (back_of c.args.inst.now.tables c.args.kept.now.assignment.items c.loop-j.kept.assignment.items c.args.mv.now.steps
-    c.loop-j.j c.step-step.result c.requires.stands.fits c.requires.made
-    (omega (arith, c.loop-j-test.true, c.steps-j-end.ensures.value)) c.loop-j.invariant.made
-    c.step-step.ensures).known
-
-pub put-requires-clause-to : goal.put-requires-clause-to
-unfolding turned_step
-put-requires-clause-to g c =
-    (back_of c.args.inst.now.tables c.args.kept.now.assignment.items c.loop-j.kept.assignment.items c.args.mv.now.steps
-    c.loop-j.j c.step-step.result c.requires.stands.fits c.requires.made
-    (omega (arith, c.loop-j-test.true, c.steps-j-end.ensures.value)) c.loop-j.invariant.made
-    c.step-step.ensures).reach
-
-pub put-requires-clause-apart : goal.put-requires-clause-apart
-unfolding turned_step
-put-requires-clause-apart g c =
-    (back_of c.args.inst.now.tables c.args.kept.now.assignment.items c.loop-j.kept.assignment.items c.args.mv.now.steps
-    c.loop-j.j c.step-step.result c.requires.stands.fits c.requires.made
-    (omega (arith, c.loop-j-test.true, c.steps-j-end.ensures.value)) c.loop-j.invariant.made
-    c.step-step.ensures).apart
-
-pub put-requires-clause-at_from : goal.put-requires-clause-at_from
-unfolding turned_step
-put-requires-clause-at_from g c =
-    (back_of c.args.inst.now.tables c.args.kept.now.assignment.items c.loop-j.kept.assignment.items c.args.mv.now.steps
-    c.loop-j.j c.step-step.result c.requires.stands.fits c.requires.made
-    (omega (arith, c.loop-j-test.true, c.steps-j-end.ensures.value)) c.loop-j.invariant.made
-    c.step-step.ensures).at_from
+put-requires g c =
+    let back = back_of c.args.inst.now.tables c.args.kept.now.assignment.items c.loop-j.kept.assignment.items
+    c.args.mv.now.steps c.loop-j.j c.step-step.result c.requires.stands.fits c.requires.made
+    (omega (arith, c.loop-j-test.true, c.steps-j-end.ensures.value)) c.loop-j.invariant.made c.step-step.ensures in
+    record {
+      stands = c.loop-j.invariant.stands;
+      process = back.known;
+      to = back.reach;
+      apart = back.apart;
+      at_from = back.at_from;
+    }
 
 pub loop-j-preserved : goal.loop-j-preserved
 loop-j-preserved g c = record {

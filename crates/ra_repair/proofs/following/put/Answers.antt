@@ -1,5 +1,5 @@
 -- Rows, counters and assignment change alike.
-use Rattle.std.proofs.Common.{◌∙◌, set}
+use Rattle.std.proofs.Common.{◌∙◌}
 use Rattle.ra_model.proofs.TallyLemmas.{fits_set}
 use Rattle.ra_repair.proofs.KeepLemmas.{stands_on}
 use Rattle.ra_repair.proofs.following.put.Goals as goal
@@ -11,7 +11,7 @@ returns-clause-stands g c =
     let a0 = c.args.start.now.items in
     let a = kept.assignment.items in
     let stands = c.requires.stands in
-    stands_on _ i a0 (set a c.args.p.0 c.args.to) c.set.ensures.items
+    stands_on _ i a0 _ c.set.ensures.items
     (fits_set i a c.args.p.0 c.args.to stands.fits c.requires.process c.requires.to)
     (c.shift.ensures.tables ∙ stands.tables) (c.shift.ensures.start ∙ stands.start)
     (c.shift.ensures.stands a stands.rows c.requires.at_from)

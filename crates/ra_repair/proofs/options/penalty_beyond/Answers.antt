@@ -12,17 +12,18 @@ go_back-requires-clause-made g c = made_of c.args.inst.now.tables c.args.kept.no
 pub returns-clause-keeps : goal.returns-clause-keeps
 returns-clause-keeps g c =
     let i = c.args.inst.now.tables in
-    let made = made_of i c.args.kept.now.assignment.items _ c.args.mv.now.steps c.requires.keeps.stands.fits
-    c.requires.moves c.follow.ensures.assignment in
-    let same = back_again i c.args.kept.now.assignment.items _ _ c.args.mv.now.steps c.requires.moves made
-    c.follow.ensures.assignment c.go_back.ensures.assignment in
-    keeps_on c.go_back.new.kept c.args.kept.now.penalty i c.args.start.now.items c.go_back.ensures.stands
-    (c.requires.keeps.penalty_is ∙ ap (penalty i c.args.start.now.items) (sym same))
+    keeps_on c.args.kept.now.penalty c.go_back.ensures.stands
+    (c.requires.keeps.penalty_is
+    ∙ ap (penalty i c.args.start.now.items)
+    (sym (back_again i c.args.kept.now.assignment.items _ _ c.args.mv.now.steps c.requires.moves
+    (made_of i c.args.kept.now.assignment.items _ c.args.mv.now.steps c.requires.keeps.stands.fits
+    c.requires.moves c.follow.ensures.assignment)
+    c.follow.ensures.assignment c.go_back.ensures.assignment)))
 
 pub returns-clause-same : goal.returns-clause-same
 returns-clause-same g c =
     let i = c.args.inst.now.tables in
-    let made = made_of i c.args.kept.now.assignment.items _ c.args.mv.now.steps c.requires.keeps.stands.fits
-    c.requires.moves c.follow.ensures.assignment in
-    back_again i c.args.kept.now.assignment.items _ _ c.args.mv.now.steps c.requires.moves made
+    back_again i c.args.kept.now.assignment.items _ _ c.args.mv.now.steps c.requires.moves
+    (made_of i c.args.kept.now.assignment.items _ c.args.mv.now.steps c.requires.keeps.stands.fits
+    c.requires.moves c.follow.ensures.assignment)
     c.follow.ensures.assignment c.go_back.ensures.assignment

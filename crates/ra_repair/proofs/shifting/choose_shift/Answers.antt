@@ -1,12 +1,9 @@
 -- One option after another, and home at the end.
-use Rattle.std.proofs.Common.{◌≡◌, ◌∙◌, List, sym, ap, subst, arith}
-use Rattle.ra_base.specs.declared.causes.Drawing.TheVariants.{Two}
+use Rattle.std.proofs.Common.{◌∙◌, List, sym, ap, subst, arith}
 use Rattle.ra_base.specs.declared.ids.Machine.{Machine}
-use Rattle.ra_base.specs.Searches.{least, least_place}
-use Rattle.ra_moves.specs.Options.{option_count}
-use Rattle.ra_repair.specs.Runs.{try_count, try_option, option_penalty, chosen, least_after}
+use Rattle.ra_repair.specs.Runs.{try_option, option_penalty}
 use Rattle.ra_repair.specs.Shifting.{AskForShifts}
-use Rattle.ra_repair.proofs.OptionLemmas.{first_chosen, next_chosen}
+use Rattle.ra_repair.proofs.OptionLemmas.{counted, first_chosen, next_chosen, best_of}
 use Rattle.ra_repair.proofs.ShiftLemmas.{stays, asked_known}
 use Rattle.ra_repair.proofs.shifting.choose_shift.Goals as goal
 
@@ -16,13 +13,11 @@ try_shift-best-requires-clause-asks g c =
     (sym (stays c.args.kept.now.assignment.items c.args.process.0 c.args.home c.requires.asks.at_home)) c.requires.asks
 
 pub try_shift-best-requires-clause-named : goal.try_shift-best-requires-clause-named
-unfolding try_count
 try_shift-best-requires-clause-named g c =
     omega (
       arith,
-      c.options-count.ensures.value,
+      counted c.args.inst.now.tables c.args.words.now c.options-count.ensures.value c.machines-machines.ensures,
       c.options-count.ensures.some,
-      ap (λ m. option_count c.args.words.now m Two) c.machines-machines.ensures,
     )
 
 pub loop-option-init : goal.loop-option-init
@@ -34,7 +29,7 @@ loop-option-init g c =
     let same = stays a c.args.process.0 c.args.home c.requires.asks.at_home in
     let first = c.try_shift-best.ensures in
     record {
-      chosen = first_chosen (option_penalty i a0 a x) (try_option i a x) c.try_shift-best.result
+      chosen = first_chosen _ _ c.try_shift-best.result
           (first.option ∙ ap (λ b. try_option i b x 0) same) (first.after ∙ ap (λ b. option_penalty i a0 b x 0) same);
       keeps = first.keeps;
       home = first.home ∙ same;
@@ -46,13 +41,11 @@ try_shift-next-requires-clause-asks g c =
     (sym c.loop-option.invariant.home) c.requires.asks
 
 pub try_shift-next-requires-clause-named : goal.try_shift-next-requires-clause-named
-unfolding try_count
 try_shift-next-requires-clause-named g c =
     omega (
       arith,
+      counted c.args.inst.now.tables c.args.words.now c.options-count.ensures.value c.machines-machines.ensures,
       c.loop-option-test.true,
-      c.options-count.ensures.value,
-      ap (λ m. option_count c.args.words.now m Two) c.machines-machines.ensures,
     )
 
 pub loop-option-preserved : goal.loop-option-preserved
@@ -65,7 +58,7 @@ loop-option-preserved g c =
     let same = c.loop-option.invariant.home in
     let next = c.try_shift-next.ensures in
     record {
-      chosen = next_chosen k (option_penalty i a0 a x) (try_option i a x) c.loop-option.best c.try_shift-next.result _
+      chosen = next_chosen k _ _ c.loop-option.best c.try_shift-next.result _
           c.loop-option.invariant.chosen
           (next.option ∙ ap (λ b. try_option i b x k) same) (next.after ∙ ap (λ b. option_penalty i a0 b x k) same)
           c.better-best.ensures;
@@ -87,37 +80,16 @@ carry-requires-clause-to g c =
     omega (arith, c.requires.asks.at_home, fits.in_range c.args.process.0 (omega (arith, fits.one_each, known)))
 
 pub returns-clause-chosen : goal.returns-clause-chosen
-unfolding chosen try_count
 returns-clause-chosen g c =
-    let all : c.loop-option.option ≡ option_count c.args.words.now c.machines-machines.result Two =
-    omega (
-      arith,
-      c.loop-option-test.false,
-      c.loop-option.auto.option-end,
-      c.options-count.ensures.value,
-      c.options-count.ensures.some,
-    ) in
-    c.loop-option.invariant.chosen.move
-    ∙ ap (λ n. try_option c.args.inst.now.tables c.args.kept.now.assignment.items c.args.words.now
-    (least_place n
-    (option_penalty c.args.inst.now.tables c.args.start.now.items c.args.kept.now.assignment.items
-    c.args.words.now))) (all ∙ ap (λ m. option_count c.args.words.now m Two) c.machines-machines.ensures)
+    (best_of c.args.inst.now.tables c.args.start.now.items c.args.kept.now.assignment.items c.args.words.now
+    c.loop-option.invariant.chosen c.options-count.ensures.value c.machines-machines.ensures
+    (omega (arith, c.loop-option-test.false, c.loop-option.auto.option-end, c.options-count.ensures.some))).0
 
 pub returns-clause-least : goal.returns-clause-least
-unfolding least_after try_count
 returns-clause-least g c =
-    let all : c.loop-option.option ≡ option_count c.args.words.now c.machines-machines.result Two =
-    omega (
-      arith,
-      c.loop-option-test.false,
-      c.loop-option.auto.option-end,
-      c.options-count.ensures.value,
-      c.options-count.ensures.some,
-    ) in
-    c.loop-option.invariant.chosen.after
-    ∙ ap (λ n. least n
-    (option_penalty c.args.inst.now.tables c.args.start.now.items c.args.kept.now.assignment.items
-    c.args.words.now)) (all ∙ ap (λ m. option_count c.args.words.now m Two) c.machines-machines.ensures)
+    (best_of c.args.inst.now.tables c.args.start.now.items c.args.kept.now.assignment.items c.args.words.now
+    c.loop-option.invariant.chosen c.options-count.ensures.value c.machines-machines.ensures
+    (omega (arith, c.loop-option-test.false, c.loop-option.auto.option-end, c.options-count.ensures.some))).1
 
 pub returns-clause-same : goal.returns-clause-same
 returns-clause-same g c = c.carry.ensures.assignment ∙ c.loop-option.invariant.home

@@ -1,8 +1,7 @@
 -- The process is carried to the machine of the option, whatever machine it comes from.
-use Rattle.std.proofs.Common.{◌∙◌, set, sym, ap, arith, length-set}
+use Rattle.std.proofs.Common.{◌∙◌, sym, ap, arith, length-set}
 use Rattle.std.proofs.lemmas.List.{set-set}
 use Rattle.ra_base.specs.declared.causes.Drawing.TheVariants.{Two}
-use Rattle.ra_model.specs.Numbers.{machine_count}
 use Rattle.ra_moves.specs.Options.{option_count, target}
 use Rattle.ra_repair.specs.Runs.{try_count, try_option}
 use Rattle.ra_repair.proofs.ShiftLemmas.{one_step, goes_to, target_there, shift_is, shift_penalty, back_home}
@@ -33,20 +32,14 @@ carry-requires-clause-process g c =
 pub carry-requires-clause-to : goal.carry-requires-clause-to
 carry-requires-clause-to g c =
     let to_is = goes_to _ _ _ _ _ _ _ c.requires.asks.kind c.resolve-here.ensures.option c.step.ensures in
-    omega (
-      arith,
-      to_is,
-      target_there c.args.words.now c.machines.result c.args.option
-          (omega (arith, c.machines.ensures, c.args.inst.now.well_formed.some_machine)),
-      c.machines.ensures,
-    )
+    omega (arith, to_is, target_there, c.machines.ensures)
 
 pub returns-clause-option : goal.returns-clause-option
 unfolding try_option
 returns-clause-option g c =
-    let to_is = goes_to _ _ _ _ _ _ _ c.requires.asks.kind c.resolve-here.ensures.option c.step.ensures in
-    shift_is _ c.args.words.now (machine_count c.args.inst.now.tables) c.args.option _ c.shift-mv.result c.requires.asks
-    (to_is ∙ ap (λ m. target Two c.args.words.now m c.args.option) c.machines.ensures) c.shift-mv.ensures
+    shift_is _ c.args.words.now _ c.args.option _ c.shift-mv.result c.requires.asks
+    ((goes_to _ _ _ _ _ _ _ c.requires.asks.kind c.resolve-here.ensures.option c.step.ensures)
+    ∙ ap (λ m. target Two c.args.words.now m c.args.option) c.machines.ensures) c.shift-mv.ensures
 
 pub returns-clause-after : goal.returns-clause-after
 unfolding try_option
@@ -54,10 +47,10 @@ returns-clause-after g c =
     let i = c.args.inst.now.tables in
     let b = c.args.kept.now.assignment.items in
     let p = c.args.process.0 in
-    let to_is = goes_to _ _ _ _ _ _ _ c.requires.asks.kind c.resolve-here.ensures.option c.step.ensures in
-    let option = shift_is _ c.args.words.now (machine_count i) c.args.option _ c.shift-mv.result c.requires.asks
-    (to_is ∙ ap (λ m. target Two c.args.words.now m c.args.option) c.machines.ensures) c.shift-mv.ensures in
-    shift_penalty i c.args.start.now.items (set b p c.args.home) c.carry.new.kept.assignment.items c.args.words.now
+    let option = shift_is _ c.args.words.now _ c.args.option _ c.shift-mv.result c.requires.asks
+    ((goes_to _ _ _ _ _ _ _ c.requires.asks.kind c.resolve-here.ensures.option c.step.ensures)
+    ∙ ap (λ m. target Two c.args.words.now m c.args.option) c.machines.ensures) c.shift-mv.ensures in
+    shift_penalty i c.args.start.now.items _ c.carry.new.kept.assignment.items c.args.words.now
     c.args.option _ c.shift-mv.result c.carry.new.kept.penalty _
     option c.shift-mv.ensures (c.carry.ensures.assignment ∙ sym (set-set b p c.args.home _))
     c.carry.ensures.keeps.penalty_is c.unless_flawed-after.ensures

@@ -28,14 +28,15 @@ loop-k-preserved g c =
     let a0 = c.args.start.now.items in
     let lot = c.args.lot.now in
     let a = c.loop-k.kept.assignment.items in
-    let words = drawn_words c.loop-k.draws lot c.loop-k.k _ c.words_for_next-words.ensures.words c.loop-k.invariant.lot
-    c.loop-k.invariant.made in
     record {
       keeps = c.make_try-next.ensures.keeps;
       run = repaired_more i a0 _ lot c.loop-k.k c.loop-k.kept.penalty
           (record { assignment = a; tries = c.loop-k.tries.items }) c.make_try-next.result _ c.loop-k.invariant.run
           c.loop-k.invariant.keeps.penalty_is (λ zeros. absurd (omega (arith, c.if-kept-eq0.false, zeros)))
-          (c.make_try-next.ensures.made ∙ ap (λ x. try_with i a0 a x c.loop-k.k) words)
+          (c.make_try-next.ensures.made
+          ∙ ap (λ x. try_with i a0 a x c.loop-k.k)
+          (drawn_words c.loop-k.draws lot c.loop-k.k _ c.words_for_next-words.ensures.words c.loop-k.invariant.lot
+          c.loop-k.invariant.made))
           c.make_try-next.ensures.assignment c.push.ensures.items;
       number = one_longer _ _ _ c.loop-k.k c.push.ensures.items c.loop-k.invariant.number;
       room = c.push.ensures.room ∙ c.loop-k.invariant.room;

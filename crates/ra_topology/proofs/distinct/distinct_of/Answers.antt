@@ -1,7 +1,4 @@
 -- All dependencies of the service are looked at.
-use Rattle.std.proofs.Common.{◌≡◌, arith, subst}
-use Rattle.ra_model.specs.Numbers.{dependency_count}
-use Rattle.ra_topology.specs.Lists.{AreDistinct}
 use Rattle.ra_topology.proofs.CountLemmas.{marked_next}
 use Rattle.ra_topology.proofs.DistinctLemmas.{distinct_none}
 use Rattle.ra_topology.proofs.distinct.distinct_of.Goals as goal

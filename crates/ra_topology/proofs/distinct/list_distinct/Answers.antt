@@ -26,7 +26,7 @@ extend_from_slice-requires c =
       c.loop-s.invariant.room,
       c.in_ok-row.ensures.row.few,
       ap (length {A = Service}) c.deref.ensures.value,
-      room_left i c.loop-s.s c.args.inst.now.well_formed there,
+      room_left,
     )
 
 pub loop-s-preserved : goal.loop-s-preserved

@@ -15,13 +15,7 @@ pub extend_from_slice-requires : goal.extend_from_slice-requires
 extend_from_slice-requires c =
     let i = c.args.inst.now.tables in
     let there : c.loop-s.s < service_count i = omega (arith, c.loop-s-test.true, c.services-count.ensures) in
-    omega (
-      arith,
-      c.loop-s.invariant.listed.size,
-      c.loop-s.invariant.room,
-      c.depends.ensures.count,
-      room_left i c.loop-s.s c.args.inst.now.well_formed there,
-    )
+    omega (arith, c.loop-s.invariant.listed.size, c.loop-s.invariant.room, c.depends.ensures.count, room_left)
 
 pub loop-s-preserved : goal.loop-s-preserved
 loop-s-preserved c =

@@ -20,8 +20,7 @@ highest-self-inside-requires c =
       arith,
       ap (λ (m : MovedCounts). m.limit) c.self.view_is,
       c.requires.within,
-      most_within c.self.inside.counts.items c.self.inside.tallies.items c.self.inside.limit c.self.inside.most
-          c.self.invariant,
+      most_within,
       c.self.invariant.tallied.one_each,
       c.retally.ensures.same_length,
     )

@@ -8,7 +8,6 @@ pub returns-clause-within : goal.returns-clause-within
 returns-clause-within c =
     omega (
       arith,
-      most_within c.self.inside.counts.items c.self.inside.tallies.items c.self.inside.limit
-          c.self.inside.most c.self.invariant,
+      most_within,
       ap (λ (m : MovedCounts). m.limit) c.self.view_is,
     )

@@ -19,7 +19,7 @@ within c =
 
 pub highest-requires : goal.highest-requires
 highest-requires c =
-    omega (arith, within c, ap (λ (m : MovedCounts). m.limit) c.self.view_is, c.self.invariant.tallied.one_each)
+    omega (arith, within, ap (λ (m : MovedCounts). m.limit) c.self.view_is, c.self.invariant.tallied.one_each)
 
 pub returns-clause-value : goal.returns-clause-value
 returns-clause-value c =

@@ -6,7 +6,7 @@ use Rattle.ra_cells.proofs.greatest.Greatest.make.Goals as goal
 
 pub invariant_of-result : goal.invariant_of-result
 invariant_of-result c =
-    let n = service_count c.args.inst.now.tables in
     rw (c.in_ok-counts.ensures, c.services.ensures)
-    (counted_none n c.processes-limit.result c.set.new.self.items (c.args.inst.now.well_formed.few_services)
+    (counted_none (service_count c.args.inst.now.tables) c.processes-limit.result c.set.new.self.items
+    (c.args.inst.now.well_formed.few_services)
     (rw (c.set.ensures.items, c.services-2.ensures, c.in_ok-tallies.ensures) refl))
