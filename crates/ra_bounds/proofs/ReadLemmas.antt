@@ -20,38 +20,39 @@ unfolding lack
 lack_from i b row first second read first_is second_is =
     rw (first_is, second_is, target_read i b row read, first_read i b row read, second_read i b row read) refl
 
--- what the program subtracts
-pub overload_from : (i : Tables) (r : ℕ) (required_sums safety_sums : List ℕ) → AreRequirementSums i required_sums →
-    AreSafeties i safety_sums → r < resource_count i → get_or required_sums r 0 - get_or safety_sums r 0 ≡ overload i r
-unfolding overload required safety
-overload_from i r required_sums safety_sums requires safeties within =
-    rw (requires.each r within, safeties.each r within) refl
+module _ (i : Tables) (r : ℕ) where
+  -- what the program subtracts
+  pub overload_from : (required_sums safety_sums : List ℕ) → AreRequirementSums i required_sums →
+      AreSafeties i safety_sums → r < resource_count i →
+      get_or required_sums r 0 - get_or safety_sums r 0 ≡ overload i r
+  unfolding overload required safety
+  overload_from required_sums safety_sums requires safeties within =
+      rw (requires.each r within, safeties.each r within) refl
 
-pub spare_from : (i : Tables) (r : ℕ) (required_sums capacity_sums : List ℕ) → AreRequirementSums i required_sums →
-    AreCapacities i capacity_sums → r < resource_count i →
-    pos (get_or capacity_sums r 0) -ℤ pos (get_or required_sums r 0) ≡ spare i r
-unfolding spare required capacity
-spare_from i r required_sums capacity_sums requires capacities within =
-    rw (requires.each r within, capacities.each r within) refl
+  pub spare_from : (required_sums capacity_sums : List ℕ) → AreRequirementSums i required_sums →
+      AreCapacities i capacity_sums → r < resource_count i →
+      pos (get_or capacity_sums r 0) -ℤ pos (get_or required_sums r 0) ≡ spare i r
+  unfolding spare required capacity
+  spare_from required_sums capacity_sums requires capacities within =
+      rw (requires.each r within, capacities.each r within) refl
 
--- the sums are small
+  -- the sums are small
+  pub required_small : (sums : List ℕ) → WellFormed i → Small i → AreRequirementSums i sums →
+      r < resource_count i → get_or sums r 0 < 2 ^ 48
+  required_small sums limits small sum within =
+      omega (
+        arith,
+        sum.each r within,
+        total_small (process_count i) r (requirement_of i) limits.few_processes
+            small.requirements,
+      )
 
-pub required_small : (i : Tables) (r : ℕ) (sums : List ℕ) → WellFormed i → Small i → AreRequirementSums i sums →
-    r < resource_count i → get_or sums r 0 < 2 ^ 48
-required_small i r sums limits small sum within =
-    omega (
-      arith,
-      sum.each r within,
-      total_small (process_count i) r (requirement_of i) limits.few_processes
-          small.requirements,
-    )
-
-pub capacity_small : (i : Tables) (r : ℕ) (sums : List ℕ) → WellFormed i → Small i → AreCapacities i sums →
-    r < resource_count i → get_or sums r 0 < 2 ^ 48
-capacity_small i r sums limits small sum within =
-    omega (
-      arith,
-      sum.each r within,
-      total_small (machine_count i) r (capacity_of i)
-          (omega (arith, limits.few_machines)) small.capacities,
-    )
+  pub capacity_small : (sums : List ℕ) → WellFormed i → Small i → AreCapacities i sums →
+      r < resource_count i → get_or sums r 0 < 2 ^ 48
+  capacity_small sums limits small sum within =
+      omega (
+        arith,
+        sum.each r within,
+        total_small (machine_count i) r (capacity_of i)
+            (omega (arith, limits.few_machines)) small.capacities,
+      )

@@ -44,13 +44,12 @@ unfolding opened use_above row_above capacity_penalty transient_above row_transi
 repair_bare raw None a0 lot = refl
 repair_bare raw (Some flags) a0 lot = refl
 
-pub along : {X : Type 0} (f : Tables → X) →
-    ((raw : RawInstance) (closed : Option (Listed Bool)) → f (bare (whole raw closed)) ≡ f (whole raw closed)) →
-    (i j : Tables) → bare i ≡ bare j → f i ≡ f j
+pub along : {X : Type 0} (f : Tables → X) → ((raw : RawInstance) (closed : Option (Listed Bool)) →
+    f (bare (whole raw closed)) ≡ f (whole raw closed)) → (i j : Tables) → bare i ≡ bare j → f i ≡ f j
 along f unchanged i j same = sym (unchanged i.raw i.closed) ∙ ap f same ∙ unchanged j.raw j.closed
 
 -- a repair tries the same
 pub repaired_same : (i j : Tables) → bare i ≡ bare j → (a0 : List Machine) (lot : Lot) →
     repair_run i a0 lot ≡ repair_run j a0 lot
 repaired_same i j same a0 lot =
-    along (λ (t : Tables). repair_run t a0 lot) (λ raw closed. repair_bare raw closed a0 lot) i j same
+    along (λ t. repair_run t a0 lot) (λ raw closed. repair_bare raw closed a0 lot) i j same

@@ -26,32 +26,6 @@ unfolding bare_closed flag_in
 flags_bare None m = refl
 flags_bare (Some flags) m = refl
 
-capacity_bare : (i : Tables) (a : List Machine) → broken_capacity (bare i) a ≡ broken_capacity i a
-unfolding raw_of bare_raw machine_count resource_count process_count broken_capacity row_capacity capacity_test use_of
-    use_share tally requirement_of capacity_of cell
-capacity_bare i a = refl
-
-transient_bare : (i : Tables) (a0 a : List Machine) → broken_transient (bare i) a0 a ≡ broken_transient i a0 a
-unfolding raw_of bare_raw machine_count resource_count process_count broken_transient row_transient transient_test
-    transient_of transient_share tally requirement_of capacity_of cell transient_at resource_row
-transient_bare i a0 a = refl
-
-conflict_bare : (i : Tables) (a : List Machine) → broken_conflict (bare i) a ≡ broken_conflict i a
-unfolding raw_of bare_raw machine_count service_count process_count broken_conflict service_conflict conflict_test
-    on_machine members_at tally of_service is_of service_of process_row
-conflict_bare i a = refl
-
-spread_bare : (i : Tables) (a : List Machine) → broken_spread (bare i) a ≡ broken_spread i a
-unfolding raw_of bare_raw service_count process_count broken_spread spread_test locations_of in_location members_at
-    tally of_service is_of service_of process_row location_of machine_row spread_of service_row
-spread_bare i a = refl
-
-dependency_bare : (i : Tables) (a : List Machine) → broken_dependency (bare i) a ≡ broken_dependency i a
-unfolding raw_of bare_raw service_count process_count broken_dependency service_dependency pair_dependency
-    dependency_test far_test near_of in_neighbourhood members_at tally of_service is_of service_of process_row
-    neighbourhood_of machine_row dependency_count dependency_end dependency_start service_row need_of need_at
-dependency_bare i a = refl
-
 closed_bare : (raw : RawInstance) (closed : Option (Listed Bool)) (a0 a : List Machine) →
     broken_closed (record { raw = bare_raw raw; closed = bare_closed closed }) a0 a ≡
     broken_closed (record { raw = raw; closed = closed }) a0 a
@@ -59,17 +33,50 @@ unfolding raw_of bare_raw bare_closed process_count broken_closed closed_test cl
 closed_bare raw None a0 a = refl
 closed_bare raw (Some flags) a0 a = refl
 
-pub broken_bare : (i : Tables) (a0 a : List Machine) → first_broken (bare i) a0 a ≡ first_broken i a0 a
-unfolding first_broken
-broken_bare i a0 a =
-    rw (
-      capacity_bare i a,
-      transient_bare i a0 a,
-      conflict_bare i a,
-      spread_bare i a,
-      dependency_bare i a,
-      closed_bare i.raw i.closed a0 a,
-    ) refl
+module _ (i : Tables) where
+  module _ (a : List Machine) where
+    capacity_bare : broken_capacity (bare i) a ≡ broken_capacity i a
+    unfolding raw_of bare_raw machine_count resource_count process_count broken_capacity row_capacity capacity_test
+        use_of
+        use_share tally requirement_of capacity_of cell
+    capacity_bare = refl
+
+    conflict_bare : broken_conflict (bare i) a ≡ broken_conflict i a
+    unfolding raw_of bare_raw machine_count service_count process_count broken_conflict service_conflict conflict_test
+        on_machine members_at tally of_service is_of service_of process_row
+    conflict_bare = refl
+
+    spread_bare : broken_spread (bare i) a ≡ broken_spread i a
+    unfolding raw_of bare_raw service_count process_count broken_spread spread_test locations_of in_location members_at
+        tally of_service is_of service_of process_row location_of machine_row spread_of service_row
+    spread_bare = refl
+
+    dependency_bare : broken_dependency (bare i) a ≡ broken_dependency i a
+    unfolding raw_of bare_raw service_count process_count broken_dependency service_dependency pair_dependency
+        dependency_test far_test near_of in_neighbourhood members_at tally of_service is_of service_of process_row
+        neighbourhood_of machine_row dependency_count dependency_end dependency_start service_row need_of need_at
+    dependency_bare = refl
+
+  transient_bare : (a0 a : List Machine) → broken_transient (bare i) a0 a ≡ broken_transient i a0 a
+  unfolding raw_of bare_raw machine_count resource_count process_count broken_transient row_transient transient_test
+      transient_of transient_share tally requirement_of capacity_of cell transient_at resource_row
+  transient_bare a0 a = refl
+
+  pub broken_bare : (a0 a : List Machine) → first_broken (bare i) a0 a ≡ first_broken i a0 a
+  unfolding first_broken
+  broken_bare a0 a =
+      rw (
+        capacity_bare a,
+        transient_bare a0 a,
+        conflict_bare a,
+        spread_bare a,
+        dependency_bare a,
+        closed_bare i.raw i.closed a0 a,
+      ) refl
+
+  pub machines_bare : machine_count (bare i) ≡ machine_count i
+  unfolding raw_of bare_raw machine_count
+  machines_bare = refl
 
 pub closed_list_bare : (bytes : List ℕ) (i : Tables) → closed_refusal bytes (bare i) ≡ closed_refusal bytes i
 unfolding raw_of bare_raw closed_refusal token_test closed_machine_test machine_count
@@ -78,7 +85,3 @@ closed_list_bare bytes i = refl
 pub assign_bare : (bytes : List ℕ) (i : Tables) → assign_refusal bytes (bare i) ≡ assign_refusal bytes i
 unfolding raw_of bare_raw assign_refusal process_test assign_machine_test end_test machine_count process_count
 assign_bare bytes i = refl
-
-pub machines_bare : (i : Tables) → machine_count (bare i) ≡ machine_count i
-unfolding raw_of bare_raw machine_count
-machines_bare i = refl

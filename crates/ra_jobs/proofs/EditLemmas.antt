@@ -1,5 +1,5 @@
 -- How `edit` ends, from how its stages end.
-use Rattle.std.proofs.Common.{◌≡◌, ◌≢◌, ◌⊎◌, ℕ, ◌≤◌, List, length, Option, Some, None, IfSome, IsSome, Result, inl, inr, ⊎_elim, refl, sym, ◌∙◌, ap, subst}
+use Rattle.std.proofs.Common.{◌≡◌, ◌⊎◌, ℕ, ◌≤◌, List, length, Some, None, IfSome, Result, inl, inr, ⊎_elim, refl, sym, ◌∙◌, ap, subst}
 use Rattle.ra_base.specs.declared.causes.Cause.{Cause}
 use Rattle.ra_base.specs.declared.ids.Machine.{Machine}
 use Rattle.ra_base.specs.Searches.{first}
@@ -33,7 +33,7 @@ use Rattle.ra_io.specs.Outside.{Reading, Took}
 use Rattle.ra_token.proofs.ToldLemmas.{told_then}
 use Rattle.ra_jobs.specs.declared.refusals.File.TheVariants as file
 use Rattle.ra_jobs.specs.declared.refusals.Refusal.{Refusal}
-use Rattle.ra_jobs.specs.declared.refusals.Refusal.TheVariants.{Read, Model, Closed, Assign, Edits, Broken, Write, Memory}
+use Rattle.ra_jobs.specs.declared.refusals.Refusal.TheVariants.{Read, Edits, Broken, Write, Memory}
 use Rattle.ra_jobs.specs.declared.refusals.Role.{Role}
 use Rattle.ra_jobs.specs.declared.refusals.Role.TheVariants as role
 use Rattle.ra_jobs.specs.declared.status.Status.{Status}
@@ -52,7 +52,7 @@ use Rattle.ra_jobs.proofs.BareLemmas.{bare}
 use Rattle.ra_jobs.proofs.ComesLemmas.{Listed, Went, breaks_listed, breaks_never, known_model, own_known, told_closed}
 use Rattle.ra_jobs.proofs.CompleteLemmas.{is_done, complete, contradiction}
 use Rattle.ra_jobs.proofs.DoesLemmas.{does_so, memory_refused}
-use Rattle.ra_jobs.proofs.EndLemmas.{Ends, EndsOver, finished, left_so}
+use Rattle.ra_jobs.proofs.EndLemmas.{Ends, finished, left_so}
 use Rattle.ra_jobs.proofs.MeaningLemmas.{told_gives, instances_same}
 use Rattle.ra_jobs.proofs.RowLemmas.{raw_of, bare_raw, raw_same}
 use Rattle.ra_jobs.proofs.StageLemmas.{rose_later, breaks_role, can_tell, reason_more}
@@ -107,204 +107,6 @@ unfolding edited_text edited_lines model_part
 left_text d i a0 a replies same first second parts =
     rw (parts, text_same (instance_of d) i same.lists, first, second) refl
 
--- the run of edits of an instance and two lists
-pub outcome_edited : (i : Tables) (a0 a : List Machine) (e : EditLists) (o : Outcome) (sent : List ℕ → Type 0) →
-    IsOutcome i a0 a e o → sent (edited_outcome_text i o) → IsRunOfEdits i a0 a e sent
-unfolding edited_draft text_left edits_output edited_outcome_text
-outcome_edited i a0 a e o sent h text =
-    let d : Drafted = left_in i o.left in
-    record {
-      start = h.start;
-      current = h.current;
-      limits = subst (λ (x : Drafted). WellFormed (instance_of x)) h.left h.writable.sound.well_formed;
-      accepted = subst (λ (x : Drafted). model_refusal (model_text (instance_of x)) ≡ None) h.left
-          (text_accepted_whole (instance_of d) h.writable.sound.well_formed h.writable.small);
-      left = subst (λ (x : Drafted). Feasible (instance_of x) x.initial x.current) h.left h.writable.feasible;
-      text = subst (λ (x : Drafted). sent (text_left (draft_of i a0 a) x e)) h.left
-          (subst (λ (r : List EditReply). sent (edited_text (instance_of d) d.initial d.current r)) h.replies text);
-    }
-
-pub outcome_is : (i : Tables) (a0 a : List Machine) (e : EditLists) (made d : Drafted) (o : Outcome) →
-    Feasible i a0 a0 → Feasible i a0 a → made ≡ draft_of i a0 a → d ≡ after_edits made e (length e.edits) →
-    d.origin ≡ made.origin → left_in d.origin o.left ≡ d → o.replies.items ≡ replies_to made e (length e.edits) →
-    IsSoundDraft d → Small (instance_of d) → Feasible (instance_of d) d.initial d.current →
-    o.parts ≡ parts_of (instance_of d) d.initial d.current → IsOutcome i a0 a e o
-unfolding edited_draft
-outcome_is i a0 a e made d o start current from run origin lists answers sound small feasible parts =
-    let same : d.origin ≡ i = origin ∙ ap (λ (x : Drafted). x.origin) from in
-    let left : left_in i o.left ≡ d = subst (λ (j : Tables). left_in j o.left ≡ d) same lists in
-    record {
-      start = start;
-      current = current;
-      left = left ∙ (run ∙ ap (λ (x : Drafted). after_edits x e (length e.edits)) from);
-      replies = answers ∙ ap (λ (x : Drafted). replies_to x e (length e.edits)) from;
-      writable = record {
-        sound = subst IsSoundDraft (sym left) sound;
-        small = subst (λ (x : Drafted). Small (instance_of x)) (sym left) small;
-        feasible = subst (λ (x : Drafted). Feasible (instance_of x) x.initial x.current) (sym left) feasible;
-        parts = subst (λ (x : Drafted). o.parts ≡ parts_of (instance_of x) x.initial x.current) (sym left) parts;
-      };
-    }
-
-pub outcome_written : (i j : Tables) (o : Outcome) (a0 a : List Machine) (sent : List ℕ → Type 0) →
-    AreSameLists (instance_of (left_in i o.left)) j → a0 ≡ o.left.initial.items → a ≡ o.left.current.items →
-    parts_of j a0 a ≡ parts_of (instance_of (left_in i o.left)) o.left.initial.items o.left.current.items →
-    sent (edited_text j a0 a o.replies.items) → sent (edited_outcome_text i o)
-unfolding edited_outcome_text
-outcome_written i j o a0 a sent same first second parts text =
-    subst sent (left_text (left_in i o.left) j a0 a o.replies.items same first second parts) text
-
--- ---- the stages
-
-pub edits_reason : (held : Held) (name : List ℕ) (i : Tables) (before now : Faults) (fault : EditsFault) →
-    (fault ≡ reader.ReadFault → Rose (before name) (now name)) →
-    IfSome (held name) (λ bytes. IsEditsRefusal bytes i fault) → EditsReason held name i before now (edits_as fault)
-edits_reason held name i before now reader.ReadFault rose told = rose refl
-edits_reason held name i before now (reader.BadByte at byte) rose told = ((λ e. cc, λ e. cc), told)
-edits_reason held name i before now (reader.TooLarge at) rose told = ((λ e. cc, λ e. cc), told)
-edits_reason held name i before now reader.TooLong rose told = ((λ e. cc, λ e. cc), told)
-edits_reason held name i before now (reader.Missing edit) rose told = ((λ e. cc, λ e. cc), told)
-edits_reason held name i before now (reader.Range at value least most) rose told = ((λ e. cc, λ e. cc), told)
-edits_reason held name i before now (reader.TooMany at) rose told = ((λ e. cc, λ e. cc), told)
-edits_reason held name i before now reader.NoMemory rose told = tt
-
--- a refusal of the edits
-pub reason_edits : (held later : Held) (names : Names) (i : Tables) (a0 a : List Machine) (first before now : Faults)
-    (written : Type 0) → ((other : List ℕ) → later other ≡ held other) →
-    ((other : List ℕ) → first other ≤ before other) → IsNamed names file.Edits → Accepts held names i a0 a →
-    (refusal : Refusal) → EditsReason later (name_of names file.Edits) i before now refusal →
-    Reason held names first now (EditOwn held names written) refusal
-reason_edits held later names i a0 a first before now written same never_fell named accepts (Read file.Edits) reason =
-    record {
-      earlier = (i, a0, a, accepts);
-      named = named;
-      rose = rose_later _ _ _ (never_fell (name_of names file.Edits)) reason;
-    }
-reason_edits held later names i a0 a first before now written same never_fell named accepts (Edits fault) reason =
-    record {
-      tables = i;
-      a0 = a0;
-      a = a;
-      accepts = accepts;
-      named = named;
-      in_file = reason.0;
-      refused = rw (sym (same (name_of names file.Edits))) reason.1;
-    }
-reason_edits held later names i a0 a first before now written same never_fell named accepts Memory reason = tt
-reason_edits held later names i a0 a first before now written same never_fell named accepts refusal reason =
-    absurd reason
-
-pub taken_all : (held later : Held) (names : Names) (i : Tables) (a0 a : List Machine) (e : EditLists) →
-    ((other : List ℕ) → later other ≡ held other) → Accepts held names i a0 a → IsAssignment i a0 → IsAssignment i a →
-    HasEdits later (name_of names file.Edits) i e → IsTakenWithEdits held names i a0 a e
-taken_all held later names i a0 a e same accepts first second has = record {
-  accepts = accepts;
-  initial = first;
-  current = second;
-  edits = rw (sym (same (name_of names file.Edits))) has.edits;
-  fits = has.fits;
-}
-
-accepted_of : (held : Held) (names : Names) (i : Tables) (a0 a : List Machine) (e : EditLists) →
-    IsTakenWithEdits held names i a0 a e → EditsAccepted held names
-accepted_of held names i a0 a e taken = record {
-  tables = i;
-  a0 = a0;
-  a = a;
-  accepts = taken.accepts;
-  none = told_then {P = λ bytes. AreEditsOf bytes i e} {Q = λ bytes. edits_refusal bytes i ≡ None}
-      (held (name_of names file.Edits)) taken.edits (λ bytes is. (edits_accept bytes i).1 (is.count, is.file));
-}
-
--- a refusal of the run
-pub reason_run : (held : Held) (names : Names) (i : Tables) (a0 a : List Machine) (e : EditLists) (before now : Faults)
-    (sent : List ℕ → Type 0) → IsNamed names file.Initial → IsNamed names file.Changed →
-    IsTakenWithEdits held names i a0 a e → (refusal : Refusal) →
-    JudgeReason i a0 a (IsRunOfEdits i a0 a e sent) refusal →
-    Reason held names before now (EditOwn held names (Edited held names sent)) refusal
-reason_run held names i a0 a e before now sent initial changed taken (Broken which cause) reason = (
-  accepted_of held names i a0 a e taken,
-  breaks_role held names i a0 a initial changed taken.accepts which cause reason,
-)
-reason_run held names i a0 a e before now sent initial changed taken Write reason = record {
-  tables = i;
-  a0 = a0;
-  a = a;
-  edits = e;
-  taken = taken;
-  run = reason;
-}
-reason_run held names i a0 a e before now sent initial changed taken Memory reason = tt
-reason_run held names i a0 a e before now sent initial changed taken refusal reason = absurd reason
-
-pub edited_all : (held : Held) (names : Names) (i : Tables) (a0 a : List Machine) (e : EditLists)
-    (sent : List ℕ → Type 0) → IsTakenWithEdits held names i a0 a e → IsRunOfEdits i a0 a e sent →
-    Edited held names sent
-edited_all held names i a0 a e sent taken run = record {
-  tables = i;
-  a0 = a0;
-  a = a;
-  edits = e;
-  taken = taken;
-  run = run;
-}
-
-pub over_more : (i : Tables) (a0 a : List Machine) (broke written : Type 0) (step : broke → written)
-    (refusal : Refusal) → WriteReason broke refusal → JudgeReason i a0 a written refusal
-over_more i a0 a broke written step Write reason = step reason
-over_more i a0 a broke written step Memory reason = tt
-over_more i a0 a broke written step refusal reason = absurd reason
-
-own_more : (held : Held) (names : Names) (written more : Type 0) → (written → more) → (r : Refusal) →
-    EditOwn held names written r → EditOwn held names more r
-own_more held names written more step (Edits fault) reason = reason
-own_more held names written more step (Broken which cause) reason = reason
-own_more held names written more step Write reason = step reason
-own_more held names written more step refusal reason = absurd reason
-
-pub reason_untaken : (held : Held) (names : Names) (before now : Faults) (written : Type 0) (refusal : Refusal) →
-    Reason held names before now (EditOwn held names ⊥) refusal →
-    Reason held names before now (EditOwn held names written) refusal
-reason_untaken held names before now written refusal reason = reason_more held names before now (EditOwn held names ⊥)
-    (EditOwn held names written) (own_more held names ⊥ written (λ none. absurd none)) refusal reason
-
-own_tells : (held : Held) (names : Names) (written : Type 0) (r : Refusal) → EditOwn held names written r →
-    CanTell names r
-own_tells held names written (Edits fault) reason = (reason.named, reason.in_file)
-own_tells held names written (Broken which cause) reason = reason.1.named
-own_tells held names written Write reason = tt
-own_tells held names written refusal reason = absurd reason
-
-pub can_tell_edits : (held : Held) (names : Names) (before now : Faults) (written : Type 0) (refusal : Refusal) →
-    Reason held names before now (EditOwn held names written) refusal → CanTell names refusal
-can_tell_edits held names before now written =
-    can_tell held names before now (EditOwn held names written) (own_tells held names written)
-
--- ---- when its statuses come
-
--- a run is written of feasible lists alone
-edited_went : (held : Held) (names : Names) (sent : List ℕ → Type 0) → Edited held names sent → Went held names
-edited_went held names sent is = record {
-  listed = record { tables = is.tables; a0 = is.a0; a = is.a; accepts = is.taken.accepts };
-  initial = λ named. is.run.start;
-  changed = λ named. is.run.current;
-}
-
-pub edited_listed : (held : Held) (names : Names) (sent : List ℕ → Type 0) → Edited held names sent → Listed held names
-edited_listed held names sent is = (edited_went held names sent is).listed
-
-pub own_listed : (held : Held) (names : Names) (sent : List ℕ → Type 0) (r : Refusal) →
-    EditOwn held names (Edited held names sent) r → Listed held names
-own_listed held names sent (Edits fault) reason = record {
-  tables = reason.tables;
-  a0 = reason.a0;
-  a = reason.a;
-  accepts = reason.accepts;
-}
-own_listed held names sent (Broken which cause) reason = breaks_listed held names which cause reason.1
-own_listed held names sent Write reason = edited_listed held names sent reason
-own_listed held names sent refusal reason = absurd reason
-
 -- instances that differ in room alone take the same edits files
 edits_bare : (bytes : List ℕ) (i : Tables) → edits_refusal bytes (bare i) ≡ edits_refusal bytes i
 unfolding raw_of bare_raw edits_refusal edit_test found_test numbers_test added_test resized_test resource_count
@@ -314,106 +116,313 @@ edits_bare bytes i = refl
 edits_same : (bytes : List ℕ) (i j : Tables) → bare i ≡ bare j → edits_refusal bytes i ≡ edits_refusal bytes j
 edits_same bytes i j same = sym (edits_bare bytes i) ∙ (ap (edits_refusal bytes) same ∙ edits_bare bytes j)
 
--- over valid files none of its own refusals can come
-valid_none : (held : Held) (names : Names) (sent : List ℕ → Type 0) → AreEditable held names →
-    ((text : List ℕ) → sent text → ⊥) → (refusal : Refusal) → EditOwn held names (Edited held names sent) refusal → ⊥
-valid_none held names sent editable wrote (Edits fault) reason =
-    let accepted = editable.edits reason.tables reason.a0 reason.a reason.accepts in
-    contradiction (held (name_of names file.Edits)) accepted.0 (λ bytes. edits_refusal bytes reason.tables) fault
-    accepted.1 accepted.2 reason.refused
-valid_none held names sent editable wrote (Broken role.Initial cause) reason =
-    let b = reason.1 in
-    let none = unbroken_from_feasible b.tables b.a0 b.a0 (editable.valid.initial b.named b.tables b.a0 b.a b.accepts) in
-    let both : None ≡ Some cause = sym none ∙ b.breaks in
-    cc
-valid_none held names sent editable wrote (Broken role.Changed cause) reason =
-    let b = reason.1 in
-    let none = unbroken_from_feasible b.tables b.a0 b.a (editable.valid.changed b.named b.tables b.a0 b.a b.accepts) in
-    let both : None ≡ Some cause = sym none ∙ b.breaks.1 in
-    cc
-valid_none held names sent editable wrote Write reason = wrote _ reason.run.text
-valid_none held names sent editable wrote refusal reason = reason
+module _ (held : Held) where
+  module _ (name : List ℕ) (i : Tables) (before now : Faults) where
+    -- ---- the stages
 
-pub complete_edits : {held : Held} {names : Names} {before now : Faults} {sent : List ℕ → Type 0} {output : Type 0}
-    {tells : List ℕ → Type 0} {out_same err_same : Type 0} {status : Status} →
-    Ends held names before now output (EditOwn held names (Edited held names sent)) tells out_same err_same status →
-    AreEditable held names → NoFault names before now → ((text : List ℕ) → sent text → ⊥) → (status ≡ Done)
-    ⊎ (status ≡ NoMemory)
-complete_edits {held} {names} {before} {now} {sent} ends editable sound wrote =
-    complete ends editable.valid.accepted sound (valid_none held names sent editable wrote)
+    pub edits_reason : (fault : EditsFault) → (fault ≡ reader.ReadFault → Rose (before name) (now name)) →
+        IfSome (held name) (λ bytes. IsEditsRefusal bytes i fault) → EditsReason held name i before now (edits_as fault)
+    edits_reason reader.ReadFault rose told = rose refl
+    edits_reason reader.NoMemory rose told = tt
+    edits_reason fault rose told = ((λ e. cc, λ e. cc), told)
 
--- no edits file is refused and accepted at once
-not_both : (held : Held) (names : Names) (before now : Faults) → KnownTo held names before now file.Edits →
-    (fault : EditsFault) → EditsRefused held names fault → EditsAccepted held names → ⊥
-not_both held names before now known fault refused accepted =
-    let same = instances_same held names.model names.closed (known_model held names before now file.Edits known)
-    (told_closed held names before now file.Edits refl known) refused.tables accepted.tables
-    refused.accepts.instance accepted.accepts.instance in
-    told_gives ⊥ (λ bytes. edits_refusal bytes refused.tables ≡ Some fault)
-    (λ bytes. edits_refusal bytes accepted.tables ≡ None) (held (name_of names file.Edits))
-    (known file.Edits refl refused.named).0
-    (λ bytes some none. let both : None ≡ Some fault = sym none
-    ∙ (sym (edits_same bytes refused.tables accepted.tables same) ∙ some) in cc)
-    refused.refused accepted.none
+  module _ (later : Held) (names : Names) (i : Tables) (a0 a : List Machine) (first before now : Faults)
+      (written : Type 0) (same : (other : List ℕ) → later other ≡ held other) (never_fell : (other : List ℕ) →
+      first other ≤ before other) (named : IsNamed names file.Edits) (accepts : Accepts held names i a0 a) where
+    -- a refusal of the edits
+    pub reason_edits : (refusal : Refusal) → EditsReason later (name_of names file.Edits) i before now refusal →
+        Reason held names first now (EditOwn held names written) refusal
+    reason_edits (Read file.Edits) reason =
+        record {
+          earlier = (i, a0, a, accepts);
+          named = named;
+          rose = rose_later _ _ _ (never_fell _) reason;
+        }
+    reason_edits (Edits fault) reason =
+        record {
+          tables = i;
+          a0 = a0;
+          a = a;
+          accepts = accepts;
+          named = named;
+          in_file = reason.0;
+          refused = rw (sym (same (name_of names file.Edits))) reason.1;
+        }
+    reason_edits Memory reason = tt
+    reason_edits refusal reason =
+        absurd reason
 
-bad_own : (held : Held) (names : Names) (before now : Faults) (sent : List ℕ → Type 0) →
-    KnownTo held names before now file.Edits → (fault : EditsFault) → EditsRefused held names fault →
-    (refusal : Refusal) → EditOwn held names (Edited held names sent) refusal → status_of refusal ≡ BadEdits
-unfolding status_of
-bad_own held names before now sent known fault refused (Edits other) reason = refl
-bad_own held names before now sent known fault refused (Broken which cause) reason =
-    absurd (not_both held names before now known fault refused reason.0)
-bad_own held names before now sent known fault refused Write reason =
-    absurd (not_both held names before now known fault refused
-    (accepted_of held names reason.tables reason.a0 reason.a reason.edits reason.taken))
-bad_own held names before now sent known fault refused refusal reason = absurd reason
+  pub taken_all : (later : Held) (names : Names) (i : Tables) (a0 a : List Machine) (e : EditLists) →
+      ((other : List ℕ) → later other ≡ held other) → Accepts held names i a0 a → IsAssignment i a0 → IsAssignment i a →
+      HasEdits later (name_of names file.Edits) i e → IsTakenWithEdits held names i a0 a e
+  taken_all later names i a0 a e same accepts first second has = record {
+    accepts = accepts;
+    initial = first;
+    current = second;
+    edits = rw (sym (same (name_of names file.Edits))) has.edits;
+    fits = has.fits;
+  }
 
--- no run is written of lists that break a constraint
-broken_own : (held : Held) (names : Names) (before now : Faults) (sent : List ℕ → Type 0) →
-    KnownTo held names before now file.Edits → EditsAccepted held names → (which : Role) (cause : Cause) →
-    RoleBreaks held names which cause → (refusal : Refusal) → EditOwn held names (Edited held names sent) refusal →
-    status_of refusal ≡ Infeasible
-unfolding status_of
-broken_own held names before now sent known accepted which cause breaks (Edits fault) reason =
-    absurd (not_both held names before now known fault reason accepted)
-broken_own held names before now sent known accepted which cause breaks (Broken one other) reason = refl
-broken_own held names before now sent known accepted which cause breaks Write reason =
-    absurd (breaks_never held names before now known which cause breaks (edited_went held names sent reason))
-broken_own held names before now sent known accepted which cause breaks refusal reason = absurd reason
+  module _ (names : Names) where
+    module _ (i : Tables) (a0 a : List Machine) (e : EditLists) where
+      accepted_of : IsTakenWithEdits held names i a0 a e → EditsAccepted held names
+      accepted_of taken = record {
+        tables = i;
+        a0 = a0;
+        a = a;
+        accepts = taken.accepts;
+        none = told_then {P = λ bytes. AreEditsOf bytes i e} {Q = λ bytes. edits_refusal bytes i ≡ None}
+            _ taken.edits (λ bytes is. (edits_accept bytes i).1 (is.count, is.file));
+      }
 
--- what each of its own statuses says
-reason_bad : (held : Held) (names : Names) (written : Type 0) (before now : Faults) (refusal : Refusal) →
-    Reason held names before now (EditOwn held names written) refusal → status_of refusal ≡ BadEdits →
-    (fault : EditsFault) × EditsRefused held names fault
-unfolding status_of
-reason_bad held names written before now (Edits fault) reason e = (fault, reason)
-reason_bad held names written before now refusal reason e = absurd (let both : status_of refusal ≡ BadEdits = e in cc)
+      module _ (before now : Faults) (sent : List ℕ → Type 0) (initial : IsNamed names file.Initial)
+          (changed : IsNamed names file.Changed) (taken : IsTakenWithEdits held names i a0 a e) where
+        -- a refusal of the run
+        pub reason_run : (refusal : Refusal) → JudgeReason i a0 a (IsRunOfEdits i a0 a e sent) refusal →
+            Reason held names before now (EditOwn held names (Edited held names sent)) refusal
+        reason_run (Broken which cause) reason = (
+          accepted_of taken,
+          breaks_role held names i a0 a initial changed taken.accepts which cause reason,
+        )
+        reason_run Write reason = record {
+          tables = i;
+          a0 = a0;
+          a = a;
+          edits = e;
+          taken = taken;
+          run = reason;
+        }
+        reason_run Memory reason = tt
+        reason_run refusal reason = absurd reason
 
-reason_broken : (held : Held) (names : Names) (written : Type 0) (before now : Faults) (refusal : Refusal) →
-    Reason held names before now (EditOwn held names written) refusal → status_of refusal ≡ Infeasible →
-    EditsAccepted held names × ((which : Role) × (cause : Cause) × RoleBreaks held names which cause)
-unfolding status_of
-reason_broken held names written before now (Broken which cause) reason e = (reason.0, (which, cause, reason.1))
-reason_broken held names written before now refusal reason e =
-    absurd (let both : status_of refusal ≡ Infeasible = e in cc)
+      pub edited_all : (sent : List ℕ → Type 0) → IsTakenWithEdits held names i a0 a e → IsRunOfEdits i a0 a e sent →
+          Edited held names sent
+      edited_all sent taken run = record {
+        tables = i;
+        a0 = a0;
+        a = a;
+        edits = e;
+        taken = taken;
+        run = run;
+      }
 
--- a job that isn't done has a status that its own refusals give it, or that of memory
-stops : {held : Held} {names : Names} {before now : Faults} {output : Type 0} {own : Refusal → Type 0}
-    {tells : List ℕ → Type 0} {out_same err_same : Type 0} {status : Status} →
-    Ends held names before now output own tells out_same err_same status → EndsAt names file.Edits →
-    KnownTo held names before now file.Edits → Listed held names → (this : Status) → (output → ⊥) →
-    ((refusal : Refusal) → own refusal → status_of refusal ≡ this) → (status ≡ this) ⊎ (status ≡ NoMemory)
-stops {held} {names} {before} {now} {output} {own} {tells} {out_same} {err_same} {status} ends last known listed this
-    undone step = ⊎_elim
-    (λ (done : status ≡ Done). absurd (undone (ends.printed done)))
-    (λ (other : status ≢ Done).
-    let refused = ends.refused other in
-    ⊎_elim
-    (λ (reason : own refused.refusal). inl (refused.is ∙ step refused.refusal reason))
-    (λ (memory : status_of refused.refusal ≡ NoMemory). inr (refused.is ∙ memory))
-    (own_known held names before now own file.Edits known (λ f named _. last f named) listed refused.refusal
-    refused.reason))
-    (is_done status)
+    own_more : (written more : Type 0) → (written → more) → (r : Refusal) →
+        EditOwn held names written r → EditOwn held names more r
+    own_more written more step (Edits fault) reason = reason
+    own_more written more step (Broken which cause) reason = reason
+    own_more written more step Write reason = step reason
+    own_more written more step refusal reason = absurd reason
+
+    own_tells : (written : Type 0) (r : Refusal) → EditOwn held names written r → CanTell names r
+    own_tells written (Edits fault) reason = (reason.named, reason.in_file)
+    own_tells written (Broken which cause) reason = reason.1.named
+    own_tells written Write reason = tt
+    own_tells written refusal reason = absurd reason
+
+    -- ---- when its statuses come
+
+    -- a run is written of feasible lists alone
+    edited_went : (sent : List ℕ → Type 0) → Edited held names sent → Went held names
+    edited_went sent is = record {
+      listed = record { tables = is.tables; a0 = is.a0; a = is.a; accepts = is.taken.accepts };
+      initial = λ named. is.run.start;
+      changed = λ named. is.run.current;
+    }
+
+    module _ (before now : Faults) where
+      pub reason_untaken : (written : Type 0) (refusal : Refusal) →
+          Reason held names before now (EditOwn held names ⊥) refusal →
+          Reason held names before now (EditOwn held names written) refusal
+      reason_untaken written refusal reason = reason_more held names before now _
+          _ (own_more ⊥ written absurd) refusal reason
+
+      pub can_tell_edits : (written : Type 0) (refusal : Refusal) →
+          Reason held names before now (EditOwn held names written) refusal → CanTell names refusal
+      can_tell_edits written =
+          can_tell held names before now _ (own_tells written)
+
+      -- no edits file is refused and accepted at once
+      not_both : KnownTo held names before now file.Edits →
+          (fault : EditsFault) → EditsRefused held names fault → EditsAccepted held names → ⊥
+      not_both known fault refused accepted =
+          let same = instances_same held names.model names.closed (known_model held names before now file.Edits known)
+          (told_closed held names before now file.Edits refl known) refused.tables accepted.tables
+          refused.accepts.instance accepted.accepts.instance in
+          told_gives ⊥ (λ bytes. edits_refusal bytes refused.tables ≡ Some fault)
+          (λ bytes. edits_refusal bytes accepted.tables ≡ None) _
+          (known file.Edits refl refused.named).0
+          (λ bytes some none. cc (sym none
+          ∙ (sym (edits_same bytes refused.tables accepted.tables same) ∙ some)))
+          refused.refused accepted.none
+
+      module _ (sent : List ℕ → Type 0) (known : KnownTo held names before now file.Edits) where
+        bad_own : (fault : EditsFault) → EditsRefused held names fault →
+            (refusal : Refusal) → EditOwn held names (Edited held names sent) refusal → status_of refusal ≡ BadEdits
+        unfolding status_of
+        bad_own fault refused (Edits other) reason = refl
+        bad_own fault refused (Broken which cause) reason =
+            absurd (not_both known fault refused reason.0)
+        bad_own fault refused Write reason =
+            absurd (not_both known fault refused
+            (accepted_of reason.tables reason.a0 reason.a reason.edits reason.taken))
+        bad_own fault refused refusal reason = absurd reason
+
+        module _ (accepted : EditsAccepted held names) (which : Role) (cause : Cause)
+            (breaks : RoleBreaks held names which cause) where
+          -- no run is written of lists that break a constraint
+          broken_own : (refusal : Refusal) → EditOwn held names (Edited held names sent) refusal →
+              status_of refusal ≡ Infeasible
+          unfolding status_of
+          broken_own (Edits fault) reason =
+              absurd (not_both known fault reason accepted)
+          broken_own (Broken one other) reason = refl
+          broken_own Write reason =
+              absurd (breaks_never held names before now known which cause breaks (edited_went sent reason))
+          broken_own refusal reason = absurd reason
+
+      -- if memory was refused before the words were read
+      pub edit_not : (status : Status) → status ≡ NoMemory → EditComes held names before now status
+      edit_not status is = record {
+        bad_edits = record {
+          only = λ e. cc;
+          always = λ known cause. inr is;
+        };
+        infeasible = record {
+          only = λ e. cc;
+          always = λ known cause. inr is;
+        };
+      }
+
+    module _ (sent : List ℕ → Type 0) where
+      pub edited_listed : Edited held names sent → Listed held names
+      edited_listed is = (edited_went sent is).listed
+
+      pub own_listed : (r : Refusal) → EditOwn held names (Edited held names sent) r → Listed held names
+      own_listed (Edits fault) reason = record {
+        tables = reason.tables;
+        a0 = reason.a0;
+        a = reason.a;
+        accepts = reason.accepts;
+      }
+      own_listed (Broken which cause) reason = breaks_listed held names which cause reason.1
+      own_listed Write reason = edited_listed reason
+      own_listed refusal reason = absurd reason
+
+      -- over valid files none of its own refusals can come
+      valid_none : AreEditable held names → ((text : List ℕ) → sent text → ⊥) → (refusal : Refusal) →
+          EditOwn held names (Edited held names sent) refusal → ⊥
+      valid_none editable wrote (Edits fault) reason =
+          let accepted = editable.edits reason.tables reason.a0 reason.a reason.accepts in
+          contradiction _ accepted.0 (λ bytes. edits_refusal bytes reason.tables) fault
+          accepted.1 accepted.2 reason.refused
+      valid_none editable wrote (Broken role.Initial cause) reason =
+          let b = reason.1 in
+          let none = unbroken_from_feasible b.tables b.a0 b.a0
+          (editable.valid.initial b.named b.tables b.a0 b.a b.accepts) in
+          cc (sym none ∙ b.breaks)
+      valid_none editable wrote (Broken role.Changed cause) reason =
+          let b = reason.1 in
+          let none = unbroken_from_feasible b.tables b.a0 b.a
+          (editable.valid.changed b.named b.tables b.a0 b.a b.accepts) in
+          cc (sym none ∙ b.breaks.1)
+      valid_none editable wrote Write reason = wrote _ reason.run.text
+      valid_none editable wrote refusal reason = reason
+
+    module _ (written : Type 0) (before now : Faults) where
+      -- what each of its own statuses says
+      reason_bad : (refusal : Refusal) → Reason held names before now (EditOwn held names written) refusal →
+          status_of refusal ≡ BadEdits → (fault : EditsFault) × EditsRefused held names fault
+      unfolding status_of
+      reason_bad (Edits fault) reason e = (fault, reason)
+      reason_bad refusal reason e = cc
+
+      reason_broken : (refusal : Refusal) →
+          Reason held names before now (EditOwn held names written) refusal → status_of refusal ≡ Infeasible →
+          EditsAccepted held names × ((which : Role) × (cause : Cause) × RoleBreaks held names which cause)
+      unfolding status_of
+      reason_broken (Broken which cause) reason e = (reason.0, (which, cause, reason.1))
+      reason_broken refusal reason e =
+          cc
+
+module _ (i : Tables) (a0 a : List Machine) where
+  -- the run of edits of an instance and two lists
+  pub outcome_edited : (e : EditLists) (o : Outcome) (sent : List ℕ → Type 0) →
+      IsOutcome i a0 a e o → sent (edited_outcome_text i o) → IsRunOfEdits i a0 a e sent
+  unfolding edited_draft text_left edits_output edited_outcome_text
+  outcome_edited e o sent h text =
+      let d : Drafted = left_in i o.left in
+      record {
+        start = h.start;
+        current = h.current;
+        limits = subst (λ (x : Drafted). WellFormed (instance_of x)) h.left h.writable.sound.well_formed;
+        accepted = subst (λ (x : Drafted). model_refusal (model_text (instance_of x)) ≡ None) h.left
+            (text_accepted_whole (instance_of d) h.writable.sound.well_formed h.writable.small);
+        left = subst (λ (x : Drafted). Feasible (instance_of x) x.initial x.current) h.left h.writable.feasible;
+        text = subst (λ (x : Drafted). sent (text_left (draft_of i a0 a) x e)) h.left
+            (subst (λ (r : List EditReply). sent (edited_text (instance_of d) d.initial d.current r)) h.replies text);
+      }
+
+  pub outcome_is : (e : EditLists) (made d : Drafted) (o : Outcome) →
+      Feasible i a0 a0 → Feasible i a0 a → made ≡ draft_of i a0 a → d ≡ after_edits made e (length e.edits) →
+      d.origin ≡ made.origin → left_in d.origin o.left ≡ d → o.replies.items ≡ replies_to made e (length e.edits) →
+      IsSoundDraft d → Small (instance_of d) → Feasible (instance_of d) d.initial d.current →
+      o.parts ≡ parts_of (instance_of d) d.initial d.current → IsOutcome i a0 a e o
+  unfolding edited_draft
+  outcome_is e made d o start current from run origin lists answers sound small feasible parts =
+      let same : d.origin ≡ i = origin ∙ ap (λ (x : Drafted). x.origin) from in
+      let left : left_in i o.left ≡ d = subst (λ (j : Tables). left_in j o.left ≡ d) same lists in
+      record {
+        start = start;
+        current = current;
+        left = left ∙ (run ∙ ap (λ (x : Drafted). after_edits x e (length e.edits)) from);
+        replies = answers ∙ ap (λ (x : Drafted). replies_to x e (length e.edits)) from;
+        writable = record {
+          sound = subst IsSoundDraft (sym left) sound;
+          small = subst (λ (x : Drafted). Small (instance_of x)) (sym left) small;
+          feasible = subst (λ (x : Drafted). Feasible (instance_of x) x.initial x.current) (sym left) feasible;
+          parts = subst (λ (x : Drafted). o.parts ≡ parts_of (instance_of x) x.initial x.current) (sym left) parts;
+        };
+      }
+
+  pub over_more : (broke written : Type 0) (step : broke → written) (refusal : Refusal) → WriteReason broke refusal →
+      JudgeReason i a0 a written refusal
+  over_more broke written step Write reason = step reason
+  over_more broke written step Memory reason = tt
+  over_more broke written step refusal reason = absurd reason
+
+pub outcome_written : (i j : Tables) (o : Outcome) (a0 a : List Machine) (sent : List ℕ → Type 0) →
+    AreSameLists (instance_of (left_in i o.left)) j → a0 ≡ o.left.initial.items → a ≡ o.left.current.items →
+    parts_of j a0 a ≡ parts_of (instance_of (left_in i o.left)) o.left.initial.items o.left.current.items →
+    sent (edited_text j a0 a o.replies.items) → sent (edited_outcome_text i o)
+unfolding edited_outcome_text
+outcome_written i j o a0 a sent same first second parts text =
+    subst sent (left_text (left_in i o.left) j a0 a o.replies.items same first second parts) text
+
+module _ {held : Held} {names : Names} {before now : Faults} where
+  pub complete_edits : {sent : List ℕ → Type 0} {output : Type 0} {tells : List ℕ →
+      Type 0} {out_same err_same : Type 0} {status : Status} → Ends held names before now output (EditOwn held names
+      (Edited held names sent)) tells out_same err_same status → AreEditable held names → NoFault names before now →
+      ((text : List ℕ) → sent text → ⊥) → (status ≡ Done) ⊎ (status ≡ NoMemory)
+  complete_edits {sent} ends editable sound wrote =
+      complete ends editable.valid.accepted sound (valid_none held names sent editable wrote)
+
+  -- a job that isn't done has a status that its own refusals give it, or that of memory
+  stops : {output : Type 0} {own : Refusal → Type 0}
+      {tells : List ℕ → Type 0} {out_same err_same : Type 0} {status : Status} →
+      Ends held names before now output own tells out_same err_same status → EndsAt names file.Edits →
+      KnownTo held names before now file.Edits → Listed held names → (this : Status) → (output → ⊥) →
+      ((refusal : Refusal) → own refusal → status_of refusal ≡ this) → (status ≡ this) ⊎ (status ≡ NoMemory)
+  stops {output} {own} {tells} {out_same} {err_same} {status} ends last known listed this
+      undone step = ⊎_elim
+      (λ done. absurd (undone (ends.printed done)))
+      (λ other.
+      let refused = ends.refused other in
+      ⊎_elim
+      (λ reason. inl (refused.is ∙ step refused.refusal reason))
+      (λ memory. inr (refused.is ∙ memory))
+      (own_known held names before now own file.Edits known (λ f named _. last f named) listed refused.refusal
+      refused.reason))
+      (is_done status)
 
 pub edit_comes : {held : Held} {before now : Faults} {tells : List ℕ → Type 0} {out_same err_same : Type 0}
     {status : Status} (names : Names) (prints breaks : List ℕ → Type 0) → EndsAt names file.Edits →
@@ -422,9 +431,9 @@ pub edit_comes : {held : Held} {before now : Faults} {tells : List ℕ → Type 
 edit_comes {held} {before} {now} {tells} {out_same} {err_same} {status} names prints breaks last ends =
     record {
       bad_edits = record {
-        only = λ (is : status ≡ BadEdits).
-            let refused = ends.refused (λ (done : status ≡ Done). let e : Done ≡ BadEdits = sym done ∙ is in cc) in
-            reason_bad held names (Edited held names breaks) before now refused.refusal refused.reason
+        only = λ is.
+            let refused = ends.refused (λ done. cc) in
+            reason_bad held names _ before now refused.refusal refused.reason
             (sym refused.is ∙ is);
         always = λ known cause.
             let r = cause.1 in
@@ -434,9 +443,9 @@ edit_comes {held} {before} {now} {tells} {out_same} {err_same} {status} names pr
             (bad_own held names before now breaks known cause.0 r);
       };
       infeasible = record {
-        only = λ (is : status ≡ Infeasible).
-            let refused = ends.refused (λ (done : status ≡ Done). let e : Done ≡ Infeasible = sym done ∙ is in cc) in
-            reason_broken held names (Edited held names breaks) before now refused.refusal refused.reason
+        only = λ is.
+            let refused = ends.refused (λ done. cc) in
+            reason_broken held names _ before now refused.refusal refused.reason
             (sym refused.is ∙ is);
         always = λ known cause.
             let r = cause.0 in
@@ -452,9 +461,9 @@ pub edit_so : (names : Names) → EndsAt names file.Edits → (files : Reading) 
     Finishes names ended err status → Does (over (editing names)) files out err status
 edit_so names last files out err ended status tries finishes =
     let c = editing names in
-    let prints : List ℕ → Type 0 = Took out.sink in
-    let breaks : List ℕ → Type 0 = BrokeOff out.sink in
-    let ends : EndsOver c files out err status = finished c files out err ended status tries finishes in
+    let prints = Took out.sink in
+    let breaks = BrokeOff out.sink in
+    let ends = finished c files out err ended status tries finishes in
     does_so c files out err status ends
     (edited_listed files.held names prints)
     (own_listed files.held names breaks)
@@ -462,23 +471,9 @@ edit_so names last files out err ended status tries finishes =
     (λ editable sound wrote. complete_edits ends editable sound (λ text broken. wrote broken.1))
     (left_so c files out err ended status tries finishes)
 
--- if memory was refused before the words were read
-pub edit_not : (held : Held) (names : Names) (before now : Faults) (status : Status) → status ≡ NoMemory →
-    EditComes held names before now status
-edit_not held names before now status is = record {
-  bad_edits = record {
-    only = λ e. absurd (let both : NoMemory ≡ BadEdits = sym is ∙ e in cc);
-    always = λ known cause. inr is;
-  };
-  infeasible = record {
-    only = λ e. absurd (let both : NoMemory ≡ Infeasible = sym is ∙ e in cc);
-    always = λ known cause. inr is;
-  };
-}
-
 pub edit_memory : (names : Names) (files : Reading) (out err : Output) (status : Status) → status ≡ NoMemory →
     ((names : Names) → Put err.sink (refusal_line names Memory)) → out.same → Leaves files out err →
     Does (over (editing names)) files out err status
 edit_memory names files out err status is line same leaves =
-    memory_refused (editing names) files out err status is line same leaves
+    memory_refused _ files out err status is line same leaves
     (edit_not files.held names files.before files.after status is) (inr is)

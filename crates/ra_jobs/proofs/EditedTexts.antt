@@ -25,7 +25,7 @@ pub adds_edit : {O : Type 0} (taken : O → Option (List ℕ)) (faults : O → �
     AddsText taken faults a c (edits_text replies (n + 1))
 unfolding edits_text
 adds_edit taken faults replies n a b c first next =
-    rw add-one (adds_more taken faults a b c (edits_text replies n) (edit_line n (reply_in replies n)) first next)
+    rw add-one (adds_more taken faults a b c _ _ first next)
 
 -- the lines with the parts of the lists are the output
 pub edited_told : (i : Tables) (a0 a : List Machine) (replies : List EditReply) (parts : Parts) →

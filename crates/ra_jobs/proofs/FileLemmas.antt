@@ -8,9 +8,9 @@ pub bound_ends : (model : List ℕ) (initial closed : Option (List ℕ)) →
 bound_ends model initial closed file.Model named = refl
 bound_ends model initial closed file.Closed named = refl
 bound_ends model initial closed file.Initial named = refl
-bound_ends model initial closed f named = absurd (let none = named in cc)
+bound_ends model initial closed f named = cc named
 
 pub edit_ends : (model initial current edits : List ℕ) (closed : Option (List ℕ)) →
     EndsAt (edit_names model initial current edits closed) file.Edits
-edit_ends model initial current edits closed file.Report named = absurd (let none = named in cc)
+edit_ends model initial current edits closed file.Report named = cc named
 edit_ends model initial current edits closed f named = refl

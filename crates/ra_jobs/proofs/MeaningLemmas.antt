@@ -12,7 +12,6 @@ use Rattle.ra_model.specs.Feasible.{Feasible}
 use Rattle.ra_model.proofs.BrokenLemmas.{unbroken_from_feasible}
 use Rattle.ra_model_read.specs.declared.faults.ModelFault.{ModelFault}
 use Rattle.ra_model_read.specs.ModelText.{IsModel, model_refusal}
-use Rattle.ra_model_read.specs.Lists.{lists_of}
 use Rattle.ra_assign.specs.declared.faults.AssignFault.{AssignFault}
 use Rattle.ra_assign.specs.declared.faults.ClosedFault.{ClosedFault}
 use Rattle.ra_assign.specs.Lists.{assign_refusal, IsAssignmentOf}
@@ -40,7 +39,7 @@ ok_same : {X E : Type 0} (r : Result X E) (x y : X) → r ≡ Ok x → r ≡ Ok 
 ok_same r x y one two = cc
 
 refused_not : {X : Type 0} (o : Option X) (x : X) → o ≡ None → o ≡ Some x → ⊥
-refused_not o x none some = let both : None ≡ Some x = sym none ∙ some in cc
+refused_not o x none some = cc
 
 -- instances that are the same but for the room of their lists
 
@@ -51,74 +50,37 @@ bare_same i j raw closed = rw (raw, closed) refl
 machines_same : (i j : Tables) → bare i ≡ bare j → machine_count i ≡ machine_count j
 machines_same i j same = sym (machines_bare i) ∙ ap machine_count same ∙ machines_bare j
 
-closed_same : (bytes : List ℕ) (i j : Tables) → bare i ≡ bare j → closed_refusal bytes i ≡ closed_refusal bytes j
-closed_same bytes i j same = sym (closed_list_bare bytes i) ∙ ap (closed_refusal bytes) same ∙ closed_list_bare bytes j
+module _ (bytes : List ℕ) (i : Tables) where
+  closed_same : (j : Tables) → bare i ≡ bare j → closed_refusal bytes i ≡ closed_refusal bytes j
+  closed_same j same = sym (closed_list_bare bytes i) ∙ ap (closed_refusal bytes) same ∙ closed_list_bare bytes j
 
-assign_same : (bytes : List ℕ) (i j : Tables) → bare i ≡ bare j → assign_refusal bytes i ≡ assign_refusal bytes j
-assign_same bytes i j same = sym (assign_bare bytes i) ∙ ap (assign_refusal bytes) same ∙ assign_bare bytes j
+  assign_same : (j : Tables) → bare i ≡ bare j → assign_refusal bytes i ≡ assign_refusal bytes j
+  assign_same j same = sym (assign_bare bytes i) ∙ ap (assign_refusal bytes) same ∙ assign_bare bytes j
 
 pub broken_same : (i j : Tables) (a0 a : List Machine) → bare i ≡ bare j → first_broken i a0 a ≡ first_broken j a0 a
 broken_same i j a0 a same =
-    sym (broken_bare i a0 a) ∙ ap (λ (t : Tables). first_broken t a0 a) same ∙ broken_bare j a0 a
+    sym (broken_bare i a0 a) ∙ ap (λ t. first_broken t a0 a) same ∙ broken_bare j a0 a
 
--- the model
+module _ (bytes : List ℕ) (i : Tables) where
+  -- the model
 
-model_one : (bytes : List ℕ) (i j : Tables) → IsModel bytes i → IsModel bytes j → bare i ≡ bare j
-model_one bytes i j one two =
-    bare_same i j (raw_same i.raw j.raw (ok_same _ (lists_of i.raw) (lists_of j.raw) one.lists two.lists))
-    (rw (one.open_to_all, two.open_to_all) refl)
+  model_one : (j : Tables) → IsModel bytes i → IsModel bytes j → bare i ≡ bare j
+  model_one j one two =
+      bare_same i j (raw_same i.raw j.raw (ok_same _ _ _ one.lists two.lists))
+      (rw (one.open_to_all, two.open_to_all) refl)
 
-model_accepted : (bytes : List ℕ) (i : Tables) → IsModel bytes i → model_refusal bytes ≡ None
-unfolding model_refusal
-model_accepted bytes i read = rw read.lists refl
+  model_accepted : IsModel bytes i → model_refusal bytes ≡ None
+  unfolding model_refusal
+  model_accepted read = rw read.lists refl
 
-pub no_model : (held : Held) (name : List ℕ) → IsSome (held name) → (fault : ModelFault) →
-    ModelRefused held name fault → (i : Tables) → ModelIs held name i → ⊥
-no_model held name told fault refused i read =
-    told_gives ⊥ (λ bytes. model_refusal bytes ≡ Some fault) (λ bytes. IsModel bytes i) (held name) told
-    (λ bytes some is. refused_not _ fault (model_accepted bytes i is) some) refused.refused read
+  -- the closed list
 
-models_same : (held : Held) (name : List ℕ) → IsSome (held name) → (i j : Tables) → ModelIs held name i →
-    ModelIs held name j → bare i ≡ bare j
-models_same held name told i j one two = told_gives (bare i ≡ bare j) (λ bytes. IsModel bytes i)
-    (λ bytes. IsModel bytes j) (held name) told (λ bytes p q. model_one bytes i j p q) one two
-
--- the closed list
-
-flags_one : (bytes : List ℕ) (i j : Tables) (f g : List Bool) → bare i ≡ bare j → IsClosedOf bytes i f →
-    IsClosedOf bytes j g → f ≡ g
-flags_one bytes i j f g same one two =
-    let machines = machines_same i j same in
-    ext_get_or false f g (one.one_each ∙ machines ∙ sym two.one_each)
-    (λ k within. let one_in : k < machine_count i = subst (λ (n : ℕ). k < n) one.one_each within in one.named k one_in
-    ∙ sym (two.named k (subst (λ (n : ℕ). k < n) machines one_in)))
-
-closing_same : (held : Held) (named : Option (List ℕ)) → Told held named → (m n i j : Tables) → bare m ≡ bare n →
-    CloseIs held named m i → CloseIs held named n j → bare i ≡ bare j
-unfolding bare_closed
-closing_same held None told m n i j same one two = rw (one, two) same
-closing_same held (Some name) told m n i j same one two =
-    let flags = told_gives (one.0.items ≡ two.0.items) (λ bytes. IsClosedOf bytes m one.0.items)
-    (λ bytes. IsClosedOf bytes n two.0.items) (held name) (told name refl)
-    (λ bytes p q. flags_one bytes m n _ _ same p q) one.2 two.2 in
-    rw (one.1, two.1) (bare_same (with_closed m one.0) (with_closed n two.0) (ap (λ (t : Tables). t.raw) same)
-    (rw flags refl))
-
-pub instances_same : (held : Held) (name : List ℕ) (named : Option (List ℕ)) → IsSome (held name) → Told held named →
-    (i j : Tables) → InstanceIs held name named i → InstanceIs held name named j → bare i ≡ bare j
-instances_same held name named model told i j one two =
-    closing_same held named told one.model two.model i j
-    (models_same held name model one.model two.model one.read two.read) one.closed two.closed
-
-pub no_closed : (held : Held) (name : List ℕ) (named : Option (List ℕ)) → IsSome (held name) → Told held named →
-    (fault : ClosedFault) → ClosedRefused held name named fault → (i : Tables) → InstanceIs held name named i → ⊥
-no_closed held name named model told fault refused i instance =
-    let same = models_same held name model refused.model instance.model refused.read instance.read in
-    let closing = subst (λ (o : Option (List ℕ)). CloseIs held o instance.model i) refused.named instance.closed in
-    told_gives ⊥ (λ bytes. closed_refusal bytes refused.model ≡ Some fault)
-    (λ bytes. IsClosedOf bytes instance.model closing.0.items) (held refused.name) (told refused.name refused.named)
-    (λ bytes some is. refused_not _ fault (closed_same bytes refused.model instance.model same
-    ∙ (closed_accepts bytes instance.model).1 is.file) some) refused.refused closing.2
+  flags_one : (j : Tables) (f g : List Bool) → bare i ≡ bare j → IsClosedOf bytes i f → IsClosedOf bytes j g → f ≡ g
+  flags_one j f g same one two =
+      let machines = machines_same i j same in
+      ext_get_or false f g (one.one_each ∙ machines ∙ sym two.one_each)
+      (λ k within. let one_in : k < machine_count i = rw (← one.one_each) within in one.named k one_in
+      ∙ sym (two.named k (rw (← machines) one_in)))
 
 -- the lists
 
@@ -130,41 +92,6 @@ list_in names role.Changed = names.changed
 abbrev pub of_role : Role → List Machine → List Machine → List Machine
 of_role role.Initial a0 a = a0
 of_role role.Changed a0 a = a
-
-pub accepted_list : (held : Held) (names : Names) (which : Role) (i : Tables) (a0 a : List Machine) →
-    Accepts held names i a0 a → NamedListIs held (list_in names which) i (of_role which a0 a)
-accepted_list held names role.Initial i a0 a accepts = accepts.initial
-accepted_list held names role.Changed i a0 a accepts = accepts.changed
-
-no_list : (held : Held) (named : Option (List ℕ)) → Told held named → IsSome named → (i j : Tables) → bare i ≡ bare j →
-    (fault : AssignFault) → ListRefused held (unwrap_or named []) i fault → (a : List Machine) →
-    NamedListIs held named j a → ⊥
-no_list held None told some i j same fault refused a list = absurd (cc)
-no_list held (Some name) told some i j same fault refused a list =
-    told_gives ⊥ (λ bytes. assign_refusal bytes i ≡ Some fault) (λ bytes. IsAssignmentOf bytes j a) (held name)
-    (told name refl)
-    (λ bytes some assigned. refused_not _ fault (assign_same bytes i j same ∙ (assign_accepts bytes j).1 assigned.file)
-    some) refused.refused list
-
-pub no_role : (held : Held) (names : Names) (which : Role) → IsSome (held names.model) → Told held names.closed →
-    Told held (list_in names which) → (fault : AssignFault) → RoleRefused held names which fault →
-    (i : Tables) (a : List Machine) → InstanceIs held names.model names.closed i →
-    NamedListIs held (list_in names which) i a → ⊥
-unfolding name_of
-no_role held names role.Initial model closed told fault refused i a instance list =
-    no_list held names.initial told refused.named refused.tables i
-    (instances_same held names.model names.closed model closed refused.tables i refused.instance instance) fault
-    refused.refused a list
-no_role held names role.Changed model closed told fault refused i a instance list =
-    no_list held names.changed told refused.named refused.tables i
-    (instances_same held names.model names.closed model closed refused.tables i refused.instance instance) fault
-    refused.refused a list
-
-pub lists_same : (held : Held) (named : Option (List ℕ)) → Told held named → IsSome named →
-    (i j : Tables) (a b : List Machine) → NamedListIs held named i a → NamedListIs held named j b → a ≡ b
-lists_same held None told some i j a b one two = absurd (cc)
-lists_same held (Some name) told some i j a b one two = told_gives (a ≡ b) (λ bytes. IsAssignmentOf bytes i a)
-    (λ bytes. IsAssignmentOf bytes j b) (held name) (told name refl) (λ bytes p q. p.machines ∙ sym q.machines) one two
 
 -- the constraints
 
@@ -179,21 +106,98 @@ first_breaks : (i : Tables) (a0 a : List Machine) (which : Role) (cause : Cause)
 first_breaks i a0 a role.Initial cause breaks = breaks
 first_breaks i a0 a role.Changed cause breaks = breaks.1
 
-role_same : (held : Held) (names : Names) (which : Role) → Told held (list_in names which) →
-    IsNamed names (file_of which) → (i j : Tables) (a b : List Machine) → NamedListIs held (list_in names which) i a →
-    NamedListIs held (list_in names which) j b → a ≡ b
-role_same held names role.Initial = lists_same held names.initial
-role_same held names role.Changed = lists_same held names.changed
+module _ (held : Held) where
+  closing_same : (named : Option (List ℕ)) → Told held named → (m n i j : Tables) → bare m ≡ bare n →
+      CloseIs held named m i → CloseIs held named n j → bare i ≡ bare j
+  unfolding bare_closed
+  closing_same None told m n i j same one two = rw (one, two) same
+  closing_same (Some name) told m n i j same one two =
+      let flags = told_gives (one.0.items ≡ two.0.items) (λ bytes. IsClosedOf bytes m one.0.items)
+      (λ bytes. IsClosedOf bytes n two.0.items) (held name) (told name refl)
+      (λ bytes p q. flags_one bytes m n _ _ same p q) one.2 two.2 in
+      rw (one.1, two.1) (bare_same (with_closed m one.0) (with_closed n two.0) (ap (λ (t : Tables). t.raw) same)
+      (rw flags refl))
 
-pub no_break : (held : Held) (names : Names) (which : Role) → IsSome (held names.model) → Told held names.closed →
-    Told held names.initial → Told held (list_in names which) → (cause : Cause) → RoleBreaks held names which cause →
-    (i : Tables) (a0 a : List Machine) → Accepts held names i a0 a → Feasible i a0 (of_role which a0 a) → ⊥
-no_break held names which model closed initial told cause is i a0 a accepts feasible =
-    let same = instances_same held names.model names.closed model closed is.tables i is.accepts.instance
-    accepts.instance in
-    let first = lists_same held names.initial initial is.start_named is.tables i is.a0 a0 is.accepts.initial
-    accepts.initial in
-    let second = role_same held names which told is.named is.tables i _ _
-    (accepted_list held names which is.tables is.a0 is.a is.accepts) (accepted_list held names which i a0 a accepts) in
-    not_broken is.tables i is.a0 a0 (of_role which is.a0 is.a) (of_role which a0 a) cause same first second
-    (first_breaks is.tables is.a0 is.a which cause is.breaks) feasible
+  module _ (name : List ℕ) where
+    pub no_model : IsSome (held name) → (fault : ModelFault) →
+        ModelRefused held name fault → (i : Tables) → ModelIs held name i → ⊥
+    no_model told fault refused i read =
+        told_gives ⊥ (λ bytes. model_refusal bytes ≡ Some fault) (λ bytes. IsModel bytes i) _ told
+        (λ bytes some is. refused_not _ fault (model_accepted bytes i is) some) refused.refused read
+
+    models_same : IsSome (held name) → (i j : Tables) → ModelIs held name i → ModelIs held name j → bare i ≡ bare j
+    models_same told i j one two = told_gives _ (λ bytes. IsModel bytes i)
+        (λ bytes. IsModel bytes j) _ told (λ bytes p q. model_one bytes i j p q) one two
+
+    module _ (named : Option (List ℕ)) (model : IsSome (held name)) (told : Told held named) where
+      pub instances_same : (i j : Tables) → InstanceIs held name named i → InstanceIs held name named j →
+          bare i ≡ bare j
+      instances_same i j one two =
+          closing_same named told one.model two.model i j
+          (models_same model one.model two.model one.read two.read) one.closed two.closed
+
+      pub no_closed : (fault : ClosedFault) → ClosedRefused held name named fault → (i : Tables) →
+          InstanceIs held name named i → ⊥
+      no_closed fault refused i instance =
+          let same = models_same model refused.model instance.model refused.read instance.read in
+          let closing = subst (λ (o : Option (List ℕ)). CloseIs held o instance.model i) refused.named instance.closed in
+          told_gives ⊥ (λ bytes. closed_refusal bytes refused.model ≡ Some fault)
+          (λ bytes. IsClosedOf bytes instance.model closing.0.items) _ (told refused.name refused.named)
+          (λ bytes some is. refused_not _ fault (closed_same bytes refused.model instance.model same
+          ∙ (closed_accepts bytes instance.model).1 is.file) some) refused.refused closing.2
+
+  no_list : (named : Option (List ℕ)) → Told held named → IsSome named → (i j : Tables) → bare i ≡ bare j →
+      (fault : AssignFault) → ListRefused held (unwrap_or named []) i fault → (a : List Machine) →
+      NamedListIs held named j a → ⊥
+  no_list None told some i j same fault refused a list = absurd (cc)
+  no_list (Some name) told some i j same fault refused a list =
+      told_gives ⊥ (λ bytes. assign_refusal bytes i ≡ Some fault) (λ bytes. IsAssignmentOf bytes j a) _
+      (told name refl)
+      (λ bytes some assigned. refused_not _ fault (assign_same bytes i j same ∙
+      (assign_accepts bytes j).1 assigned.file)
+      some) refused.refused list
+
+  pub lists_same : (named : Option (List ℕ)) → Told held named → IsSome named →
+      (i j : Tables) (a b : List Machine) → NamedListIs held named i a → NamedListIs held named j b → a ≡ b
+  lists_same None told some i j a b one two = absurd (cc)
+  lists_same (Some name) told some i j a b one two = told_gives (a ≡ b) (λ bytes. IsAssignmentOf bytes i a)
+      (λ bytes. IsAssignmentOf bytes j b) _ (told name refl) (λ bytes p q. p.machines ∙ sym q.machines) one two
+
+  module _ (names : Names) where
+    pub accepted_list : (which : Role) (i : Tables) (a0 a : List Machine) →
+        Accepts held names i a0 a → NamedListIs held (list_in names which) i (of_role which a0 a)
+    accepted_list role.Initial i a0 a accepts = accepts.initial
+    accepted_list role.Changed i a0 a accepts = accepts.changed
+
+    pub no_role : (which : Role) → IsSome (held names.model) → Told held names.closed →
+        Told held (list_in names which) → (fault : AssignFault) → RoleRefused held names which fault →
+        (i : Tables) (a : List Machine) → InstanceIs held names.model names.closed i →
+        NamedListIs held (list_in names which) i a → ⊥
+    unfolding name_of
+    no_role role.Initial model closed told fault refused i a instance list =
+        no_list names.initial told refused.named refused.tables i
+        (instances_same names.model names.closed model closed refused.tables i refused.instance instance) fault
+        refused.refused a list
+    no_role role.Changed model closed told fault refused i a instance list =
+        no_list names.changed told refused.named refused.tables i
+        (instances_same names.model names.closed model closed refused.tables i refused.instance instance) fault
+        refused.refused a list
+
+    role_same : (which : Role) → Told held (list_in names which) → IsNamed names (file_of which) →
+        (i j : Tables) (a b : List Machine) → NamedListIs held (list_in names which) i a →
+        NamedListIs held (list_in names which) j b → a ≡ b
+    role_same role.Initial = lists_same names.initial
+    role_same role.Changed = lists_same names.changed
+
+    pub no_break : (which : Role) → IsSome (held names.model) → Told held names.closed → Told held names.initial →
+        Told held (list_in names which) → (cause : Cause) → RoleBreaks held names which cause →
+        (i : Tables) (a0 a : List Machine) → Accepts held names i a0 a → Feasible i a0 (of_role which a0 a) → ⊥
+    no_break which model closed initial told cause is i a0 a accepts feasible =
+        let same = instances_same names.model names.closed model closed is.tables i is.accepts.instance
+        accepts.instance in
+        let first = lists_same names.initial initial is.start_named is.tables i is.a0 a0 is.accepts.initial
+        accepts.initial in
+        let second = role_same which told is.named is.tables i _ _
+        (accepted_list which is.tables is.a0 is.a is.accepts) (accepted_list which i a0 a accepts) in
+        not_broken is.tables i is.a0 a0 _ _ cause same first second
+        (first_breaks is.tables is.a0 is.a which cause is.breaks) feasible

@@ -1,5 +1,5 @@
 -- What is printed of the tries of a repair, and when its statuses come.
-use Rattle.std.proofs.Common.{◌≡◌, ◌≢◌, ◌⊎◌, ℕ, false, List, [], ◌∷◌, length, Option, Some, None, IsSome, Result, Ok, Err, OnOk, IfErr, inl, inr, ⊎_elim, refl, sym, ap, ◌∙◌, subst, arith}
+use Rattle.std.proofs.Common.{◌≡◌, ◌≢◌, ◌⊎◌, ℕ, List, [], ◌∷◌, length, Option, Some, None, IsSome, Result, inl, inr, ⊎_elim, refl, sym, ap, ◌∙◌, subst, arith}
 use Rattle.ra_base.specs.declared.causes.Cause.{Cause}
 use Rattle.ra_base.specs.Listed.{Listed}
 use Rattle.ra_base.specs.declared.ids.Machine.{Machine}
@@ -24,7 +24,7 @@ use Rattle.ra_report.specs.RepairTexts.{text_of_repair, repair_lines}
 use Rattle.ra_io.specs.Outside.{Reading, Took}
 use Rattle.ra_jobs.specs.declared.refusals.File.TheVariants as file
 use Rattle.ra_jobs.specs.declared.refusals.Refusal.{Refusal}
-use Rattle.ra_jobs.specs.declared.refusals.Refusal.TheVariants.{Read, Model, Closed, Assign, Broken, Unrepaired as Left, Write, Memory}
+use Rattle.ra_jobs.specs.declared.refusals.Refusal.TheVariants.{Broken, Unrepaired as Left, Write, Memory}
 use Rattle.ra_jobs.specs.declared.refusals.Role.TheVariants as role
 use Rattle.ra_jobs.specs.declared.status.Status.{Status}
 use Rattle.ra_jobs.specs.declared.status.Status.TheVariants.{Done, Infeasible, Unrepaired, WriteFault, NoMemory}
@@ -39,7 +39,7 @@ use Rattle.ra_jobs.specs.Output.{Output, BrokeOff, Put}
 use Rattle.ra_jobs.specs.Repairing.{IsTried, RepairPrinted, RepairOwn, LeavesBroken, RepairComes, TryReason, repaired}
 use Rattle.ra_jobs.specs.Stages.{IsAcceptedStart}
 use Rattle.ra_jobs.specs.Statuses.{status_of}
-use Rattle.ra_jobs.proofs.CompleteLemmas.{is_done, complete_own, OwnRefused}
+use Rattle.ra_jobs.proofs.CompleteLemmas.{is_done, complete_own}
 use Rattle.ra_jobs.proofs.ComesLemmas.{Listed as AreListed, known_model, own_known, told_closed, told_role}
 use Rattle.ra_jobs.proofs.EndLemmas.{Ends, EndsOver, finished, left_so}
 use Rattle.ra_jobs.proofs.DoesLemmas.{does_so, does_more, memory_refused}
@@ -95,209 +95,225 @@ pub run_tried : (inst : Instance) (start a : Listed Machine) (lot : Lot) (r : Re
     (found ≡ None → Feasible inst.tables start.items a.items) → found ≡ broken → sent (text_of_repair r) →
     IsTried inst.tables start.items lot broken sent
 run_tried inst start a lot r found broken sent repaired instance initial of_lot last first feasible is text =
-    let i : r.inst.now.tables ≡ inst.tables = ap (λ (x : Instance). x.tables) instance in
-    let items : a.items ≡ r.kept.assignment.items = ap (λ (x : Listed Machine). x.items) last in
+    let i : r.inst.now.tables ≡ inst.tables = rw instance in
+    let items : a.items ≡ r.kept.assignment.items = rw last in
     tried inst.tables start.items lot r broken sent inst.well_formed repaired i
-    (ap (λ (x : Listed Machine). x.items) initial) of_lot
-    (subst (λ t. IsAssignment t r.kept.assignment.items) i r.keeps.stands.fits)
+    (rw initial) of_lot
+    (rw (← i) r.keeps.stands.fits)
     (sym is ∙ (first ∙ ap (first_broken inst.tables start.items) items))
-    (λ none. subst (Feasible inst.tables start.items) items (feasible (is ∙ none)))
+    (λ none. rw (← items) (feasible (is ∙ none)))
     text
 
 -- one lot of a run
 
 single : (lots : List Lot) (lot : Lot) → length lots ≡ 1 → lot ≡ lot_at lots 0 → lots ≡ lot ∷ []
 unfolding lot_at
-single [] lot one is = absurd (omega arith)
 single (only ∷ []) lot one is = rw is refl
-single (first ∷ second ∷ rest) lot one is = absurd (omega arith)
+single lots lot one is = absurd (omega arith)
 
-pub one_lot : (l : Lots) (lot : Lot) → length l.lots.items ≡ 1 → lot ≡ lot_at l.lots.items 0 → l.lots.items ≡ lot ∷ []
-one_lot l lot one is = single l.lots.items lot one is
+module _ (l : Lots) (lot : Lot) (one : length l.lots.items ≡ 1) (is : lot ≡ lot_at l.lots.items 0) where
+  pub one_lot : l.lots.items ≡ lot ∷ []
+  one_lot = single l.lots.items lot one is
 
-pub lot_alone : (l : Lots) (lot : Lot) → length l.lots.items ≡ 1 → lot ≡ lot_at l.lots.items 0 → IsLots (lot ∷ [])
-lot_alone l lot one is = subst IsLots (one_lot l lot one is) l.fitting
+  pub lot_alone : IsLots (lot ∷ [])
+  lot_alone = rw (← one_lot) l.fitting
 
--- what is said of the files
+module _ (held : Held) (names : Names) where
+  module _ (l : Lots) where
+    module _ (i : Tables) (a0 : List Machine) (lot : Lot) where
+      -- what is said of the files
 
-pub tried_all : (held : Held) (names : Names) (l : Lots) (i : Tables) (a0 : List Machine) (lot : Lot)
-    (broken : Option Cause) (sent : List ℕ → Type 0) → IsAcceptedStart held names i a0 → l.lots.items ≡ lot ∷ [] →
-    IsTried i a0 lot broken sent → RepairPrinted held names l broken sent
-tried_all held names l i a0 lot broken sent start one is = record {
-  tables = i;
-  a0 = a0;
-  accepts = start.accepts;
-  lot = lot;
-  one = one;
-  run = is;
-}
+      pub tried_all : (broken : Option Cause) (sent : List ℕ → Type 0) → IsAcceptedStart held names i a0 →
+          l.lots.items ≡ lot ∷ [] → IsTried i a0 lot broken sent → RepairPrinted held names l broken sent
+      tried_all broken sent start one is = record {
+        tables = i;
+        a0 = a0;
+        accepts = start.accepts;
+        lot = lot;
+        one = one;
+        run = is;
+      }
 
-pub reason_try : (held : Held) (names : Names) (l : Lots) (i : Tables) (a0 : List Machine) (lot : Lot)
-    (before now : Faults) (prints breaks : List ℕ → Type 0) → IsAcceptedStart held names i a0 →
-    l.lots.items ≡ lot ∷ [] → (refusal : Refusal) → TryReason i a0 lot prints breaks refusal →
-    Reason held names before now (RepairOwn held names l prints breaks) refusal
-reason_try held names l i a0 lot before now prints breaks start one (Left cause) reason =
-    tried_all held names l i a0 lot (Some cause) prints start one reason
-reason_try held names l i a0 lot before now prints breaks start one Write reason =
-    (reason.0, tried_all held names l i a0 lot reason.0 breaks start one reason.1)
-reason_try held names l i a0 lot before now prints breaks start one Memory reason = tt
-reason_try held names l i a0 lot before now prints breaks start one refusal reason = absurd reason
+      module _ (before now : Faults) (prints breaks : List ℕ → Type 0) (start : IsAcceptedStart held names i a0)
+          (one : l.lots.items ≡ lot ∷ []) where
+        pub reason_try : (refusal : Refusal) → TryReason i a0 lot prints breaks refusal →
+            Reason held names before now (RepairOwn held names l prints breaks) refusal
+        reason_try (Left cause) reason =
+            tried_all _ prints start one reason
+        reason_try Write reason =
+            (reason.0, tried_all reason.0 breaks start one reason.1)
+        reason_try Memory reason = tt
+        reason_try refusal reason = absurd reason
 
-pub tried_listed : (held : Held) (names : Names) (l : Lots) (broken : Option Cause) (sent : List ℕ → Type 0) →
-    RepairPrinted held names l broken sent → AreListed held names
-tried_listed held names l broken sent is = record { tables = is.tables; a0 = is.a0; a = is.a0; accepts = is.accepts }
+    pub tried_listed : (broken : Option Cause) (sent : List ℕ → Type 0) →
+        RepairPrinted held names l broken sent → AreListed held names
+    tried_listed broken sent is = record { tables = is.tables; a0 = is.a0; a = is.a0; accepts = is.accepts }
 
-pub own_listed : (held : Held) (names : Names) (l : Lots) (prints breaks : List ℕ → Type 0) (r : Refusal) →
-    RepairOwn held names l prints breaks r → AreListed held names
-own_listed held names l prints breaks (Left cause) reason = tried_listed held names l (Some cause) prints reason
-own_listed held names l prints breaks Write reason = tried_listed held names l reason.0 breaks reason.1
-own_listed held names l prints breaks refusal reason = absurd reason
+    module _ (prints breaks : List ℕ → Type 0) where
+      pub own_listed : (r : Refusal) → RepairOwn held names l prints breaks r → AreListed held names
+      own_listed (Left cause) reason = tried_listed _ prints reason
+      own_listed Write reason = tried_listed reason.0 breaks reason.1
+      own_listed refusal reason = absurd reason
 
-pub own_tells : (held : Held) (names : Names) (l : Lots) (prints breaks : List ℕ → Type 0) → IsSome names.initial →
-    (r : Refusal) → RepairOwn held names l prints breaks r → CanTell names r
-own_tells held names l prints breaks named (Left cause) reason = named
-own_tells held names l prints breaks named Write reason = tt
-own_tells held names l prints breaks named refusal reason = absurd reason
+      pub own_tells : IsSome names.initial → (r : Refusal) → RepairOwn held names l prints breaks r → CanTell names r
+      own_tells named (Left cause) reason = named
+      own_tells named Write reason = tt
+      own_tells named refusal reason = absurd reason
 
--- its own refusals, and their statuses
-own_wrote : (held : Held) (names : Names) (l : Lots) (prints breaks : List ℕ → Type 0) →
-    ((text : List ℕ) → breaks text → ⊥) → (r : Refusal) → RepairOwn held names l prints breaks r →
-    status_of r ≡ Unrepaired
-unfolding status_of
-own_wrote held names l prints breaks wrote (Left cause) reason = refl
-own_wrote held names l prints breaks wrote Write reason = absurd (wrote _ reason.1.run.text)
-own_wrote held names l prints breaks wrote refusal reason = absurd reason
+      -- its own refusals, and their statuses
+      own_wrote : ((text : List ℕ) → breaks text → ⊥) → (r : Refusal) → RepairOwn held names l prints breaks r →
+          status_of r ≡ Unrepaired
+      unfolding status_of
+      own_wrote wrote (Left cause) reason = refl
+      own_wrote wrote Write reason = absurd (wrote _ reason.1.run.text)
+      own_wrote wrote refusal reason = absurd reason
 
-pub complete_repair : {held : Held} {names : Names} {before now : Faults} {l : Lots} {prints breaks : List ℕ → Type 0}
-    {printed : Type 0} {tells : List ℕ → Type 0} {out_same err_same : Type 0} {status : Status} →
-    Ends held names before now printed (RepairOwn held names l prints breaks) tells out_same err_same status →
-    AreAccepted held names → NoFault names before now → ((text : List ℕ) → breaks text → ⊥) → (status ≡ Done)
-    ⊎ ((status ≡ Unrepaired) ⊎ (status ≡ NoMemory))
-complete_repair {held} {names} {before} {now} {l} {prints} {breaks} {printed} {tells} {out_same} {err_same} {status}
-    ends valid sound wrote = ⊎_elim
-    (λ (done : status ≡ Done). inl done)
-    (λ (other : (status ≡ NoMemory) ⊎ OwnRefused (RepairOwn held names l prints breaks) status). inr (⊎_elim
-    (λ (memory : status ≡ NoMemory). inr memory)
-    (λ (refused : OwnRefused (RepairOwn held names l prints breaks) status).
-    inl (refused.is ∙ own_wrote held names l prints breaks wrote refused.refusal refused.reason))
-    other))
-    (complete_own ends valid sound)
+      own_case : (status : Status) (refusal : Refusal) → status ≡ status_of refusal →
+          RepairOwn held names l prints breaks refusal →
+          ((cause : Cause) × RepairPrinted held names l (Some cause) prints × (status ≡ Unrepaired)) ⊎
+          ((status ≡ WriteFault) ⊎ (status ≡ NoMemory))
+      unfolding status_of
+      own_case status (Left cause) is reason = inl (cause, reason, is)
+      own_case status Write is reason = inr (inl is)
+      own_case status refusal is reason = absurd reason
 
--- with the causes of its own statuses
+      -- a refusal of the job's own over known files: the last list broke a constraint, or a put failed
+      own_ends : (status : Status) (refusal : Refusal) → status ≡ status_of refusal →
+          RepairOwn held names l prints breaks refusal ⊎ (status_of refusal ≡ NoMemory) →
+          ((cause : Cause) × RepairPrinted held names l (Some cause) prints × (status ≡ Unrepaired)) ⊎
+          ((status ≡ WriteFault) ⊎ (status ≡ NoMemory))
+      own_ends status refusal is reason = ⊎_elim
+          (λ own. own_case status refusal is own)
+          (λ memory. inr (inr (is ∙ memory)))
+          reason
 
-said : (held : Held) (names : Names) (l : Lots) (broken : Option Cause) (sent : List ℕ → Type 0) →
-    RepairPrinted held names l broken sent → RepairPrinted held names l broken (λ text. Unit {0})
-said held names l broken sent is = record {
-  tables = is.tables;
-  a0 = is.a0;
-  accepts = is.accepts;
-  lot = is.lot;
-  one = is.one;
-  run = record { is = is.run.is; feasible = is.run.feasible; tried = is.run.tried; text = tt };
-}
+    -- with the causes of its own statuses
 
--- what a run leaves broken is what a run from each instance that the files mean leaves
-broken_left : (held : Held) (names : Names) (before now : Faults) (l : Lots) (left broken : Option Cause)
-    (sent : List ℕ → Type 0) (i : Tables) (a0 : List Machine) → IsSome names.initial → Accepts held names i a0 a0 →
-    KnownTo held names before now file.Initial → RepairPrinted held names l broken sent → LeavesBroken i a0 l left →
-    broken ≡ left
-broken_left held names before now l left broken sent i a0 initial accepts known is leaves =
-    let same = instances_same held names.model names.closed (known_model held names before now file.Initial known)
-    (told_closed held names before now file.Initial refl known) is.tables i is.accepts.instance accepts.instance in
-    let start : is.a0 ≡ a0 = lists_same held names.initial
-    (told_role held names before now role.Initial file.Initial refl known) initial is.tables i is.a0 a0
-    is.accepts.initial accepts.initial in
-    sym is.run.is ∙ broken_same is.tables i is.a0 (repair_run is.tables is.a0 is.lot).assignment same
-    ∙ rw (repaired_same is.tables i same is.a0 is.lot, start) (leaves is.lot is.one)
-
-own_case : (held : Held) (names : Names) (l : Lots) (prints breaks : List ℕ → Type 0) (status : Status)
-    (refusal : Refusal) → status ≡ status_of refusal → RepairOwn held names l prints breaks refusal →
-    ((cause : Cause) × RepairPrinted held names l (Some cause) prints × (status ≡ Unrepaired))
-    ⊎ ((status ≡ WriteFault) ⊎ (status ≡ NoMemory))
-unfolding status_of
-own_case held names l prints breaks status (Left cause) is reason = inl (cause, reason, is)
-own_case held names l prints breaks status Write is reason = inr (inl is)
-own_case held names l prints breaks status refusal is reason = absurd reason
-
-own_infeasible : (held : Held) (names : Names) (before now : Faults) (l : Lots) (prints breaks : List ℕ → Type 0)
-    (refusal : Refusal) → Reason held names before now (RepairOwn held names l prints breaks) refusal →
-    status_of refusal ≢ Infeasible
-unfolding status_of
-own_infeasible held names before now l prints breaks (Broken which cause) reason e = reason
-own_infeasible held names before now l prints breaks refusal reason e =
-    absurd (let both : status_of refusal ≡ Infeasible = e in cc)
-
-own_unrepaired : (held : Held) (names : Names) (before now : Faults) (l : Lots) (prints breaks : List ℕ → Type 0)
-    (refusal : Refusal) → Reason held names before now (RepairOwn held names l prints breaks) refusal →
-    status_of refusal ≡ Unrepaired → (cause : Cause) × RepairPrinted held names l (Some cause) (λ text. Unit {0})
-unfolding status_of
-own_unrepaired held names before now l prints breaks (Left cause) reason e =
-    (cause, said held names l (Some cause) prints reason)
-own_unrepaired held names before now l prints breaks refusal reason e =
-    absurd (let both : status_of refusal ≡ Unrepaired = e in cc)
-
--- a refusal of the job's own over known files: the last list broke a constraint, or a put failed
-own_ends : (held : Held) (names : Names) (l : Lots) (prints breaks : List ℕ → Type 0) (status : Status)
-    (refusal : Refusal) → status ≡ status_of refusal → RepairOwn held names l prints breaks refusal
-    ⊎ (status_of refusal ≡ NoMemory) →
-    ((cause : Cause) × RepairPrinted held names l (Some cause) prints × (status ≡ Unrepaired))
-    ⊎ ((status ≡ WriteFault) ⊎ (status ≡ NoMemory))
-own_ends held names l prints breaks status refusal is reason = ⊎_elim
-    (λ (own : RepairOwn held names l prints breaks refusal). own_case held names l prints breaks status refusal is own)
-    (λ (memory : status_of refusal ≡ NoMemory). inr (inr (is ∙ memory)))
-    reason
-
-pub repair_comes : {held : Held} {names : Names} {before now : Faults} {l : Lots} {prints breaks : List ℕ → Type 0}
-    {tells : List ℕ → Type 0} {out_same err_same : Type 0} {status : Status} → IsSome names.initial →
-    EndsAt names file.Initial →
-    Ends held names before now (RepairPrinted held names l None prints) (RepairOwn held names l prints breaks) tells
-    out_same err_same status → RepairComes held names (λ k. k ≡ l) before now status
-repair_comes {held} {names} {before} {now} {l} {prints} {breaks} {tells} {out_same} {err_same} {status} initial last
-    ends =
-    let own = RepairOwn held names l prints breaks in
-    record {
-      never_infeasible =
-          λ e. let refused = ends.refused (λ (done : status ≡ Done). let both : Done ≡ Infeasible = sym done ∙ e in
-          cc) in own_infeasible held names before now l prints breaks refused.refusal refused.reason
-          (sym refused.is ∙ e);
-      unrepaired = λ e. let refused = ends.refused (λ (done : status ≡ Done). let both : Done ≡ Unrepaired = sym done
-          ∙ e in cc) in (
-            l,
-            refl,
-            own_unrepaired held names before now l prints breaks refused.refusal refused.reason
-                (sym refused.is ∙ e),
-          );
-      stays = λ i a0 accepts known cause leaves. ⊎_elim
-          (λ (done : status ≡ Done).
-          absurd (let both = broken_left held names before now l (Some cause) None prints i a0
-          initial accepts known (ends.printed done) (leaves l refl) in cc))
-          (λ (other : status ≢ Done).
-          let refused = ends.refused other in
-          ⊎_elim
-          (λ (left : (c : Cause) × RepairPrinted held names l (Some c) prints × (status ≡ Unrepaired)). inl left.2)
-          (λ (rest : (status ≡ WriteFault) ⊎ (status ≡ NoMemory)). inr rest)
-          (own_ends held names l prints breaks status refused.refusal refused.is
-          (own_known held names before now own file.Initial known (λ f named _. last f named)
-          (record { tables = i; a0 = a0; a = a0; accepts = accepts }) refused.refusal refused.reason)))
-          (is_done status);
-      is_repaired = λ i a0 accepts known leaves. ⊎_elim
-          (λ (done : status ≡ Done). inl done)
-          (λ (other : status ≢ Done).
-          let refused = ends.refused other in
-          ⊎_elim
-          (λ (left : (c : Cause) × RepairPrinted held names l (Some c) prints × (status ≡ Unrepaired)).
-          absurd (let both = broken_left held names before now l None (Some left.0) prints i a0
-          initial accepts known left.1 (leaves l refl) in cc))
-          (λ (rest : (status ≡ WriteFault) ⊎ (status ≡ NoMemory)). inr rest)
-          (own_ends held names l prints breaks status refused.refusal refused.is
-          (own_known held names before now own file.Initial known (λ f named _. last f named)
-          (record { tables = i; a0 = a0; a = a0; accepts = accepts }) refused.refusal refused.reason)))
-          (is_done status);
+    said : (broken : Option Cause) (sent : List ℕ → Type 0) →
+        RepairPrinted held names l broken sent → RepairPrinted held names l broken (λ text. Unit {0})
+    said broken sent is = record {
+      tables = is.tables;
+      a0 = is.a0;
+      accepts = is.accepts;
+      lot = is.lot;
+      one = is.one;
+      run = record { is = is.run.is; feasible = is.run.feasible; tried = is.run.tried; text = tt };
     }
+
+  -- what a run leaves broken is what a run from each instance that the files mean leaves
+  broken_left : (before now : Faults) (l : Lots) (left broken : Option Cause) (sent : List ℕ → Type 0) (i : Tables)
+      (a0 : List Machine) → IsSome names.initial → Accepts held names i a0 a0 →
+      KnownTo held names before now file.Initial → RepairPrinted held names l broken sent → LeavesBroken i a0 l left →
+      broken ≡ left
+  broken_left before now l left broken sent i a0 initial accepts known is leaves =
+      let same = instances_same held names.model names.closed (known_model held names before now file.Initial known)
+      (told_closed held names before now file.Initial refl known) is.tables i is.accepts.instance accepts.instance in
+      let start = lists_same held names.initial
+      (told_role held names before now role.Initial file.Initial refl known) initial is.tables i is.a0 a0
+      is.accepts.initial accepts.initial in
+      sym is.run.is ∙ broken_same is.tables i is.a0 (repair_run is.tables is.a0 is.lot).assignment same
+      ∙ rw (repaired_same is.tables i same is.a0 is.lot, start) (leaves is.lot is.one)
+
+  module _ (before now : Faults) (l : Lots) (prints breaks : List ℕ → Type 0) where
+    own_infeasible : (refusal : Refusal) → Reason held names before now (RepairOwn held names l prints breaks) refusal →
+        status_of refusal ≢ Infeasible
+    unfolding status_of
+    own_infeasible (Broken which cause) reason e = reason
+    own_infeasible refusal reason e =
+        cc
+
+    own_unrepaired : (refusal : Refusal) → Reason held names before now (RepairOwn held names l prints breaks) refusal →
+        status_of refusal ≡ Unrepaired → (cause : Cause) × RepairPrinted held names l (Some cause) (λ text. Unit {0})
+    unfolding status_of
+    own_unrepaired (Left cause) reason e =
+        (cause, said l (Some cause) prints reason)
+    own_unrepaired refusal reason e =
+        absurd (let both : status_of refusal ≡ Unrepaired = e in cc)
+
+  -- for other words of the lots
+  pub repair_more : (asked more : Lots → Type 0) (before now : Faults) (status : Status) → ((l : Lots) → asked l →
+      more l) → RepairComes held names asked before now status → RepairComes held names more before now status
+  repair_more asked more before now status step v = record {
+    never_infeasible = v.never_infeasible;
+    unrepaired = λ told. let w = v.unrepaired told in (w.0, step w.0 w.1, w.2);
+    stays = λ i a0 accepts known cause broken. v.stays i a0 accepts known cause (λ l is. broken l (step l is));
+    is_repaired = λ i a0 accepts known broken. v.is_repaired i a0 accepts known (λ l is. broken l (step l is));
+  }
+
+  -- if memory was refused before the words were read
+  pub repair_not : (asked : Lots → Type 0) (before now : Faults) (status : Status) →
+      status ≡ NoMemory → RepairComes held names asked before now status
+  repair_not asked before now status is = record {
+    never_infeasible = λ e. cc;
+    unrepaired = λ told. cc;
+    stays = λ i a0 accepts known cause broken. inr (inr is);
+    is_repaired = λ i a0 accepts known broken. inr (inr is);
+  }
+
+module _ {held : Held} {names : Names} {before now : Faults} {l : Lots} {prints breaks : List ℕ → Type 0} where
+  pub complete_repair : {printed : Type 0} {tells : List ℕ → Type 0} {out_same err_same : Type 0} {status : Status} →
+      Ends held names before now printed (RepairOwn held names l prints breaks) tells out_same err_same status →
+      AreAccepted held names → NoFault names before now → ((text : List ℕ) → breaks text → ⊥) → (status ≡ Done)
+      ⊎ ((status ≡ Unrepaired) ⊎ (status ≡ NoMemory))
+  complete_repair {printed} {tells} {out_same} {err_same} {status}
+      ends valid sound wrote = ⊎_elim
+      (λ done. inl done)
+      (λ other. inr (⊎_elim
+      (λ memory. inr memory)
+      (λ refused.
+      inl (refused.is ∙ own_wrote held names l prints breaks wrote refused.refusal refused.reason))
+      other))
+      (complete_own ends valid sound)
+
+  pub repair_comes : {tells : List ℕ → Type 0} {out_same err_same : Type 0} {status : Status} → IsSome names.initial →
+      EndsAt names file.Initial →
+      Ends held names before now (RepairPrinted held names l None prints) (RepairOwn held names l prints breaks) tells
+      out_same err_same status → RepairComes held names (λ k. k ≡ l) before now status
+  repair_comes {tells} {out_same} {err_same} {status} initial last
+      ends =
+      let own = RepairOwn held names l prints breaks in
+      record {
+        never_infeasible =
+            λ e. let refused = ends.refused (λ done. cc) in
+            own_infeasible held names before now l prints breaks refused.refusal refused.reason
+            (sym refused.is ∙ e);
+        unrepaired = λ e. let refused = ends.refused (λ done. cc) in (
+          l,
+          refl,
+          own_unrepaired held names before now l prints breaks refused.refusal refused.reason
+              (sym refused.is ∙ e),
+        );
+        stays = λ i a0 accepts known cause leaves. ⊎_elim
+            (λ done.
+            cc (broken_left held names before now l _ None prints i a0
+            initial accepts known (ends.printed done) (leaves l refl)))
+            (λ other.
+            let refused = ends.refused other in
+            ⊎_elim
+            (λ left. inl left.2)
+            (λ rest. inr rest)
+            (own_ends held names l prints breaks status refused.refusal refused.is
+            (own_known held names before now own file.Initial known (λ f named _. last f named)
+            (record { tables = i; a0 = a0; a = a0; accepts = accepts }) refused.refusal refused.reason)))
+            (is_done status);
+        is_repaired = λ i a0 accepts known leaves. ⊎_elim
+            (λ done. inl done)
+            (λ other.
+            let refused = ends.refused other in
+            ⊎_elim
+            (λ left.
+            cc (broken_left held names before now l None _ prints i a0
+            initial accepts known left.1 (leaves l refl)))
+            (λ rest. inr rest)
+            (own_ends held names l prints breaks status refused.refusal refused.is
+            (own_known held names before now own file.Initial known (λ f named _. last f named)
+            (record { tables = i; a0 = a0; a = a0; accepts = accepts }) refused.refusal refused.reason)))
+            (is_done status);
+      }
 
 -- what is said of some lots, of which there are these alone, is said of these
 pub of_these : {P : Lots → Type 0} (l : Lots) → (k : Lots) × (k ≡ l) × P k → P l
-of_these {P} l some = subst P some.1 some.2
+of_these {P} l some = rw (← some.1) some.2
 
 -- what the command of these lots does
 pub repair_so : (names : Names) (l : Lots) → IsSome names.initial → EndsAt names file.Initial → (files : Reading)
@@ -332,27 +348,6 @@ repair_so names l initial last files out err ended status tries finishes =
     (λ valid sound wrote. complete_repair exact valid sound (λ text broken. wrote broken.1))
     (left_so c files out err ended status tries finishes)
 
--- for other words of the lots
-pub repair_more : (held : Held) (names : Names) (asked more : Lots → Type 0) (before now : Faults) (status : Status) →
-    ((l : Lots) → asked l → more l) → RepairComes held names asked before now status →
-    RepairComes held names more before now status
-repair_more held names asked more before now status step v = record {
-  never_infeasible = v.never_infeasible;
-  unrepaired = λ told. let w = v.unrepaired told in (w.0, step w.0 w.1, w.2);
-  stays = λ i a0 accepts known cause broken. v.stays i a0 accepts known cause (λ l is. broken l (step l is));
-  is_repaired = λ i a0 accepts known broken. v.is_repaired i a0 accepts known (λ l is. broken l (step l is));
-}
-
--- if memory was refused before the words were read
-pub repair_not : (held : Held) (names : Names) (asked : Lots → Type 0) (before now : Faults) (status : Status) →
-    status ≡ NoMemory → RepairComes held names asked before now status
-repair_not held names asked before now status is = record {
-  never_infeasible = λ e. let both : NoMemory ≡ Infeasible = sym is ∙ e in cc;
-  unrepaired = λ told. absurd (let both : NoMemory ≡ Unrepaired = sym is ∙ told in cc);
-  stays = λ i a0 accepts known cause broken. inr (inr is);
-  is_repaired = λ i a0 accepts known broken. inr (inr is);
-}
-
 -- this holds of the whole command
 
 pub repair_command_more : (names : Names) (asked more : Lots → Type 0) (files : Reading) (out err : Output)
@@ -369,5 +364,5 @@ pub repair_memory : (names : Names) (asked : Lots → Type 0) (files : Reading) 
     status ≡ NoMemory → ((names : Names) → Put err.sink (refusal_line names Memory)) → out.same → Leaves files out err →
     Does (over (repaired names asked)) files out err status
 repair_memory names asked files out err status is line same leaves =
-    memory_refused (repaired names asked) files out err status is line same leaves
+    memory_refused _ files out err status is line same leaves
     (repair_not files.held names asked files.before files.after status is) (inr (inr is))

@@ -10,7 +10,7 @@ use Rattle.ra_model.specs.declared.raw.ProcessRow.{ProcessRow}
 use Rattle.ra_model.specs.declared.raw.RawInstance.{RawInstance}
 use Rattle.ra_model.specs.declared.raw.ResourceRow.{ResourceRow}
 use Rattle.ra_model.specs.declared.raw.ServiceRow.{ServiceRow}
-use Rattle.ra_model_read.specs.Lists.{ResourceNumbers, MachineNumbers, ServiceNumbers, ProcessNumbers, BalanceNumbers, Lists, of_resource, of_machine, service_numbers_of, of_process, of_balance, lists_of}
+use Rattle.ra_model_read.specs.Lists.{ResourceNumbers, ProcessNumbers, BalanceNumbers, Lists, of_resource, of_machine, service_numbers_of, of_process, of_balance, lists_of}
 
 -- a number of the model file
 abbrev pub Word : Type 0
@@ -53,8 +53,8 @@ bare_raw raw = raw_of raw.resources.items raw.machines.items raw.capacities.item
 -- a row is its numbers
 
 word_same : (x y : Word) → x.0 ≡ y.0 → x ≡ y
-word_same x y e = subst (λ (v : ℕ). (small : v < 2 ^ 32) → x ≡ (v, small)) e
-    (λ small. let same : IsProp (x.0 < 2 ^ 32) = hlevel props in ap (λ (p : x.0 < 2 ^ 32). (x.0, p)) (same x.1 small))
+word_same x y e = subst (λ v. (small : v < 2 ^ 32) → x ≡ (v, small)) e
+    (λ small. let same : IsProp (x.0 < 2 ^ 32) = hlevel props in rw (same x.1 small))
     y.1
 
 resource_of : Bool → Word → ResourceRow
@@ -88,9 +88,9 @@ machine_same : (x y : MachineRow) → of_machine x ≡ of_machine y → x ≡ y
 machine_same x y e = machine_is x
     ∙ rw (
       word_same (x.neighbourhood, x.small_neighbourhood) (y.neighbourhood, y.small_neighbourhood)
-          (ap (λ (n : MachineNumbers). n.neighbourhood) e),
+          (ap (λ n. n.neighbourhood) e),
       word_same (x.location, x.small_location) (y.location, y.small_location)
-          (ap (λ (n : MachineNumbers). n.location) e),
+          (ap (λ n. n.location) e),
     ) refl ∙ sym (machine_is y)
 
 service_of : Word → Word → ServiceRow
@@ -109,9 +109,9 @@ service_same : (x y : ServiceRow) → service_numbers_of x ≡ service_numbers_o
 service_same x y e = service_is x
     ∙ rw (
       word_same (x.spread_min, x.small_spread) (y.spread_min, y.small_spread)
-          (ap (λ (n : ServiceNumbers). n.spread_min) e),
+          (ap (λ n. n.spread_min) e),
       word_same (x.dependency_end, x.small_end)
-          (y.dependency_end, y.small_end) (ap (λ (n : ServiceNumbers). n.dependency_end) e),
+          (y.dependency_end, y.small_end) (ap (λ n. n.dependency_end) e),
     ) refl ∙ sym (service_is y)
 
 process_of : Service → Word → ProcessRow

@@ -31,126 +31,123 @@ pub total_agrees : (n : ℕ) (test : ℕ → Bool) (old_one new_one old_other ne
     total n new_one + total n old_other ≡ total n new_other + total n old_one
 total_agrees n test old_one new_one old_other new_other one_kept other_kept old_same new_same =
     total_balance n new_one old_other new_other old_one (λ k within. ⊎_elim
-    (λ (yes : test k ≡ true). omega (arith, old_same k yes, new_same k yes))
-    (λ (no : test k ≡ false). omega (arith, one_kept k no, other_kept k no))
+    (λ yes. omega (arith, old_same k yes, new_same k yes))
+    (λ no. omega (arith, one_kept k no, other_kept k no))
     (cases_Bool (test k)))
-
--- the costs of one machine
-
--- on a machine that is not an end they stay
-pub load_stays : (i : Tables) (a : List Machine) (steps : List Step) (m : ℕ) → IsMove i a steps →
-    touches_machine steps m ≡ false → machine_load i (applied a steps) m ≡ machine_load i a m
-unfolding machine_load
-load_stays i a steps m move none =
-    row_load_same i m (use_of i (applied a steps) m) (use_of i a m) (λ r h. use_same i a steps m r move none)
-
-pub balance_stays : (i : Tables) (a : List Machine) (steps : List Step) (m : ℕ) → WellFormed i → IsMove i a steps →
-    touches_machine steps m ≡ false → machine_balance i (applied a steps) m ≡ machine_balance i a m
-unfolding machine_balance
-balance_stays i a steps m limits move none =
-    row_balance_same i m (use_of i (applied a steps) m) (use_of i a m) limits (λ r h. use_same i a steps m r move none)
-
--- if the machine holds the same processes, they are the same
-pub load_alike : (i : Tables) (a b : List Machine) (m : ℕ) → SameOn a b m → machine_load i a m ≡ machine_load i b m
-unfolding machine_load
-load_alike i a b m same = row_load_same i m (use_of i a m) (use_of i b m) (λ r h. use_alike i a b m r same)
-
-pub balance_alike : (i : Tables) (a b : List Machine) (m : ℕ) → WellFormed i → SameOn a b m →
-    machine_balance i a m ≡ machine_balance i b m
-unfolding machine_balance
-balance_alike i a b m limits same =
-    row_balance_same i m (use_of i a m) (use_of i b m) limits (λ r h. use_alike i a b m r same)
-
--- each part of the cost
-
-pub load_change : (i : Tables) (a b : List Machine) (steps : List Step) → IsMove i a steps → IsMove i b steps →
-    HeldAlike i steps a b → load_cost i (applied a steps) + load_cost i b ≡ load_cost i (applied b steps)
-    + load_cost i a
-load_change i a b steps one other alike =
-    let agrees = total_agrees (machine_count i) (touches_machine steps) (machine_load i a)
-    (machine_load i (applied a steps))
-    (machine_load i b) (machine_load i (applied b steps))
-    (λ m none. load_stays i a steps m one none)
-    (λ m none. load_stays i b steps m other none)
-    (λ m ends. load_alike i a b m (alike.machines m ends))
-    (λ m ends. load_alike i (applied a steps) (applied b steps) m
-    (same_on_after i a b steps m one other (alike.machines m ends))) in
-    omega (
-      arith,
-      agrees,
-      load_by_machine i a,
-      load_by_machine i b,
-      load_by_machine i (applied a steps),
-      load_by_machine i (applied b steps),
-    )
-
-pub balance_change : (i : Tables) (a b : List Machine) (steps : List Step) → WellFormed i → IsMove i a steps →
-    IsMove i b steps → HeldAlike i steps a b → balance_cost i (applied a steps) + balance_cost i b ≡
-    balance_cost i (applied b steps) + balance_cost i a
-balance_change i a b steps limits one other alike =
-    let agrees = total_agrees (machine_count i) (touches_machine steps) (machine_balance i a)
-    (machine_balance i (applied a steps)) (machine_balance i b) (machine_balance i (applied b steps))
-    (λ m none. balance_stays i a steps m limits one none)
-    (λ m none. balance_stays i b steps m limits other none)
-    (λ m ends. balance_alike i a b m limits (alike.machines m ends))
-    (λ m ends. balance_alike i (applied a steps) (applied b steps) m limits
-    (same_on_after i a b steps m one other (alike.machines m ends))) in
-    omega (
-      arith,
-      agrees,
-      balance_by_machine i a,
-      balance_by_machine i b,
-      balance_by_machine i (applied a steps),
-      balance_by_machine i (applied b steps),
-    )
-
--- any sum over the processes
-pub tally_change : (i : Tables) (a b : List Machine) (steps : List Step) (f : ℕ → ℕ → ℕ) → IsMove i a steps →
-    IsMove i b steps → tally (process_count i) f (applied a steps) + tally (process_count i) f b ≡
-    tally (process_count i) f (applied b steps) + tally (process_count i) f a
-tally_change i a b steps f one other = omega (arith, tally_applied i a steps f one, tally_applied i b steps f other)
 
 weighed : (w x u y v : ℕ) → x + u ≡ y + v → w * x + w * u ≡ w * y + w * v
 weighed w x u y v same = sym (mul-add w x u) ∙ ap (λ t. w * t) same ∙ mul-add w y v
 
-pub process_change : (i : Tables) (a0 a b : List Machine) (steps : List Step) → IsMove i a steps → IsMove i b steps →
-    process_cost i a0 (applied a steps) + process_cost i a0 b ≡ process_cost i a0 (applied b steps)
-    + process_cost i a0 a
-unfolding process_cost
-process_change i a0 a b steps one other =
-    weighed (process_weight_of i) _ _ _ _ (tally_change i a b steps (process_share i a0) one other)
+module _ (i : Tables) where
+  module _ (a : List Machine) (steps : List Step) (m : ℕ) where
+    -- the costs of one machine
+    -- on a machine that is not an end they stay
+    pub load_stays : IsMove i a steps →
+        touches_machine steps m ≡ false → machine_load i (applied a steps) m ≡ machine_load i a m
+    unfolding machine_load
+    load_stays move none =
+        row_load_same i m _ _ (λ r h. use_same i a steps m r move none)
 
-pub machine_change : (i : Tables) (a0 a b : List Machine) (steps : List Step) → IsMove i a steps → IsMove i b steps →
-    machine_cost i a0 (applied a steps) + machine_cost i a0 b ≡ machine_cost i a0 (applied b steps)
-    + machine_cost i a0 a
-unfolding machine_cost
-machine_change i a0 a b steps one other =
-    weighed (machine_weight_of i) _ _ _ _ (tally_change i a b steps (way_share i a0) one other)
+    pub balance_stays : WellFormed i → IsMove i a steps →
+        touches_machine steps m ≡ false → machine_balance i (applied a steps) m ≡ machine_balance i a m
+    unfolding machine_balance
+    balance_stays limits move none =
+        row_balance_same i m _ _ limits (λ r h. use_same i a steps m r move none)
 
--- all four together
+  -- if the machine holds the same processes, they are the same
+  pub load_alike : (a b : List Machine) (m : ℕ) → SameOn a b m → machine_load i a m ≡ machine_load i b m
+  unfolding machine_load
+  load_alike a b m same = row_load_same i m _ _ (λ r h. use_alike i a b m r same)
 
-pub local_balance : (i : Tables) (a0 a b : List Machine) (steps : List Step) → WellFormed i → IsMove i a steps →
-    IsMove i b steps → HeldAlike i steps a b → local_cost (situation i a0 (applied a steps))
-    + local_cost (situation i a0 b) ≡
-    local_cost (situation i a0 (applied b steps)) + local_cost (situation i a0 a)
-unfolding local_cost
-local_balance i a0 a b steps limits one other alike =
-    omega (
-      arith,
-      load_change i a b steps one other alike,
-      balance_change i a b steps limits one other alike,
-      process_change i a0 a b steps one other,
-      machine_change i a0 a b steps one other,
-    )
+  pub balance_alike : (a b : List Machine) (m : ℕ) → WellFormed i → SameOn a b m →
+      machine_balance i a m ≡ machine_balance i b m
+  unfolding machine_balance
+  balance_alike a b m limits same =
+      row_balance_same i m (use_of i a m) (use_of i b m) limits (λ r h. use_alike i a b m r same)
 
-pub change_same : (i : Tables) (a0 a b : List Machine) (steps : List Step) → WellFormed i → IsMove i a steps →
-    IsMove i b steps → HeldAlike i steps a b → local_change (situation i a0 a) steps ≡ local_change (situation i a0 b)
-    steps
-unfolding local_change
-change_same i a0 a b steps limits one other alike = signed (local_cost (situation i a0 (applied a steps)))
-    (local_cost (situation i a0 a))
-    (local_cost (situation i a0 (applied b steps))) (local_cost (situation i a0 b))
-    (local_balance i a0 a b steps limits one other alike)
-  where
-    signed : (x u y v : ℕ) → x + v ≡ y + u → (pos x -ℤ pos u) ≡ (pos y -ℤ pos v)
-    signed x u y v same = omega (arith, ints)
+  module _ (a b : List Machine) (steps : List Step) where
+    -- each part of the cost
+    pub load_change : IsMove i a steps → IsMove i b steps → HeldAlike i steps a b →
+        load_cost i (applied a steps) + load_cost i b ≡ load_cost i (applied b steps) + load_cost i a
+    load_change one other alike =
+        let agrees = total_agrees (machine_count i) (touches_machine steps) (machine_load i a)
+        (machine_load i (applied a steps))
+        (machine_load i b) (machine_load i (applied b steps))
+        (λ m none. load_stays a steps m one none)
+        (λ m none. load_stays b steps m other none)
+        (λ m ends. load_alike a b m (alike.machines m ends))
+        (λ m ends. load_alike (applied a steps) (applied b steps) m
+        (same_on_after i a b steps m one other (alike.machines m ends))) in
+        omega (
+          arith,
+          agrees,
+          load_by_machine i a,
+          load_by_machine i b,
+          load_by_machine i (applied a steps),
+          load_by_machine i (applied b steps),
+        )
+
+    pub balance_change : WellFormed i → IsMove i a steps → IsMove i b steps → HeldAlike i steps a b →
+        balance_cost i (applied a steps) + balance_cost i b ≡ balance_cost i (applied b steps) + balance_cost i a
+    balance_change limits one other alike =
+        let agrees = total_agrees (machine_count i) (touches_machine steps) (machine_balance i a)
+        (machine_balance i (applied a steps)) (machine_balance i b) (machine_balance i (applied b steps))
+        (λ m none. balance_stays a steps m limits one none)
+        (λ m none. balance_stays b steps m limits other none)
+        (λ m ends. balance_alike a b m limits (alike.machines m ends))
+        (λ m ends. balance_alike (applied a steps) (applied b steps) m limits
+        (same_on_after i a b steps m one other (alike.machines m ends))) in
+        omega (
+          arith,
+          agrees,
+          balance_by_machine i a,
+          balance_by_machine i b,
+          balance_by_machine i (applied a steps),
+          balance_by_machine i (applied b steps),
+        )
+
+    -- any sum over the processes
+    pub tally_change : (f : ℕ → ℕ → ℕ) → IsMove i a steps →
+        IsMove i b steps → tally (process_count i) f (applied a steps) + tally (process_count i) f b ≡
+        tally (process_count i) f (applied b steps) + tally (process_count i) f a
+    tally_change f one other = omega (arith, tally_applied i a steps f one, tally_applied i b steps f other)
+
+  module _ (a0 a b : List Machine) (steps : List Step) where
+    pub process_change : IsMove i a steps → IsMove i b steps →
+        process_cost i a0 (applied a steps) + process_cost i a0 b ≡ process_cost i a0 (applied b steps)
+        + process_cost i a0 a
+    unfolding process_cost
+    process_change one other =
+        weighed (process_weight_of i) _ _ _ _ (tally_change a b steps (process_share i a0) one other)
+
+    pub machine_change : IsMove i a steps → IsMove i b steps →
+        machine_cost i a0 (applied a steps) + machine_cost i a0 b ≡ machine_cost i a0 (applied b steps)
+        + machine_cost i a0 a
+    unfolding machine_cost
+    machine_change one other =
+        weighed (machine_weight_of i) _ _ _ _ (tally_change a b steps (way_share i a0) one other)
+
+    module _ (limits : WellFormed i) (one : IsMove i a steps) (other : IsMove i b steps)
+        (alike : HeldAlike i steps a b) where
+      -- all four together
+      pub local_balance : local_cost (situation i a0 (applied a steps)) + local_cost (situation i a0 b) ≡ local_cost
+          (situation i a0 (applied b steps)) + local_cost (situation i a0 a)
+      unfolding local_cost
+      local_balance =
+          omega (
+            arith,
+            load_change a b steps one other alike,
+            balance_change a b steps limits one other alike,
+            process_change one other,
+            machine_change one other,
+          )
+
+      pub change_same : local_change (situation i a0 a) steps ≡ local_change (situation i a0 b) steps
+      unfolding local_change
+      change_same = signed (local_cost _)
+          (local_cost _)
+          (local_cost _) (local_cost _)
+          (local_balance)
+        where
+          signed : (x u y v : ℕ) → x + v ≡ y + u → (pos x -ℤ pos u) ≡ (pos y -ℤ pos v)
+          signed x u y v same = omega (arith, ints)

@@ -1,11 +1,9 @@
 -- Moved counts that are changed one after another by those of a weighing.
-use Rattle.std.proofs.Common.{◌≡◌, ◌≢◌, ℕ, ◌<◌, eqb, cond, List, length, get_or, set, Option, Some, None, refl, ap, ◌∙◌, ⊎_elim, arith, eq-eqb, ne_eqb, get_or-set_same, get_or-set_other}
+use Rattle.std.proofs.Common.{◌≡◌, ℕ, ◌<◌, List, length, get_or, set, Option, Some, None, refl, ap, ◌∙◌, ⊎_elim, arith, eq-eqb, ne_eqb, get_or-set_same, get_or-set_other}
 use Rattle.std.proofs.lemmas.Bool.{cases_eq}
 use Rattle.ra_base.specs.declared.costs.MovedCount.{MovedCount}
-use Rattle.ra_base.specs.declared.ids.Machine.{Machine}
-use Rattle.ra_model.specs.declared.raw.Tables.{Tables}
 use Rattle.ra_model.specs.Situations.{Situation}
-use Rattle.ra_moves.specs.Replacing.{after_move, applied}
+use Rattle.ra_moves.specs.Replacing.{after_move}
 use Rattle.ra_cells.specs.MovedCounts.{MovedCounts}
 use Rattle.ra_cells.specs.Replaced.{counted_after}
 use Rattle.ra_moves.specs.declared.steps.Step.{Step}
@@ -23,10 +21,10 @@ pub replaced : (counts new : List ℕ) (o : Option MovedCount) (c : MovedCount) 
     get_or new s 0 ≡ counted_after o (λ k. get_or counts k 0) s
 unfolding counted_after
 replaced counts new o c s is made there = rw (is, made) (⊎_elim
-    (λ (here : s ≡ c.service.0).
+    (λ here.
     rw (eq-eqb s c.service.0 here) (ap (λ k. get_or (set counts c.service.0 c.after) k 0) here
     ∙ get_or-set_same counts c.service.0 c.after 0 there))
-    (λ (apart : s ≢ c.service.0).
+    (λ apart.
     rw (ne_eqb s c.service.0 apart) (get_or-set_other counts c.service.0 s c.after 0 apart))
     (cases_eq s c.service.0))
 
@@ -45,7 +43,7 @@ pub record IsChangedBy (o : Option MovedCount) (old new : MovedCounts) : Type 0 
 counted_same : (o : Option MovedCount) (f g : ℕ → ℕ) (s : ℕ) → f s ≡ g s → counted_after o f s ≡ counted_after o g s
 unfolding counted_after
 counted_same None f g s same = same
-counted_same (Some c) f g s same = ap (λ x. cond (eqb s c.service.0) c.after x) same
+counted_same (Some c) f g s same = rw same
 
 -- all three of a weighing
 pub counts_changed : (st : Situation) (steps : List Step) (old one two new : MovedCounts)

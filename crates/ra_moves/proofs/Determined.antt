@@ -70,52 +70,50 @@ weighed_as None local other_local counts other_counts changes moved =
     weighed_whole local other_local counts other_counts changes moved
 weighed_as (Some cause) local other_local counts other_counts changes moved = refl
 
-weighed_same : (broken other_broken : Option Cause) (local other_local : ℤ)
-    (counts other_counts : ℕ → Option MovedCount) →
-    SameParts broken other_broken local other_local counts other_counts →
+weighed_same : (broken other_broken : Option Cause) (local other_local : ℤ) (counts other_counts : ℕ →
+    Option MovedCount) → SameParts broken other_broken local other_local counts other_counts →
     weighed_by broken local counts ≡ weighed_by other_broken other_local other_counts
 weighed_same broken other_broken local other_local counts other_counts same =
     ap (λ c. weighed_by c local counts) same.causes
     ∙ weighed_as other_broken local other_local counts other_counts same.changes same.moved
 
 -- a move that names a process twice is refused for that, and another is weighed
-unless_repeated : (repeated broken other_broken : Option Cause) (local other_local : ℤ)
-    (counts other_counts : ℕ → Option MovedCount) →
-    (repeated ≡ None → SameParts broken other_broken local other_local counts other_counts) →
-    weighed_by (or_else repeated broken) local counts ≡ weighed_by (or_else repeated other_broken) other_local
-    other_counts
+unless_repeated : (repeated broken other_broken : Option Cause) (local other_local : ℤ) (counts other_counts : ℕ →
+    Option MovedCount) → (repeated ≡ None → SameParts broken other_broken local other_local counts other_counts) →
+    weighed_by (or_else repeated broken) local counts ≡ weighed_by
+    (or_else repeated other_broken) other_local other_counts
 unfolding or_else weighed_by
 unless_repeated None broken other_broken local other_local counts other_counts same =
     weighed_same broken other_broken local other_local counts other_counts (same refl)
 unless_repeated (Some cause) broken other_broken local other_local counts other_counts same = refl
 
-pub both_move : (i : Tables) (a0 a b : List Machine) (steps : List Step) → IsOffered i a steps → IsOffered i b steps →
-    first_broken i a0 a ≡ None → first_broken i a0 b ≡ None → HeldAlike i steps a b → repeat_of steps ≡ None →
-    BothMove i a0 a b steps
-both_move i a0 a b steps one other one_fine other_fine alike once = record {
-  one = one once;
-  other = other once;
-  one_fine = fine_from_unbroken i a0 a one_fine;
-  other_fine = fine_from_unbroken i a0 b other_fine;
-  alike = alike;
-}
+module _ (i : Tables) (a0 a b : List Machine) (steps : List Step) where
+  pub both_move : IsOffered i a steps → IsOffered i b steps → first_broken i a0 a ≡ None → first_broken i a0 b ≡ None →
+      HeldAlike i steps a b → repeat_of steps ≡ None → BothMove i a0 a b steps
+  both_move one other one_fine other_fine alike once = record {
+    one = one once;
+    other = other once;
+    one_fine = fine_from_unbroken i a0 a one_fine;
+    other_fine = fine_from_unbroken i a0 b other_fine;
+    alike = alike;
+  }
 
-same_parts : (i : Tables) (a0 a b : List Machine) (steps : List Step) → WellFormed i → BothMove i a0 a b steps →
-    SameParts (or_else (same_of steps) (first_broken i a0 (applied a steps)))
-    (or_else (same_of steps) (first_broken i a0 (applied b steps))) (local_change (situation i a0 a) steps)
-    (local_change (situation i a0 b) steps) (changed_count (situation i a0 a) steps)
-    (changed_count (situation i a0 b) steps)
-same_parts i a0 a b steps limits both = record {
-  causes = ap (or_else (same_of steps)) (broken_same i a0 a b steps both);
-  changes = change_same i a0 a b steps limits both.one both.other both.alike;
-  moved = λ k. counts_same i a0 a b steps k both.one both.other both.alike;
-}
+  same_parts : WellFormed i → BothMove i a0 a b steps →
+      SameParts (or_else (same_of steps) (first_broken i a0 (applied a steps)))
+      (or_else (same_of steps) (first_broken i a0 (applied b steps))) (local_change (situation i a0 a) steps)
+      (local_change (situation i a0 b) steps) (changed_count (situation i a0 a) steps)
+      (changed_count (situation i a0 b) steps)
+  same_parts limits both = record {
+    causes = ap (or_else _) (broken_same i a0 a b steps both);
+    changes = change_same i a0 a b steps limits both.one both.other both.alike;
+    moved = λ k. counts_same i a0 a b steps k both.one both.other both.alike;
+  }
 
 pub weighing_is_determined : WeighingIsDetermined
 unfolding weighed_of broken_by
 weighing_is_determined i a0 a b steps limits one other one_fine other_fine alike =
-    unless_repeated (repeat_of steps) (or_else (same_of steps) (first_broken i a0 (applied a steps)))
-    (or_else (same_of steps) (first_broken i a0 (applied b steps))) (local_change (situation i a0 a) steps)
-    (local_change (situation i a0 b) steps) (changed_count (situation i a0 a) steps)
-    (changed_count (situation i a0 b) steps)
+    unless_repeated _ _
+    _ _
+    _ _
+    _
     (λ once. same_parts i a0 a b steps limits (both_move i a0 a b steps one other one_fine other_fine alike once))

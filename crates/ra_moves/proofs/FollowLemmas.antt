@@ -35,9 +35,9 @@ pub step_needs : (i : Tables) (a b : List Machine) (steps : List Step) (j : ℕ)
     s ≡ step_at steps j → IsStep i b s
 unfolding process_in from_in to_in
 step_needs i a b steps j s fits stand distinct apart reach within made is = record {
-  known = omega (arith, ap (λ (x : Step). x.process.0) is, stand.known j within, fits.one_each);
-  reach = omega (arith, ap (λ (x : Step). x.to.0) is, reach j within);
-  apart = λ same. apart j within (sym (ap (λ (x : Step). x.from.0) is) ∙ same ∙ ap (λ (x : Step). x.to.0) is);
-  at_from = ap (machine_at b) (ap (λ (x : Step). x.process.0) is) ∙ ap (λ xs. machine_at xs (process_in steps j)) made
-      ∙ after_before a steps j within stand distinct ∙ sym (ap (λ (x : Step). x.from.0) is);
+  known = omega (arith, ap (λ x. x.process.0) is, stand.known j within, fits.one_each);
+  reach = omega (arith, ap (λ x. x.to.0) is, reach j within);
+  apart = λ same. apart j within (sym (rw is) ∙ same ∙ ap (λ x. x.to.0) is);
+  at_from = ap (machine_at b) (rw is) ∙ ap (λ xs. machine_at xs (process_in steps j)) made
+      ∙ after_before a steps j within stand distinct ∙ sym (rw is);
 }

@@ -1,5 +1,5 @@
 -- No process is named twice exactly if the move isn't refused as Repeat.
-use Rattle.std.proofs.Common.{◌≡◌, Bool, true, false, List, length, None, refl}
+use Rattle.std.proofs.Common.{◌≡◌, Bool, true, false, List, None, refl}
 use Rattle.std.proofs.lemmas.Bool.{both_ways}
 use Rattle.ra_base.specs.Sums.{is_named}
 use Rattle.ra_base.specs.declared.causes.Cause.{Cause}
@@ -20,6 +20,6 @@ unfolding repeat_of repeat_test
 distinct_from_none steps none = record {
   apart = λ i j before within same.
       let unnamed : is_named j (process_in steps) (process_in steps j) ≡ false =
-      no_cause _ _ (first_none_at j (length steps) (repeat_test steps) within none) in
-      both_ways _ unnamed (is_named_at j i (process_in steps) (process_in steps j) before same);
+      no_cause _ _ (first_none_at j _ _ within none) in
+      both_ways _ unnamed (is_named_at j i _ _ before same);
 }

@@ -1,5 +1,5 @@
 -- Searches that find something only at places for which a test is true.
-use Rattle.std.proofs.Common.{◌≡◌, ℕ, ◌<◌, Bool, true, false, Option, sym, ◌∙◌, ⊎_elim}
+use Rattle.std.proofs.Common.{◌≡◌, ℕ, ◌<◌, Bool, true, Option, sym, ◌∙◌, ⊎_elim}
 use Rattle.std.proofs.lemmas.Bool.{cases_Bool}
 use Rattle.ra_base.specs.Searches.{first}
 use Rattle.ra_base.specs.declared.causes.Cause.{Cause}
@@ -10,11 +10,6 @@ use Rattle.ra_moves.specs.Laws.{OnlyWhere}
 pub first_agrees : (n : ℕ) (test : ℕ → Bool) (f g : ℕ → Option Cause) → OnlyWhere n test f → OnlyWhere n test g →
     ((k : ℕ) → k < n → test k ≡ true → f k ≡ g k) → first n f ≡ first n g
 first_agrees n test f g one other same = first_same n f g (λ k within. ⊎_elim
-    (λ (yes : test k ≡ true). same k within yes)
-    (λ (no : test k ≡ false). one.others k within no ∙ sym (other.others k within no))
-    (cases_Bool (test k)))
-
--- a test may be put in other words
-pub only_tested : (n : ℕ) (test other : ℕ → Bool) (f : ℕ → Option Cause) → ((k : ℕ) → test k ≡ other k) →
-    OnlyWhere n test f → OnlyWhere n other f
-only_tested n test other f same only = record { others = λ k within no. only.others k within (same k ∙ no) }
+    (λ yes. same k within yes)
+    (λ no. one.others k within no ∙ sym (other.others k within no))
+    (cases_Bool _))

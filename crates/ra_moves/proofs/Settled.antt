@@ -14,7 +14,6 @@ use Rattle.ra_moves.specs.Judging.{rise_test, verdict_of}
 use Rattle.ra_moves.specs.Settling.{settled_cost}
 
 -- the verdict
-
 pub risen : (before after allowed : ℕ) → before + allowed < after → Refused (Rise allowed before after) ≡
     verdict_of (rise_test before after allowed) after
 unfolding verdict_of rise_test cause_if
@@ -36,51 +35,51 @@ unfolding or_else
 settled_whole broken rise cost is = rw is refl
 
 -- the cost
-
 product_small : (a b : ℕ) → a < 2 ^ 32 → b < 2 ^ 32 → a * b < 2 ^ 64
 product_small a b a_small b_small = grind arith
 
--- if the local change is below zero
-pub fallen : (kept now after weight : ℕ) (local : ℤ) → local <ℤ pos 0 →
-    pos 0 ≤ℤ settled_cost kept now after weight local → (unsigned_abs local + weight * now ≤ kept + weight * after)
-    × (pos (kept + weight * after - (unsigned_abs local + weight * now)) ≡ settled_cost kept now after weight local)
-unfolding settled_cost
-fallen kept now after weight (pos n) below some = absurd (omega (arith, ints))
-fallen kept now after weight (negsuc n) below some = (omega (arith, ints), omega (arith, ints))
+module _ (kept now after weight : ℕ) where
+  -- if the local change is below zero
+  pub fallen : (local : ℤ) → local <ℤ pos 0 →
+      pos 0 ≤ℤ settled_cost kept now after weight local → (unsigned_abs local + weight * now ≤ kept + weight * after)
+      × (pos (kept + weight * after - (unsigned_abs local + weight * now)) ≡ settled_cost kept now after weight local)
+  unfolding settled_cost
+  fallen (pos n) below some = absurd (omega (arith, ints))
+  fallen (negsuc n) below some = (omega (arith, ints), omega (arith, ints))
 
--- if it isn't
-pub grown : (kept now after weight : ℕ) (local : ℤ) → pos 0 ≤ℤ local →
-    pos 0 ≤ℤ settled_cost kept now after weight local → (weight * now ≤ kept + unsigned_abs local + weight * after)
-    × (pos (kept + unsigned_abs local + weight * after - weight * now) ≡ settled_cost kept now after weight local)
-unfolding settled_cost
-grown kept now after weight (pos n) above some = (omega (arith, ints), omega (arith, ints))
-grown kept now after weight (negsuc n) above some = absurd (omega (arith, ints))
+  -- if it isn't
+  pub grown : (local : ℤ) → pos 0 ≤ℤ local →
+      pos 0 ≤ℤ settled_cost kept now after weight local → (weight * now ≤ kept + unsigned_abs local + weight * after)
+      × (pos (kept + unsigned_abs local + weight * after - weight * now) ≡ settled_cost kept now after weight local)
+  unfolding settled_cost
+  grown (pos n) above some = (omega (arith, ints), omega (arith, ints))
+  grown (negsuc n) above some = absurd (omega (arith, ints))
 
--- the cost before a move isn't far above that after it
-pub near : (kept now after weight : ℕ) (local : ℤ) → FitsSigned w128 local → weight < 2 ^ 32 → now < 2 ^ 32 →
-    settled_cost kept now after weight local <ℤ pos (2 ^ 114) → kept < 2 ^ 127 + 2 ^ 115
-unfolding settled_cost
-near kept now after weight (pos n) few weight_small now_small fits =
-    omega (arith, ints, product_small weight now weight_small now_small)
-near kept now after weight (negsuc n) few weight_small now_small fits =
-    omega (arith, ints, product_small weight now weight_small now_small)
+  -- the cost before a move isn't far above that after it
+  pub near : (local : ℤ) → FitsSigned w128 local → weight < 2 ^ 32 → now < 2 ^ 32 →
+      settled_cost kept now after weight local <ℤ pos (2 ^ 114) → kept < 2 ^ 127 + 2 ^ 115
+  unfolding settled_cost
+  near (pos n) few weight_small now_small fits =
+      omega (arith, ints, product_small weight now weight_small now_small)
+  near (negsuc n) few weight_small now_small fits =
+      omega (arith, ints, product_small weight now weight_small now_small)
 
--- so the sums fit
-pub fallen_fits : (kept now after weight : ℕ) (local : ℤ) → FitsSigned w128 local → weight < 2 ^ 32 → now < 2 ^ 32 →
-    after < 2 ^ 32 → settled_cost kept now after weight local <ℤ pos (2 ^ 114) → kept + weight * after < 2 ^ 128
-fallen_fits kept now after weight local few weight_small now_small after_small fits =
-    omega (
-      arith,
-      near kept now after weight local few weight_small now_small fits,
-      product_small weight after weight_small after_small,
-    )
+  -- so the sums fit
+  pub fallen_fits : (local : ℤ) → FitsSigned w128 local → weight < 2 ^ 32 → now < 2 ^ 32 →
+      after < 2 ^ 32 → settled_cost kept now after weight local <ℤ pos (2 ^ 114) → kept + weight * after < 2 ^ 128
+  fallen_fits local few weight_small now_small after_small fits =
+      omega (
+        arith,
+        near local few weight_small now_small fits,
+        product_small weight after weight_small after_small,
+      )
 
-pub grown_fits : (kept now after weight : ℕ) (local : ℤ) → pos 0 ≤ℤ local → weight < 2 ^ 32 → now < 2 ^ 32 →
-    settled_cost kept now after weight local <ℤ pos (2 ^ 114) → kept + unsigned_abs local + weight * after < 2 ^ 128
-unfolding settled_cost
-grown_fits kept now after weight (pos n) above weight_small now_small fits =
-    omega (arith, ints, product_small weight now weight_small now_small)
-grown_fits kept now after weight (negsuc n) above weight_small now_small fits = absurd (omega (arith, ints))
+  pub grown_fits : (local : ℤ) → pos 0 ≤ℤ local → weight < 2 ^ 32 → now < 2 ^ 32 →
+      settled_cost kept now after weight local <ℤ pos (2 ^ 114) → kept + unsigned_abs local + weight * after < 2 ^ 128
+  unfolding settled_cost
+  grown_fits (pos n) above weight_small now_small fits =
+      omega (arith, ints, product_small weight now weight_small now_small)
+  grown_fits (negsuc n) above weight_small now_small fits = absurd (omega (arith, ints))
 
 -- what the code reads of the local change
 pub below_zero : (z : ℤ) → FitsSigned w128 z → lt_z (to_z w128 (of_z w128 z)) (pos 0) ≡ true → z <ℤ pos 0

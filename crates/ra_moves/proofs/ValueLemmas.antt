@@ -1,108 +1,78 @@
 -- Sums over the processes after a move, step by step; and the machines that are no end of it, whose use stays.
-use Rattle.std.proofs.Common.{◌≡◌, ◌≢◌, ℕ, zero, suc, ◌+◌, ◌-◌, ◌<◌, ◌≤◌, false, eqb, ltb, List, length, set, sym, refl, ap, ◌∙◌, arith, ne_eqb}
-use Rattle.std.proofs.lemmas.Bool.{cond-true, cond-false, both_ways}
-use Rattle.ra_base.specs.Sums.{total, is_named}
+use Rattle.std.proofs.Common.{◌≡◌, ◌≢◌, ℕ, zero, suc, ◌+◌, ◌<◌, ◌≤◌, ltb, List, length, set, sym, refl, ap, ◌∙◌, arith, ne_eqb}
+use Rattle.std.proofs.lemmas.Bool.{cond-true, cond-false}
+use Rattle.ra_base.specs.Sums.{total}
 use Rattle.ra_base.specs.declared.ids.Machine.{Machine}
-use Rattle.ra_base.proofs.Sums.{total_none, total_suc, total_zero}
-use Rattle.ra_base.proofs.Named.{is_named_at}
+use Rattle.ra_base.proofs.Sums.{total_none, total_suc}
 use Rattle.ra_model.specs.declared.raw.Tables.{Tables}
-use Rattle.ra_model.specs.Numbers.{machine_count, process_count}
+use Rattle.ra_model.specs.Numbers.{machine_count}
 use Rattle.ra_model.specs.Assignments.{IsAssignment, machine_at, tally}
-use Rattle.ra_model.specs.Usage.{use_share, use_of}
+use Rattle.ra_model.specs.Usage.{use_share}
 use Rattle.ra_model.proofs.TallyLemmas.{tally_set, fits_set}
 use Rattle.ra_moves.specs.declared.steps.Step.{Step}
 use Rattle.ra_moves.specs.Steps.{step_at, process_in, from_in, to_in, StandsAt, Distinct}
-use Rattle.ra_moves.specs.Replacing.{after_steps, applied}
-use Rattle.ra_moves.specs.Values.{gone, come, end_count, end_in}
+use Rattle.ra_moves.specs.Replacing.{after_steps}
+use Rattle.ra_moves.specs.Values.{gone, come, end_in}
 use Rattle.ra_moves.proofs.Applying.{length_after, after_stayed}
 
--- before its step a process is where it was, since no process is named twice
-pub after_before : (a : List Machine) (steps : List Step) (k : ℕ) → k < length steps → StandsAt from_in steps a →
-    Distinct steps → machine_at (after_steps a steps k) (process_in steps k) ≡ from_in steps k
-after_before a steps k within stands distinct =
-    after_stayed a steps k (process_in steps k) (λ j before. distinct.apart j k before within) ∙ stands.at k within
+module _ (a : List Machine) (steps : List Step) (k : ℕ) where
+  -- before its step a process is where it was, since no process is named twice
+  pub after_before : k < length steps → StandsAt from_in steps a →
+      Distinct steps → machine_at (after_steps a steps k) (process_in steps k) ≡ from_in steps k
+  after_before within stands distinct =
+      after_stayed a steps k _ (λ j before. distinct.apart j k before within) ∙ stands.at k within
 
--- one step
-pub after_suc : (a : List Machine) (steps : List Step) (k : ℕ) →
-    after_steps a steps (suc k) ≡ set (after_steps a steps k) (process_in steps k) (step_at steps k).to
-unfolding after_steps
-after_suc a steps k = refl
+  -- one step
+  pub after_suc : after_steps a steps (suc k) ≡ set (after_steps a steps k) (process_in steps k) (step_at steps k).to
+  unfolding after_steps
+  after_suc = refl
 
-tally_step : (n : ℕ) (f : ℕ → ℕ → ℕ) (a : List Machine) (steps : List Step) (k : ℕ) → k < length steps → length a ≡ n →
-    StandsAt from_in steps a → Distinct steps → tally n f (after_steps a steps (suc k)) + gone f steps k ≡
-    tally n f (after_steps a steps k) + come f steps k
-unfolding gone come to_in
-tally_step n f a steps k within long stands distinct =
-    let now = after_steps a steps k in
-    let p = process_in steps k in
-    let moves = tally_set n p f now (step_at steps k).to (omega (arith, stands.known k within))
-    (omega (arith, length_after a steps k, stands.known k within)) in
-    ap (λ b. tally n f b + f p (from_in steps k)) (after_suc a steps k)
-    ∙ ap (λ m. tally n f (set now p (step_at steps k).to) + f p m) (sym (after_before a steps k within stands distinct))
-    ∙ moves
+module _ (n : ℕ) (f : ℕ → ℕ → ℕ) (a : List Machine) (steps : List Step) where
+  tally_step : (k : ℕ) → k < length steps → length a ≡ n → StandsAt from_in steps a → Distinct steps →
+      tally n f (after_steps a steps (suc k)) + gone f steps k ≡ tally n f (after_steps a steps k) + come f steps k
+  unfolding gone come to_in
+  tally_step k within long stands distinct =
+      let now = after_steps a steps k in
+      let p = process_in steps k in
+      let moves = tally_set n p f now (step_at steps k).to (omega (arith, stands.known k within))
+      (omega (arith, length_after a steps k, stands.known k within)) in
+      ap (λ b. tally n f b + f p (from_in steps k)) (after_suc a steps k)
+      ∙ ap (λ m. tally n f (set now p (step_at steps k).to) + f p m)
+      (sym (after_before a steps k within stands distinct))
+      ∙ moves
 
--- a sum over the processes after the first k steps
-pub tally_after : (n : ℕ) (f : ℕ → ℕ → ℕ) (a : List Machine) (steps : List Step) (k : ℕ) → k ≤ length steps →
-    length a ≡ n → StandsAt from_in steps a → Distinct steps →
-    tally n f (after_steps a steps k) + total k (gone f steps) ≡ tally n f a + total k (come f steps)
-unfolding after_steps
-tally_after n f a steps zero few long stands distinct =
-    omega (arith, total_none (gone f steps), total_none (come f steps))
-tally_after n f a steps (suc k) few long stands distinct =
-    let earlier = tally_after n f a steps k (omega arith) long stands distinct in
-    let here = tally_step n f a steps k few long stands distinct in
-    omega (arith, earlier, here, total_suc k (gone f steps), total_suc k (come f steps))
+  -- a sum over the processes after the first k steps
+  pub tally_after : (k : ℕ) → k ≤ length steps → length a ≡ n → StandsAt from_in steps a → Distinct steps →
+      tally n f (after_steps a steps k) + total k (gone f steps) ≡ tally n f a + total k (come f steps)
+  unfolding after_steps
+  tally_after zero few long stands distinct =
+      omega (arith, total_none (gone f steps), total_none (come f steps))
+  tally_after (suc k) few long stands distinct =
+      let earlier = tally_after k (omega arith) long stands distinct in
+      let here = tally_step k few long stands distinct in
+      omega (arith, earlier, here, total_suc k (gone f steps), total_suc k (come f steps))
 
--- an assignment stays one, if each machine that is entered exists
-pub fits_after : (i : Tables) (a : List Machine) (steps : List Step) (k : ℕ) → k ≤ length steps → IsAssignment i a →
-    StandsAt from_in steps a → ((j : ℕ) → j < length steps → to_in steps j < machine_count i) →
-    IsAssignment i (after_steps a steps k)
-unfolding after_steps to_in
-fits_after i a steps zero few fits stands there = fits
-fits_after i a steps (suc k) few fits stands there = fits_set i (after_steps a steps k) (process_in steps k)
-    (step_at steps k).to (fits_after i a steps k (omega arith) fits stands there)
-    (omega (arith, fits.one_each, stands.known k few)) (there k few)
+module _ (steps : List Step) where
+  -- the ends
+  pub end_from : (j : ℕ) → j < length steps → end_in steps j ≡ from_in steps j
+  unfolding end_in
+  end_from j within = cond-true (ltb j _) _ _ (grind arith)
 
--- the ends
-
-pub end_from : (steps : List Step) (j : ℕ) → j < length steps → end_in steps j ≡ from_in steps j
-unfolding end_in
-end_from steps j within = cond-true (ltb j (length steps)) _ _ (grind arith)
-
-pub end_to : (steps : List Step) (j : ℕ) → end_in steps (length steps + j) ≡ to_in steps j
-unfolding end_in
-end_to steps j = cond-false (ltb (length steps + j) (length steps)) _ _ (grind arith) ∙ ap (to_in steps) (omega arith)
-
--- a machine that is not an end is neither left nor entered
-pub not_left : (steps : List Step) (m j : ℕ) → is_named (end_count steps) (end_in steps) m ≡ false → j < length steps →
-    from_in steps j ≢ m
-unfolding end_count
-not_left steps m j unnamed within same =
-    both_ways _ unnamed
-    (is_named_at (length steps + length steps) j (end_in steps) m (omega arith) (end_from steps j within ∙ same))
-
-pub not_entered : (steps : List Step) (m j : ℕ) → is_named (end_count steps) (end_in steps) m ≡ false →
-    j < length steps → to_in steps j ≢ m
-unfolding end_count
-not_entered steps m j unnamed within same =
-    both_ways _ unnamed (is_named_at (length steps + length steps) (length steps + j) (end_in steps) m (omega arith)
-    (end_to steps j ∙ same))
+  pub end_to : (j : ℕ) → end_in steps (length steps + j) ≡ to_in steps j
+  unfolding end_in
+  end_to j = cond-false (ltb (length steps + j) (length steps)) _ _ (grind arith) ∙ ap (to_in steps) (omega arith)
 
 -- what a process on another machine uses of this one
 pub use_elsewhere : (i : Tables) (m r p at : ℕ) → at ≢ m → use_share i m r p at ≡ 0
 unfolding use_share
-use_elsewhere i m r p at apart = cond-false (eqb at m) _ _ (ne_eqb at m apart)
+use_elsewhere i m r p at apart = cond-false _ _ _ (ne_eqb at m apart)
 
--- the use of a machine that is not an end stays
-pub use_stays : (i : Tables) (a : List Machine) (steps : List Step) (m r : ℕ) → IsAssignment i a →
-    StandsAt from_in steps a → Distinct steps → is_named (end_count steps) (end_in steps) m ≡ false →
-    use_of i (applied a steps) m r ≡ use_of i a m r
-unfolding use_of applied gone come
-use_stays i a steps m r fits stands distinct unnamed =
-    let change = tally_after (process_count i) (use_share i m r) a steps (length steps) (omega arith) fits.one_each
-    stands distinct in
-    let none_gone = total_zero (length steps) (gone (use_share i m r) steps)
-    (λ j within. use_elsewhere i m r (process_in steps j) (from_in steps j) (not_left steps m j unnamed within)) in
-    let none_come = total_zero (length steps) (come (use_share i m r) steps)
-    (λ j within. use_elsewhere i m r (process_in steps j) (to_in steps j) (not_entered steps m j unnamed within)) in
-    omega (arith, change, none_gone, none_come)
+module _ (i : Tables) (a : List Machine) (steps : List Step) where
+  -- an assignment stays one, if each machine that is entered exists
+  pub fits_after : (k : ℕ) → k ≤ length steps → IsAssignment i a → StandsAt from_in steps a →
+      ((j : ℕ) → j < length steps → to_in steps j < machine_count i) → IsAssignment i (after_steps a steps k)
+  unfolding after_steps to_in
+  fits_after zero few fits stands there = fits
+  fits_after (suc k) few fits stands there = fits_set i _ _
+      (step_at steps k).to (fits_after k (omega arith) fits stands there)
+      (omega (arith, fits.one_each, stands.known k few)) (there k few)

@@ -1,21 +1,20 @@
 -- What a seat has locked and was told, over several steps.
-use Rattle.std.proofs.Common.{◌≡◌, ℕ, zero, suc, ◌/◌, ◌%◌, ◌==◌, Bool, true, false, cond, List, ◌∷◌, ◌≤◌, ◌<◌, length}
-use Rattle.std.proofs.Common.{Contains, refl, ap, sym, subst, ◌∙◌, arith}
+use Rattle.std.proofs.Common.{◌≡◌, ℕ, zero, suc, ◌/◌, ◌%◌, ◌==◌, Bool, true, false, cond, List, ◌∷◌, ◌≤◌, length}
+use Rattle.std.proofs.Common.{Contains, refl, ap, ◌∙◌, arith}
 use Rattle.atomic_table.specs.Table.{Me}
 use Rattle.ra_turn.specs.declared.sight.Grip.{Grip}
 use Rattle.ra_turn.specs.declared.sight.Sight.{Sight}
-use Rattle.ra_turn.specs.Notes.{grip}
 use Rattle.ra_turn.specs.declared.guards.Hold.{Hold}
 use Rattle.ra_turn.specs.declared.guards.Hold.TheVariants.{Held, Newer}
-use Rattle.ra_turn.specs.Holds.{KeepsNews, OnlyHolds, IsAnswerAt, IsLastTold}
+use Rattle.ra_turn.specs.Holds.{KeepsNews, OnlyHolds, IsAnswerAt}
 use Rattle.ra_turn.specs.Steps.{with_grips, with_news, at_version, heard}
 
 contains_more : {A : Type 0} (x y : A) (xs : List A) → Contains xs y → Contains (x ∷ xs) y
-contains_more x y xs h = (suc h.0, (let lt = h.1 in omega arith), h.2)
+contains_more x y xs h = (suc h.0, (omega arith), h.2)
 
 version_keeps : (guard v : ℕ) (ks : List Grip) → KeepsNews ks (at_version guard v ks)
 version_keeps guard zero ks = (λ k h. h, omega arith)
-version_keeps guard (suc v) ks = (λ k h. contains_more (grip guard (suc v)) k ks h, omega arith)
+version_keeps guard (suc v) ks = (λ k h. contains_more _ k ks h, omega arith)
 
 keeps_if : (b : Bool) (ks more : List Grip) → KeepsNews ks more → KeepsNews ks (cond b more ks)
 keeps_if true ks more keeps = keeps
@@ -24,20 +23,7 @@ keeps_if false ks more keeps = (λ k h. h, omega arith)
 -- nothing that was told before a look is lost
 pub heard_keeps : (guard word : ℕ) (ks : List Grip) → KeepsNews ks (heard guard word ks)
 heard_keeps guard word ks =
-    keeps_if (word % 2 == 0) ks (at_version guard (word / 2) ks) (version_keeps guard (word / 2) ks)
-
-version_last : (guard v : ℕ) (ks : List Grip) → 0 < v → at_version guard v ks ≡ grip guard v ∷ ks
-version_last guard zero ks some = absurd (omega arith)
-version_last guard (suc v) ks some = refl
-
--- a look at a free guard with a version tells of it, last
-pub heard_last : (guard word : ℕ) (ks : List Grip) → word % 2 ≡ 0 → 0 < word / 2 →
-    IsLastTold ks (heard guard word ks) guard (word / 2)
-heard_last guard word ks even some = record {
-  earlier = ks;
-  last = rw even (version_last guard (word / 2) ks some);
-  before = omega arith;
-}
+    keeps_if (word % 2 == 0) ks (at_version guard _ ks) (version_keeps guard (word / 2) ks)
 
 module _ {N O : Type 0} (author : N → ℕ) (touches : O → N → ℕ → Bool) where
   -- an answer after a look is an answer after all that was told before the look
@@ -52,23 +38,23 @@ module _ {N O : Type 0} (author : N → ℕ) (touches : O → N → ℕ → Bool
     record {
       earlier = is.3.earlier;
       last = is.3.last;
-      before = (let lt = is.3.before in omega arith);
+      before = (omega arith);
     },
   )
 
 module _ {S N O : Type 0} where
-  pub only_same : (m m' : Me S (Sight N O)) → m' ≡ m → OnlyHolds m m'
-  only_same m m' e = subst (OnlyHolds m) (sym e) (refl, (λ k h. h, omega arith))
+  module _ (m m' : Me S (Sight N O)) where
+    pub only_same : m' ≡ m → OnlyHolds m m'
+    only_same e = rw e (refl, (λ k h. h, omega arith))
 
-  pub only_news : (m m' : Me S (Sight N O)) (ks : List Grip) → m' ≡ (with_news m.0 ks, m.1) → KeepsNews m.0.news ks →
-      OnlyHolds m m'
-  only_news m m' ks e keeps = subst (OnlyHolds m) (sym e) (refl, keeps)
+    pub only_news : (ks : List Grip) → m' ≡ (with_news m.0 ks, m.1) → KeepsNews m.0.news ks → OnlyHolds m m'
+    only_news ks e keeps = rw e (refl, keeps)
 
-  pub only_held : (m m' : Me S (Sight N O)) (ks : List Grip) → m' ≡ (with_grips m.0 ks, m.1) → OnlyHolds m m'
-  only_held m m' ks e = subst (OnlyHolds m) (sym e) (refl, (λ k h. h, omega arith))
+    pub only_held : (ks : List Grip) → m' ≡ (with_grips m.0 ks, m.1) → OnlyHolds m m'
+    only_held ks e = rw e (refl, (λ k h. h, omega arith))
 
   pub only_then : (a b c : Me S (Sight N O)) → OnlyHolds a b → OnlyHolds b c → OnlyHolds a c
   only_then a b c first next = (
-    next.0 ∙ ap (λ (m : Me S (Sight N O)). (record m.0 { grips = c.0.grips; news = c.0.news }, m.1)) first.0,
-    (λ k h. next.1.0 k (first.1.0 k h), (let one = first.1.1 in let two = next.1.1 in omega arith)),
+    next.0 ∙ ap (λ m. (record m.0 { grips = c.0.grips; news = c.0.news }, m.1)) first.0,
+    (λ k h. next.1.0 k (first.1.0 k h), (omega arith)),
   )

@@ -1,6 +1,6 @@
 -- Passes that are joined, one after another.
-use Rattle.std.proofs.Common.{◌≡◌, ℕ, zero, suc, ◌<◌, List, [], ◌∷◌, ◌++◌, length, slice_index_or, All, Contains, refl}
-use Rattle.std.proofs.Common.{ap, sym, subst, ◌∙◌, arith, append_assoc, length-append, Option}
+use Rattle.std.proofs.Common.{◌≡◌, ℕ, zero, suc, ◌<◌, List, [], ◌∷◌, ◌++◌, length, slice_index_or, Contains, refl}
+use Rattle.std.proofs.Common.{ap, sym, ◌∙◌, arith, append_assoc, length-append, Option}
 use Rattle.std.proofs.Math.Seq.{get_or-append_seam}
 use Rattle.std.proofs.lemmas.List.{append-nil}
 use Rattle.std.proofs.lemmas.List.Elements.{All-cons, Contains-append_left, Contains-append_right}
@@ -25,78 +25,75 @@ module _ {V N O : Type 0} {g : Ghosts V N O} where
   abbrev pub JoinedFrom : Turn V N O → List (Pass V N O g) → List (Pass V N O g) → Seat (Option V) (Sight N O) → Type 0
   JoinedFrom t left items s = (done : List (Pass V N O g)) × (left ++ done ≡ items) × IsJoined t done s
 
-  -- the last pass but those that are joined
-  last_done : (t : Turn V N O) (items left ps done : List (Pass V N O g)) (p : Pass V N O g) → EachAt (IsDone t) items →
-      ps ≡ left ++ p ∷ [] → ps ++ done ≡ items → (left ++ (p ∷ done) ≡ items) × IsDone t (length left) p
-  last_done t items left ps done p each popped rest =
-      let all : left ++ (p ∷ done) ≡ items = sym (append_assoc left (p ∷ []) done)
-      ∙ (ap (λ (xs : List (Pass V N O g)). xs ++ done) (sym popped) ∙ rest) in
-      let here : slice_index_or items (length left) p ≡ p =
-      ap (λ (xs : List (Pass V N O g)). slice_index_or xs (length left) p) (sym all)
-      ∙ get_or-append_seam left p done p in
-      let below : length left < length items =
-      (let n = ap length (sym all) ∙ length-append left (p ∷ done) in omega arith) in
-      (all, subst (IsDone t (length left)) here (each (length left) p below))
+  module _ (t : Turn V N O) (items : List (Pass V N O g)) where
+    module _ (left ps : List (Pass V N O g)) where
+      -- the last pass but those that are joined
+      last_done : (done : List (Pass V N O g)) (p : Pass V N O g) → EachAt (IsDone t) items →
+          ps ≡ left ++ p ∷ [] → ps ++ done ≡ items → (left ++ (p ∷ done) ≡ items) × IsDone t (length left) p
+      last_done done p each popped rest =
+          let all = sym (append_assoc left _ done)
+          ∙ (ap (λ xs. xs ++ done) (sym popped) ∙ rest) in
+          let here : slice_index_or items (length left) p ≡ p =
+          ap (λ xs. slice_index_or xs (length left) p) (sym all)
+          ∙ get_or-append_seam left p done p in
+          let below : length left < length items =
+          (let n = ap length (sym all) ∙ length-append left _ in omega arith) in
+          (all, rw (← here) (each _ p below))
 
-  pub first_joined : (t : Turn V N O) (items left : List (Pass V N O g)) (p : Pass V N O g)
-      (s : Seat (Option V) (Sight N O)) → EachAt (IsDone t) items → items ≡ left ++ p ∷ [] → s ≡ p.seat →
-      JoinedFrom t left items s
-  first_joined t items left p s each popped same =
-      let found = last_done t items left items [] p each popped (append-nil items) in
-      let d = found.1 in
-      subst (JoinedFrom t left items) (sym same) (
-        p ∷ [],
-        found.0,
-        record {
-          table = d.of.0;
-          idle = d.idle.0;
-          empty = d.grips;
-          parts = all_one (λ (q : Pass V N O g). Contains (p.seat.me.0.own ∷ p.seat.me.0.joined) q.seat.me.0.own) p []
-              refl (0, omega arith, refl);
-        },
-      )
+      pub next_done : (p : Pass V N O g) (s : Seat (Option V) (Sight N O)) → EachAt (IsDone t) items →
+          ps ≡ left ++ p ∷ [] → JoinedFrom t ps items s → IsPassOf t p × IsIdle p × (grips_of p ≡ [])
+      next_done p s each popped from =
+          let d = (last_done from.0 p each popped from.1).1 in (d.of, d.idle, d.grips)
 
-  pub next_done : (t : Turn V N O) (items left ps : List (Pass V N O g)) (p : Pass V N O g)
-      (s : Seat (Option V) (Sight N O)) → EachAt (IsDone t) items → ps ≡ left ++ p ∷ [] → JoinedFrom t ps items s →
-      IsPassOf t p × IsIdle p × (grips_of p ≡ [])
-  next_done t items left ps p s each popped from =
-      let d = (last_done t items left ps from.0 p each popped from.1).1 in (d.of, d.idle, d.grips)
+      pub next_joined : (p : Pass V N O g)
+          (s s' : Seat (Option V) (Sight N O)) → EachAt (IsDone t) items → ps ≡ left ++ p ∷ [] → JoinedFrom t ps items s
+          → s'.table_id ≡ s.table_id → s'.me.0 ≡ passes_joined s.me.0 p.seat.me.0 → JoinedFrom t left items s'
+      next_joined p s s' each popped from table view =
+          let found = last_done from.0 p each popped from.1 in let j = from.2 in
+          let v = s.me.0 in let w = p.seat.me.0 in
+          let has : (v' : Sight N O) → Pass V N O g → Type 0 = λ v' q. Contains (v'.own ∷ v'.joined) q.seat.me.0.own in
+          let old =
+          all_map (has v) (has (passes_joined v w)) from.0
+          (λ q h. Contains-append_left (v.own ∷ v.joined) (w.own ∷ w.joined) q.seat.me.0.own h) j.parts in
+          let new : has (passes_joined v w) p = Contains-append_right (v.own ∷ v.joined) (w.own ∷ w.joined) w.own
+          (0, omega arith, refl) in (
+            p ∷ from.0,
+            found.0,
+            record {
+              table = table ∙ j.table;
+              idle = ap (λ x. x.stage) view ∙ j.idle;
+              empty = ap (λ x. x.grips) view ∙ j.empty;
+              parts = rw view (All-cons (has (passes_joined v w)) p from.0 new old);
+            },
+          )
 
-  pub next_joined : (t : Turn V N O) (items left ps : List (Pass V N O g)) (p : Pass V N O g)
-      (s s' : Seat (Option V) (Sight N O)) → EachAt (IsDone t) items → ps ≡ left ++ p ∷ [] → JoinedFrom t ps items s
-      → s'.table_id ≡ s.table_id → s'.me.0 ≡ passes_joined s.me.0 p.seat.me.0 → JoinedFrom t left items s'
-  next_joined t items left ps p s s' each popped from table view =
-      let found = last_done t items left ps from.0 p each popped from.1 in let j = from.2 in
-      let v = s.me.0 in let w = p.seat.me.0 in
-      let has : (v' : Sight N O) → Pass V N O g → Type 0 = λ v' q. Contains (v'.own ∷ v'.joined) q.seat.me.0.own in
-      let old : All (has (passes_joined v w)) from.0 =
-      all_map (has v) (has (passes_joined v w)) from.0
-      (λ q h. Contains-append_left (v.own ∷ v.joined) (w.own ∷ w.joined) q.seat.me.0.own h) j.parts in
-      let new : has (passes_joined v w) p = Contains-append_right (v.own ∷ v.joined) (w.own ∷ w.joined) w.own
-      (0, omega arith, refl) in (
-        p ∷ from.0,
-        found.0,
-        record {
-          table = table ∙ j.table;
-          idle = ap (λ (x : Sight N O). x.stage) view ∙ j.idle;
-          empty = ap (λ (x : Sight N O). x.grips) view ∙ j.empty;
-          parts = subst (λ (x : Sight N O). All (has x) (p ∷ from.0)) (sym view)
-              (All-cons (has (passes_joined v w)) p from.0 new old);
-        },
-      )
+    pub first_joined : (left : List (Pass V N O g)) (p : Pass V N O g) (s : Seat (Option V) (Sight N O)) →
+        EachAt (IsDone t) items → items ≡ left ++ p ∷ [] → s ≡ p.seat → JoinedFrom t left items s
+    first_joined left p s each popped same =
+        let found = last_done left items [] p each popped (append-nil items) in
+        let d = found.1 in
+        rw same (
+          p ∷ [],
+          found.0,
+          record {
+            table = d.of.0;
+            idle = d.idle.0;
+            empty = d.grips;
+            parts = all_one (λ q. Contains (p.seat.me.0.own ∷ p.seat.me.0.joined) q.seat.me.0.own) p []
+                refl (0, omega arith, refl);
+          },
+        )
 
-  pub all_joined : (t : Turn V N O) (items : List (Pass V N O g)) (s : Seat (Option V) (Sight N O)) →
-      JoinedFrom t [] items s → IsJoined t items s
-  all_joined t items s from = subst (λ (ps : List (Pass V N O g)). IsJoined t ps s) from.1 from.2
+    pub all_joined : (s : Seat (Option V) (Sight N O)) → JoinedFrom t [] items s → IsJoined t items s
+    all_joined s from = rw (← from.1) from.2
 
-  -- a seat to which all passes were joined has every number
-  pub joined_covers : (t : Turn V N O) (items : List (Pass V N O g)) (s : Seat (Option V) (Sight N O)) →
-      length items ≡ passes_of t → EachAt (IsDone t) items → IsJoined t items s → HasNumbersBelow (passes_of t) s.me.0
-  joined_covers t items s count each j k lt =
-      let found = has_at items k (omega arith) in let p = found.0 in
-      let d : IsDone t k p = subst (IsDone t k) found.1 (each k p (omega arith)) in (
-        p.seat.me.0.own,
-        subst (λ (q : Pass V N O g). Contains (s.me.0.own ∷ s.me.0.joined) q.seat.me.0.own) found.1
-            (j.parts k p (omega arith)),
-        p.numbered ∙ d.number,
-      )
+    -- a seat to which all passes were joined has every number
+    pub joined_covers : (s : Seat (Option V) (Sight N O)) →
+        length items ≡ passes_of t → EachAt (IsDone t) items → IsJoined t items s → HasNumbersBelow (passes_of t) s.me.0
+    joined_covers s count each j k lt =
+        let found = has_at items k (omega arith) in let p = found.0 in
+        let d : IsDone t k p = rw (← found.1) (each k p (omega arith)) in (
+          p.seat.me.0.own,
+          rw (← found.1) (j.parts k p (omega arith)),
+          p.numbered ∙ d.number,
+        )

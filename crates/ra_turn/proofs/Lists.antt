@@ -1,6 +1,6 @@
 -- Beginnings of lists, the notes by one number, and sums of which one element changes.
-use Rattle.std.proofs.Common.{◌≡◌, ◌≢◌, ℕ, zero, suc, ◌+◌, ◌==◌, ◌⊎◌, ◌≤◌, ◌<◌, Bool, true, false, cond, List, [], ◌∷◌}
-use Rattle.std.proofs.Common.{◌++◌, length, drop, set, All, sum_by, filter, refl, ap, sym, subst, ◌∙◌, inl, inr, ne_eqb}
+use Rattle.std.proofs.Common.{◌≡◌, ◌≢◌, ℕ, zero, suc, ◌+◌, ◌==◌, ◌⊎◌, ◌≤◌, ◌<◌, Bool, cond, List, [], ◌∷◌}
+use Rattle.std.proofs.Common.{◌++◌, length, drop, set, All, sum_by, filter, refl, ap, sym, ◌∙◌, inl, inr, ne_eqb}
 use Rattle.std.proofs.Common.{eq-eqb, arith, append_assoc}
 use Rattle.std.proofs.Math.Seq.{drop-append_seam}
 use Rattle.std.proofs.lemmas.List.{append-nil}
@@ -20,7 +20,7 @@ module _ {A : Type 0} where
   prefix_self xs = ([], append-nil xs)
 
   pub prefix_longer : (xs ys zs : List A) → IsPrefix xs ys → IsPrefix xs (ys ++ zs)
-  prefix_longer xs ys zs p = (p.0 ++ zs, sym (append_assoc xs p.0 zs) ∙ ap (λ (w : List A). w ++ zs) p.1)
+  prefix_longer xs ys zs p = (p.0 ++ zs, sym (append_assoc xs p.0 zs) ∙ ap (λ w. w ++ zs) p.1)
 
   -- an element at the end or before it
   pub at_end : (l : List A) (a b : A) (j : ℕ) → get_elem? (l ++ a ∷ []) j ≡ some b → (get_elem? l j ≡ some b)
@@ -35,14 +35,26 @@ module _ {A : Type 0} where
   at_below (x ∷ xs) zero b e = omega arith
   at_below (x ∷ xs) (suc j) b e = omega (arith, at_below xs j b e)
 
-  -- what the element at a place has, it still has if one element changes and keeps it
-  pub stands_at : (P : A → Type 0) (l : List A) (i : ℕ) (v w : A) (j : ℕ) → get_elem? l i ≡ some v → (P v → P w)
-      → (u : A) × P u × (get_elem? l j ≡ some u) → (u : A) × P u × (get_elem? (set l i w) j ≡ some u)
-  stands_at P l i v w j at has g =
-      dite (ℕ_discrete j i)
-      (λ e. (let same : g.0 ≡ v = some-injective g.0 v (sym g.2 ∙ (ap (get_elem? l) e ∙ at)) in
-      (w, has (subst P same g.1), ap (get_elem? (set l i w)) e ∙ set_here l i w (at_below l i v at))))
-      (λ ne. (g.0, g.1, set_else l i j w ne ∙ g.2))
+  module _ (P : A → Type 0) where
+    -- what the element at a place has, it still has if one element changes and keeps it
+    pub stands_at : (l : List A) (i : ℕ) (v w : A) (j : ℕ) → get_elem? l i ≡ some v → (P v → P w)
+        → (u : A) × P u × (get_elem? l j ≡ some u) → (u : A) × P u × (get_elem? (set l i w) j ≡ some u)
+    stands_at l i v w j at has g =
+        dite (ℕ_discrete j i)
+        (λ e. (let same = some-injective g.0 v (sym g.2 ∙ (ap (get_elem? l) e ∙ at)) in
+        (w, has (rw (← same) g.1), ap (get_elem? (set l i w)) e ∙ set_here l i w (at_below l i v at))))
+        (λ ne. (g.0, g.1, set_else l i j w ne ∙ g.2))
+
+    pub all_first : (x y : A) (xs : List A) → P y → All P (x ∷ xs) → All P (y ∷ xs)
+    all_first x y xs p all zero d lt = p
+    all_first x y xs p all _ d lt = all _ d lt
+
+    pub all_one : (x : A) (xs : List A) → length xs ≡ 0 → P x → All P (x ∷ xs)
+    all_one x xs none p zero d lt = p
+    all_one x xs none p _ d lt = absurd (omega arith)
+
+    pub all_map : (Q : A → Type 0) (xs : List A) → ((x : A) → P x → Q x) → All P xs → All Q xs
+    all_map Q xs f all k d lt = f _ (all k d lt)
 
   -- a sum of which one element changes
   pub sum_changes : (f : A → ℕ) (l : List A) (i : ℕ) (v w : A) → get_elem? l i ≡ some v →
@@ -59,39 +71,27 @@ module _ {A : Type 0} where
   sum_has f (x ∷ xs) zero v e = let same : f x ≡ f v = ap f (some-injective x v e) in omega (arith, sum_by-cons f x xs)
   sum_has f (x ∷ xs) (suc i) v e = omega (arith, sum_has f xs i v e, sum_by-cons f x xs)
 
-  pub all_first : (P : A → Type 0) (x y : A) (xs : List A) → P y → All P (x ∷ xs) → All P (y ∷ xs)
-  all_first P x y xs p all zero d lt = p
-  all_first P x y xs p all (suc k) d lt = all (suc k) d lt
-
-  pub all_one : (P : A → Type 0) (x : A) (xs : List A) → length xs ≡ 0 → P x → All P (x ∷ xs)
-  all_one P x xs none p zero d lt = p
-  all_one P x xs none p (suc k) d lt = absurd (omega arith)
-
-  pub all_map : (P Q : A → Type 0) (xs : List A) → ((x : A) → P x → Q x) → All P xs → All Q xs
-  all_map P Q xs f all k d lt = f _ (all k d lt)
-
 module _ {N : Type 0} (author : N → ℕ) where
-  -- a note by another number doesn't count
-  pub by_other : (number : ℕ) (xs : List N) (x : N) → author x ≢ number →
-      by author number (xs ++ x ∷ []) ≡ by author number xs
-  by_other number xs x ne =
-      let test : N → Bool = λ y. author y == number in
-      let away : (author x == number) ≡ false = ne_eqb (author x) number ne in
-      filter-append test xs (x ∷ [])
-      ∙ (ap (λ (b : Bool). filter test xs ++ cond b (x ∷ []) []) away ∙ append-nil (filter test xs))
+  module _ (number : ℕ) (xs : List N) (x : N) where
+    -- a note by another number doesn't count
+    pub by_other : author x ≢ number → by author number (xs ++ x ∷ []) ≡ by author number xs
+    by_other ne =
+        let test : N → Bool = λ y. author y == number in
+        let away = ne_eqb _ number ne in
+        filter-append test xs (x ∷ [])
+        ∙ (ap (λ b. filter test xs ++ cond b (x ∷ []) []) away ∙ append-nil (filter test xs))
 
-  pub by_same : (number : ℕ) (xs : List N) (x : N) → author x ≡ number →
-      by author number (xs ++ x ∷ []) ≡ by author number xs ++ x ∷ []
-  by_same number xs x e =
-      let test : N → Bool = λ y. author y == number in
-      let here : (author x == number) ≡ true = eq-eqb (author x) number e in
-      filter-append test xs (x ∷ []) ∙ ap (λ (b : Bool). filter test xs ++ cond b (x ∷ []) []) here
+    pub by_same : author x ≡ number → by author number (xs ++ x ∷ []) ≡ by author number xs ++ x ∷ []
+    by_same e =
+        let test : N → Bool = λ y. author y == number in
+        let here = eq-eqb _ number e in
+        filter-append test xs (x ∷ []) ∙ ap (λ b. filter test xs ++ cond b (x ∷ []) []) here
 
   -- one note more by the number is the one that comes after those that were seen
   pub by_one_more : (number : ℕ) (seen mine xs : List N) (x : N) → xs ≡ seen ++ x ∷ [] → author x ≡ number →
       by author number seen ≡ mine → by author number xs ≡ mine ++ drop (length seen) xs
   by_one_more number seen mine xs x added here told =
-      let last : drop (length seen) xs ≡ x ∷ [] = ap (drop (length seen)) added ∙ drop-append_seam seen (x ∷ []) in
+      let last : drop (length seen) xs ≡ x ∷ [] = ap (drop _) added ∙ drop-append_seam seen _ in
       ap (by author number) added
       ∙ (by_same number seen x here
-      ∙ (ap (λ (ys : List N). ys ++ x ∷ []) told ∙ ap (λ (ys : List N). mine ++ ys) (sym last)))
+      ∙ (ap (λ ys. ys ++ x ∷ []) told ∙ ap (λ ys. mine ++ ys) (sym last)))

@@ -1,6 +1,6 @@
 -- Versions of guards in a history and in its beginnings.
 use Rattle.std.proofs.Common.{◌≡◌, ◌⊎◌, ℕ, zero, suc, ◌+◌, ◌-◌, ◌==◌, ◌≤◌, ◌<◌, Bool, true, false, cond, List, [], ◌∷◌}
-use Rattle.std.proofs.Common.{◌++◌, length, slice_get, slice_index_or, filter, All, refl, ap, sym, subst, ◌∙◌, inl, inr}
+use Rattle.std.proofs.Common.{◌++◌, length, slice_get, slice_index_or, filter, All, refl, ap, sym, ◌∙◌, inl, inr}
 use Rattle.std.proofs.Common.{⊎_elim, eq-eqb, arith, length-append, Some}
 use Rattle.std.proofs.lemmas.List.Elements.{filter-append}
 use Rattle.std.proofs.lemmas.Bool.{cases_lt}
@@ -21,7 +21,7 @@ module _ {A : Type 0} where
   get_cases [] ys k x e = inr (k, omega arith, e)
   get_cases (y ∷ xs) ys zero x e = inl e
   get_cases (y ∷ xs) ys (suc k) x e =
-      ⊎_elim (λ h. inl h) (λ h. inr (h.0, (let n = h.1 in omega arith), h.2)) (get_cases xs ys k x e)
+      ⊎_elim (inl) (λ h. inr (h.0, (omega arith), h.2)) (get_cases xs ys k x e)
 
   -- what is in a list with one element more
   pub get_last : (x y : A) (j : ℕ) → slice_get (x ∷ []) j ≡ Some y → (j ≡ 0) × (x ≡ y)
@@ -51,7 +51,7 @@ module _ {N : Type 0} (author : N → ℕ) where
       by author number (xs ++ rest) ≡ mine → length (by author number rest) ≡ 0
   none_later number xs rest mine seen all =
       let test : N → Bool = λ x. author x == number in
-      let parts : filter test xs ++ filter test rest ≡ mine = sym (filter-append test xs rest) ∙ all in
+      let parts = sym (filter-append test xs rest) ∙ all in
       let a = ap length parts in let b = length-append (filter test xs) (filter test rest) in let c = ap length seen in
       omega arith
 
@@ -59,7 +59,7 @@ module _ {N : Type 0} (author : N → ℕ) where
   pub all_below : (bound given : ℕ) (xs : List N) → given ≤ bound → ((n : ℕ) → given ≤ n → by author n xs ≡ []) →
       All (λ x. author x < bound) xs
   all_below bound given xs le none k d lt =
-      let x : N = slice_index_or xs k d in
+      let x = slice_index_or xs k d in
       ⊎_elim
       (λ h. h)
       (λ h. absurd (filter_none (λ y. author y == author x) xs k x (ap length (none (author x) (omega arith)))
@@ -70,29 +70,80 @@ module _ {N : Type 0} (touched : N → Bool) where
   -- a note that touches the guard does so in a longer history
   pub touched_longer : (xs ys : List N) (k : ℕ) → IsPrefix xs ys → TouchedAt touched xs k → TouchedAt touched ys k
   touched_longer xs ys k p t =
-      (t.0, subst (λ (zs : List N). slice_get zs k ≡ Some t.0) p.1 (get_front xs p.0 k t.0 t.1), t.2)
-
-  shorter_only : (author : N → ℕ) (number : ℕ) (xs ys : List N) (v : ℕ) → IsPrefix xs ys →
-      OnlyBy touched author number ys v → OnlyBy touched author number xs v
-  shorter_only author number xs ys v p only k x le e t =
-      only k x le (subst (λ (zs : List N). slice_get zs k ≡ Some x) p.1 (get_front xs p.0 k x e)) t
-
-  pub only_shorter : (author : N → ℕ) (number : ℕ) (xs ys : List N) (v : ℕ) → IsPrefix xs ys →
-      OnlyBy touched author number ys v → OnlyBy touched author number xs v
-  only_shorter = shorter_only
+      (t.0, rw (← p.1) (get_front xs p.0 k t.0 t.1), t.2)
 
   untouched : (b : Bool) → (b ≡ true → ⊥) → b ≡ false
   untouched true h = absurd (h refl)
   untouched false h = refl
 
-  quiet_only : (author : N → ℕ) (number : ℕ) (xs : List N) (v : ℕ) → QuietFrom touched xs v →
-      OnlyBy touched author number xs v
-  quiet_only author number xs v quiet k x le e t = absurd (let f = quiet k x le e in cc (f, t))
+  module _ (author : N → ℕ) (number : ℕ) (xs : List N) where
+    shorter_only : (ys : List N) (v : ℕ) → IsPrefix xs ys →
+        OnlyBy touched author number ys v → OnlyBy touched author number xs v
+    shorter_only ys v p only k x le e t =
+        only k x le (rw (← p.1) (get_front xs p.0 k x e)) t
 
-  -- from its version on a guard is nobody's
-  pub version_only : (author : N → ℕ) (number : ℕ) (xs : List N) (v : ℕ) → IsVersion touched xs v →
-      OnlyBy touched author number xs v
-  version_only author number xs v is = quiet_only author number xs v is.quiet
+    quiet_only : (v : ℕ) → QuietFrom touched xs v → OnlyBy touched author number xs v
+    quiet_only v quiet k x le e t = absurd (let f = quiet k x le e in cc (f, t))
+
+    -- from its version on a guard is nobody's
+    pub version_only : (v : ℕ) → IsVersion touched xs v → OnlyBy touched author number xs v
+    version_only v is = quiet_only v is.quiet
+
+    module _ (ys mine : List N) (v : ℕ) where
+      -- If only the number's notes touch the guard from v on, and all of its notes are seen, the version in what was seen
+      -- is that of the history
+      pub version_whole : (w : ℕ) → IsPrefix xs ys → by author number xs ≡ mine → by author number ys ≡ mine →
+          v ≤ length xs → OnlyBy touched author number ys v → IsVersion touched xs w → IsVersion touched ys w
+      version_whole w p told all le only is =
+          let rest = p.0 in
+          let test : N → Bool = λ x. author x == number in
+          let parts = sym (filter-append test xs rest)
+          ∙ (ap (filter test) p.1 ∙ all) in
+          let none : length (filter test rest) ≡ 0 =
+          (let a = ap length parts in let b = length-append (filter test xs) (filter test rest) in
+          let c = ap length told in omega arith) in
+          let longer : length ys ≡ length xs + length rest = ap length (sym p.1) ∙ length-append xs rest in
+          record {
+            within = (let h = is.within in omega arith);
+            last = λ more. touched_longer xs ys (w - 1) p (is.last more);
+            quiet = λ k x ge e. ⊎_elim
+                (λ h. is.quiet k x ge h)
+                (λ h. untouched (touched x)
+                (λ t. filter_none test rest h.0 x none h.2
+                (eq-eqb (author x) number (only k x (let n = h.1 in omega arith) e t))))
+                (get_cases xs rest k x (rw p.1 e));
+          }
+
+      -- A version past what was seen, whose note is there, is the version if from there on only the number's notes touch
+      -- the guard and all of its notes were seen
+      pub version_past : IsPrefix xs ys → by author number xs ≡ mine → by author number ys ≡ mine → length xs < v →
+          TouchedAt touched ys (v - 1) → OnlyBy touched author number ys v → IsVersion touched ys v
+      version_past p seen all past last only =
+          let rest = p.0 in
+          let none =
+          none_later author number xs rest mine seen (ap (by author number) p.1 ∙ all) in
+          let below = slice_get_within ys _ last.0 last.1 in
+          record {
+            within = omega arith;
+            last = λ more. last;
+            quiet = λ k x ge e. ⊎_elim
+                (λ h. absurd (let lt = slice_get_within xs k x h in omega arith))
+                (λ h. untouched (touched x)
+                (λ t. filter_none (λ y. author y == number) rest h.0 x none h.2
+                (eq-eqb _ number (only k x ge e t))))
+                (get_cases xs rest k x (rw p.1 e));
+          }
+
+    -- one note more, which is by the number if it touches the guard
+    pub only_more : (n : N) (v : ℕ) → (touched n ≡ true → author n ≡ number) →
+        OnlyBy touched author number xs v → OnlyBy touched author number (xs ++ n ∷ []) v
+    only_more n v its only k x ge e t = ⊎_elim (λ h. only k x ge h t)
+        (λ h. (let same : n ≡ x = (get_last n x h.0 h.2).1 in ap author (sym same) ∙ its (ap touched same ∙ t)))
+        (get_cases xs _ k x e)
+
+  pub only_shorter : (author : N → ℕ) (number : ℕ) (xs ys : List N) (v : ℕ) → IsPrefix xs ys →
+      OnlyBy touched author number ys v → OnlyBy touched author number xs v
+  only_shorter = shorter_only
 
   -- a version within what was seen is that of what was seen
   pub version_seen : (xs ys : List N) (v : ℕ) → IsPrefix xs ys → v ≤ length xs → IsVersion touched ys v →
@@ -101,56 +152,24 @@ module _ {N : Type 0} (touched : N → Bool) where
     within = le;
     last = λ more. (let t = is.last more in ⊎_elim
         (λ h. (t.0, h, t.2))
-        (λ h. absurd (let n = h.1 in omega arith))
-        (get_cases xs p.0 (v - 1) t.0 (subst (λ (zs : List N). slice_get zs (v - 1) ≡ Some t.0) (sym p.1) t.1)));
-    quiet = λ k x ge e. is.quiet k x ge (subst (λ (zs : List N). slice_get zs k ≡ Some x) p.1 (get_front xs p.0 k x e));
+        (λ h. absurd (omega arith))
+        (get_cases xs p.0 _ t.0 (rw p.1 t.1)));
+    quiet = λ k x ge e. is.quiet k x ge (rw (← p.1) (get_front xs p.0 k x e));
   }
-
-  -- If only the number's notes touch the guard from v on, and all of its notes are seen, the version in what was seen
-  -- is that of the history
-  pub version_whole : (author : N → ℕ) (number : ℕ) (xs ys mine : List N) (v w : ℕ) → IsPrefix xs ys →
-      by author number xs ≡ mine → by author number ys ≡ mine
-      → v ≤ length xs → OnlyBy touched author number ys v → IsVersion touched xs w → IsVersion touched ys w
-  version_whole author number xs ys mine v w p told all le only is =
-      let rest : List N = p.0 in
-      let test : N → Bool = λ x. author x == number in
-      let parts : filter test xs ++ filter test rest ≡ mine = sym (filter-append test xs rest)
-      ∙ (ap (filter test) p.1 ∙ all) in
-      let none : length (filter test rest) ≡ 0 =
-      (let a = ap length parts in let b = length-append (filter test xs) (filter test rest) in
-      let c = ap length told in omega arith) in
-      let longer : length ys ≡ length xs + length rest = ap length (sym p.1) ∙ length-append xs rest in
-      record {
-        within = (let h = is.within in omega arith);
-        last = λ more. touched_longer xs ys (w - 1) p (is.last more);
-        quiet = λ k x ge e. ⊎_elim
-            (λ h. is.quiet k x ge h)
-            (λ h. untouched (touched x)
-            (λ t. filter_none test rest h.0 x none h.2
-            (eq-eqb (author x) number (only k x (let n = h.1 in omega arith) e t))))
-            (get_cases xs rest k x (subst (λ (zs : List N). slice_get zs k ≡ Some x) (sym p.1) e));
-      }
 
   -- a note that doesn't touch the guard leaves its version
   pub version_kept : (xs : List N) (n : N) (v : ℕ) → touched n ≡ false → IsVersion touched xs v →
       IsVersion touched (xs ++ n ∷ []) v
   version_kept xs n v away is = record {
-    within = (let h = is.within in omega (arith, length-append xs (n ∷ [])));
+    within = (omega (arith, length-append xs (n ∷ [])));
     last = λ more. touched_longer xs (xs ++ n ∷ []) (v - 1) (n ∷ [], refl) (is.last more);
     quiet = λ k x ge e. ⊎_elim (λ h. is.quiet k x ge h) (λ h. ap touched (sym (get_last n x h.0 h.2).1) ∙ away)
         (get_cases xs (n ∷ []) k x e);
   }
 
-  -- one note more, which is by the number if it touches the guard
-  pub only_more : (author : N → ℕ) (number : ℕ) (xs : List N) (n : N) (v : ℕ) → (touched n ≡ true → author n ≡ number) →
-      OnlyBy touched author number xs v → OnlyBy touched author number (xs ++ n ∷ []) v
-  only_more author number xs n v its only k x ge e t = ⊎_elim (λ h. only k x ge h t)
-      (λ h. (let same : n ≡ x = (get_last n x h.0 h.2).1 in ap author (sym same) ∙ its (ap touched same ∙ t)))
-      (get_cases xs (n ∷ []) k x e)
-
   not_above : (xs : List N) (v w : ℕ) → IsVersion touched xs v → IsVersion touched xs w → v < w → ⊥
   not_above xs v w is is' lt =
-      let last = is'.last (omega arith) in let f = is.quiet (w - 1) last.0 (omega arith) last.1 in cc (f, last.2)
+      let last = is'.last (omega arith) in let f = is.quiet _ last.0 (omega arith) last.1 in cc (f, last.2)
 
   -- a guard has one version
   pub version_one : (xs : List N) (v w : ℕ) → IsVersion touched xs v → IsVersion touched xs w → v ≡ w
@@ -158,24 +177,3 @@ module _ {N : Type 0} (touched : N → Bool) where
       (λ lt. absurd (not_above xs v w is is' lt))
       (λ le. ⊎_elim (λ lt. absurd (not_above xs w v is' is lt)) (λ le'. omega arith) (cases_lt w v))
       (cases_lt v w)
-
-  -- A version past what was seen, whose note is there, is the version if from there on only the number's notes touch
-  -- the guard and all of its notes were seen
-  pub version_past : (author : N → ℕ) (number : ℕ) (xs ys mine : List N) (v : ℕ) → IsPrefix xs ys →
-      by author number xs ≡ mine → by author number ys ≡ mine
-      → length xs < v → TouchedAt touched ys (v - 1) → OnlyBy touched author number ys v → IsVersion touched ys v
-  version_past author number xs ys mine v p seen all past last only =
-      let rest : List N = p.0 in
-      let none : length (by author number rest) ≡ 0 =
-      none_later author number xs rest mine seen (ap (by author number) p.1 ∙ all) in
-      let below : v - 1 < length ys = slice_get_within ys (v - 1) last.0 last.1 in
-      record {
-        within = omega arith;
-        last = λ more. last;
-        quiet = λ k x ge e. ⊎_elim
-            (λ h. absurd (let lt : k < length xs = slice_get_within xs k x h in omega arith))
-            (λ h. untouched (touched x)
-            (λ t. filter_none (λ y. author y == number) rest h.0 x none h.2
-            (eq-eqb (author x) number (only k x ge e t))))
-            (get_cases xs rest k x (subst (λ (zs : List N). slice_get zs k ≡ Some x) (sym p.1) e));
-      }

@@ -1,12 +1,11 @@
 use Rattle.std.proofs.Common.{refl, arith}
-use Rattle.ra_io.specs.Outside.{reading, writing, Took}
+use Rattle.ra_io.specs.Outside.{writing, Took}
 use Rattle.ra_jobs.specs.Commands.{over}
 use Rattle.ra_jobs.specs.Files.{names_of}
-use Rattle.ra_jobs.specs.Output.{output, BrokeOff}
+use Rattle.ra_jobs.specs.Output.{output}
 use Rattle.ra_jobs.proofs.DoesLemmas.{not_tried}
 use Rattle.ra_jobs.proofs.EndLemmas.{not_write}
 use Rattle.ra_jobs.proofs.ResultLemmas.{on_ok_then, if_err_then}
-use Rattle.ra_jobs.specs.Editing.{Edited, editing}
 use Rattle.ra_jobs.proofs.EditLemmas.{edited_all, reason_run, reason_untaken}
 use Rattle.ra_jobs.proofs.edit.edit.Goals as goal
 
@@ -22,7 +21,7 @@ returns g c =
           (Took out) c.in_ok-taken.ensures.read) c.edit_from.ensures.printed;
       refused = if_err_then c.edit_from.result _ _
           (reason_run held names t.inst.tables t.lists.initial.items t.lists.changed.items t.edits
-          (g.F.Files.faults c.args.files.now) (g.F.Files.faults c.read_taken.new.files) (BrokeOff out)
+          (g.F.Files.faults c.args.files.now) (g.F.Files.faults c.read_taken.new.files) _
           c.requires.initial c.requires.changed c.in_ok-taken.ensures.read) c.edit_from.ensures.refused;
       no_output = if_err_then c.edit_from.result _ _ (λ r same first. same (not_write r first))
           c.edit_from.ensures.no_output;
@@ -35,8 +34,8 @@ returns-in_err-taken g c =
     let held = g.F.Files.held c.args.files.now in
     let names = names_of c.args.names.now in
     let out = output g.O.Sink c.args.out.now c.args.out.now in
-    not_tried (over (editing names)) (reading g.F.Files c.args.files.now c.read_taken.new.files) out _ _
+    not_tried (over _) _ out _ _
     c.from_residual.ensures
     (reason_untaken held names (g.F.Files.faults c.args.files.now) (g.F.Files.faults c.read_taken.new.files)
-    (Edited held names (BrokeOff out.sink)) _ c.in_err-taken.ensures.refused)
+    _ _ c.in_err-taken.ensures.refused)
     refl c.read_taken.ensures.leaves (omega arith)

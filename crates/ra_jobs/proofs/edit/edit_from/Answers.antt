@@ -1,6 +1,5 @@
 use Rattle.ra_token.proofs.ToldLemmas.{at_exit}
 use Rattle.ra_io.specs.Outside.{writing, Took}
-use Rattle.ra_jobs.specs.Output.{BrokeOff}
 use Rattle.ra_jobs.proofs.ResultLemmas.{on_ok_then, if_err_then}
 use Rattle.ra_jobs.proofs.StageLemmas.{judge_more}
 use Rattle.ra_jobs.proofs.EditLemmas.{outcome_edited, over_more}
@@ -22,11 +21,11 @@ returns-clause-refused g c =
     (over_more c.args.taken.inst.tables c.args.taken.lists.initial.items c.args.taken.lists.changed.items _ _
     (outcome_edited c.args.taken.inst.tables c.args.taken.lists.initial.items c.args.taken.lists.changed.items
     c.args.taken.edits c.in_ok-outcome.outcome
-    (BrokeOff (writing g.O.Sink c.args.out.now c.write_outcome.new.out)) c.in_ok-outcome.ensures.done))
+    _ c.in_ok-outcome.ensures.done))
     c.write_outcome.ensures.refused
 
 pub returns-in_err-outcome-clause-refused : goal.returns-in_err-outcome-clause-refused
 returns-in_err-outcome-clause-refused g c =
     at_exit _ _ _ c.from_residual.ensures
     (judge_more c.args.taken.inst.tables c.args.taken.lists.initial.items c.args.taken.lists.changed.items ⊥ _
-    (λ none. absurd none) _ c.in_err-outcome.ensures.refused)
+    absurd _ c.in_err-outcome.ensures.refused)

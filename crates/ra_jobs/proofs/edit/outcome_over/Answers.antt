@@ -8,10 +8,7 @@ make-requires-clause-unbroken c = unbroken_from_feasible c.args.inst.now.tables 
 
 pub returns : goal.returns
 returns c = outcome_is c.args.inst.now.tables c.args.lists.now.initial.items c.args.lists.now.changed.items
-    c.args.edits.now c.in_ok-draft.draft c.edit_all.new.self (record {
-      parts = c.parts-parts.result;
-      left = c.leave.result;
-      replies = c.in_ok-replies.replies;
-    }) c.requires.judged.initial c.requires.judged.changed c.in_ok-draft.ensures c.in_ok-replies.ensures.after
+    c.args.edits.now c.in_ok-draft.draft c.edit_all.new.self _ c.requires.judged.initial c.requires.judged.changed
+    c.in_ok-draft.ensures c.in_ok-replies.ensures.after
     c.edit_all.ensures.origin c.leave.ensures.lists c.in_ok-replies.ensures.replies c.leave.ensures.sound
     c.leave.ensures.small c.leave.ensures.feasible c.parts-parts.ensures.parts

@@ -1,6 +1,3 @@
-use Rattle.std.proofs.Common.{◌≡◌, Err, ap}
-use Rattle.ra_edit_read.specs.declared.faults.EditsFault.{EditsFault}
-use Rattle.ra_edit_read.specs.declared.faults.EditsFault.TheVariants.{ReadFault}
 use Rattle.ra_jobs.proofs.EditLemmas.{edits_reason}
 use Rattle.ra_jobs.proofs.edit.take_edits.Goals as goal
 
@@ -14,5 +11,5 @@ pub returns-in-Err-clause-refused : goal.returns-in-Err-clause-refused
 returns-in-Err-clause-refused g c = rw (c.edits_refused.ensures, ← c.as_str.ensures)
     (edits_reason (g.F.Files.held c.args.files.now) c.as_str.result.now c.args.inst.now.tables
     (g.F.Files.faults c.args.files.now) (g.F.Files.faults c.read_edits.new.files) c.in-Err.fault
-    (λ (e : c.in-Err.fault ≡ ReadFault). c.in-Err.ensures.fault (ap (λ (x : EditsFault). Err x) e))
+    (λ e. c.in-Err.ensures.fault (rw e))
     c.in-Err.ensures.refused)

@@ -1,4 +1,4 @@
-use Rattle.std.proofs.Common.{◌++◌, length}
+use Rattle.std.proofs.Common.{◌++◌}
 use Rattle.ra_report.specs.Texts.{parts_text, assignment_line}
 use Rattle.ra_jobs.specs.EditedTexts.{initial_line, edits_text, model_part, edited_lines}
 use Rattle.ra_report.proofs.GatheringLemmas.{adds_more}
@@ -10,7 +10,7 @@ returns g c =
     let head = parts_text c.args.parts.now in
     let first = initial_line c.args.edited.now.initial.items in
     let listed = assignment_line c.args.edited.now.current.items in
-    let lines = edits_text c.args.replies.now.items (length c.args.replies.now.items) in
+    let lines = edits_text c.args.replies.now.items _ in
     let model = model_part c.args.edited.now.instance.tables in
     adds_more g.O.Sink.taken g.O.Sink.faults c.args.text.now c.add_parts.new.text c.add_model_part.new.text head
     (first ++ (listed ++ (lines ++ model))) c.add_parts.ensures

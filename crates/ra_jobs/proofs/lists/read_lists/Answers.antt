@@ -1,9 +1,7 @@
 -- The initial list is refused; or it was read, and the new one is.
 use Rattle.std.proofs.Common.{inl, inr}
 use Rattle.ra_token.proofs.ToldLemmas.{at_exit}
-use Rattle.ra_jobs.specs.declared.refusals.File.TheVariants as file
 use Rattle.ra_jobs.specs.declared.refusals.Role.TheVariants as role
-use Rattle.ra_jobs.specs.Files.{name_of, names_of}
 use Rattle.ra_jobs.proofs.StageLemmas.{leaves_both, list_later, list_now}
 use Rattle.ra_jobs.proofs.lists.read_lists.Goals as goal
 
@@ -11,7 +9,7 @@ pub returns-clause-read : goal.returns-clause-read
 returns-clause-read g c = record {
   initial = c.in_ok-initial.ensures.read;
   changed = list_now (g.F.Files.held c.args.files.now) (g.F.Files.held c.read_list.new.files)
-      (name_of (names_of c.args.names.now) file.Changed) c.args.inst.now.tables c.in_ok-changed.changed.items
+      _ c.args.inst.now.tables c.in_ok-changed.changed.items
       c.read_list.ensures.leaves.kept c.in_ok-changed.ensures.read;
 }
 
@@ -25,7 +23,7 @@ returns-in_err-changed-clause-refused g c =
       c.in_ok-initial.initial.items,
       c.in_ok-initial.ensures.read.0,
       list_later role.Changed (g.F.Files.held c.args.files.now) (g.F.Files.held c.read_list.new.files)
-          (name_of (names_of c.args.names.now) file.Changed) c.args.inst.now.tables
+          _ c.args.inst.now.tables
           (g.F.Files.faults c.args.files.now) (g.F.Files.faults c.read_list.new.files)
           (g.F.Files.faults c.read_list-2.new.files) c.read_list.ensures.leaves.kept
           c.read_list.ensures.leaves.never_fall _ c.in_err-changed.ensures.refused,

@@ -1,6 +1,3 @@
-use Rattle.std.proofs.Common.{◌≡◌, Err, ap}
-use Rattle.ra_model_read.specs.declared.faults.ModelFault.{ModelFault}
-use Rattle.ra_model_read.specs.declared.faults.ModelFault.TheVariants.{ReadFault}
 use Rattle.ra_token.proofs.ToldLemmas.{at_exit}
 use Rattle.ra_jobs.proofs.StageLemmas.{model_reason}
 use Rattle.ra_jobs.proofs.reading.read_open.Goals as goal
@@ -11,6 +8,6 @@ returns-in_err-read_model-clause-refused g c =
     (rw (← c.as_str.ensures)
     (model_reason (g.F.Files.held c.args.files.now) c.as_str.result.now (g.F.Files.faults c.args.files.now)
     (g.F.Files.faults c.read_model.new.files) c.in_err-read_model.field-0.0
-    (λ (e : c.in_err-read_model.field-0.0 ≡ ReadFault).
-    c.in_err-read_model.ensures.fault (ap (λ (x : ModelFault). Err x) e))
+    (λ e.
+    c.in_err-read_model.ensures.fault (rw e))
     c.in_err-read_model.ensures.refused))

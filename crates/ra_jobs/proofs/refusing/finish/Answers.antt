@@ -1,5 +1,4 @@
-use Rattle.std.proofs.Common.{◌≡◌, Ok, Err, Result, refl, sym, ◌∙◌, arith}
-use Rattle.ra_jobs.specs.declared.refusals.Refusal.{Refusal}
+use Rattle.std.proofs.Common.{refl, sym, ◌∙◌, arith}
 use Rattle.ra_jobs.proofs.refusing.finish.Goals as goal
 
 pub returns-in-Ok : goal.returns-in-Ok
@@ -13,8 +12,8 @@ returns-in-Ok g c = record {
 
 pub returns-in-Err : goal.returns-in-Err
 returns-in-Err g c = record {
-  done = λ (e : c.args.ended ≡ Ok tt). absurd (let both : Err c.in-Err.refusal ≡ Ok tt = sym c.in-Err.is ∙ e in cc);
-  no_line = λ (e : c.args.ended ≡ Ok tt). absurd (let both : Err c.in-Err.refusal ≡ Ok tt = sym c.in-Err.is ∙ e in cc);
+  done = λ e. cc (sym c.in-Err.is ∙ e);
+  no_line = λ e. cc (sym c.in-Err.is ∙ e);
   is = rw c.in-Err.is c.status.ensures;
   line = rw c.in-Err.is c.tell.ensures.line;
   never_falls = c.tell.ensures.never_falls;

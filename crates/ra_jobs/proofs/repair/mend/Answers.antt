@@ -1,7 +1,7 @@
 -- What the tries say, in the words of the files.
 use Rattle.std.proofs.Common.{None, refl, arith}
-use Rattle.ra_io.specs.Outside.{reading, writing, Took}
-use Rattle.ra_jobs.specs.Commands.{These, over}
+use Rattle.ra_io.specs.Outside.{writing, Took}
+use Rattle.ra_jobs.specs.Commands.{over}
 use Rattle.ra_jobs.specs.Files.{names_of}
 use Rattle.ra_jobs.specs.Output.{output, BrokeOff}
 use Rattle.ra_jobs.specs.Repairing.{RepairOwn, repaired}
@@ -32,10 +32,10 @@ returns g c =
           (λ tried. (lots, refl, tried_all held names lots i a0 c.lot.result.now None (Took out) start one tried))
           c.try_from-ended.ensures.printed;
       refused = if_err_then c.try_from-ended.result _ _
-          (λ r reason. reason_more held names before now (RepairOwn held names lots (Took out) (BrokeOff out))
-          ((repaired names (These lots)).refuses held (Took out) (BrokeOff out))
+          (λ r reason. reason_more held names before now (RepairOwn held names lots (Took out) _)
+          ((repaired names _).refuses held (Took out) (BrokeOff out))
           (λ refusal own. (lots, refl, own)) r
-          (reason_try held names lots i a0 c.lot.result.now before now (Took out) (BrokeOff out) start one r reason))
+          (reason_try held names lots i a0 c.lot.result.now before now (Took out) _ start one r reason))
           c.try_from-ended.ensures.refused;
       no_output = c.try_from-ended.ensures.no_output;
       leaves = c.read_start.ensures.leaves;
@@ -47,10 +47,9 @@ returns-in_err-start g c =
     let held = g.F.Files.held c.args.files.now in
     let names = names_of c.args.names.now in
     let out = output g.O.Sink c.args.out.now c.args.out.now in
-    not_tried (over (repaired names (These c.args.lots.now)))
-    (reading g.F.Files c.args.files.now c.read_start.new.files) out _ _ c.from_residual.ensures
+    not_tried (over _) _ out _ _ c.from_residual.ensures
     (reason_anywhere held names (g.F.Files.faults c.args.files.now) (g.F.Files.faults c.read_start.new.files)
-    ((repaired names (These c.args.lots.now)).refuses held (Took out.sink) (BrokeOff out.sink)) _
+    ((repaired names _).refuses held (Took out.sink) (BrokeOff out.sink)) _
     c.in_err-start.ensures.refused)
     refl c.read_start.ensures.leaves (omega arith)
 

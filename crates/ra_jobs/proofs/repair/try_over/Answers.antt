@@ -2,7 +2,6 @@
 use Rattle.std.proofs.Common.{Some, None, refl, ◌∙◌}
 use Rattle.ra_io.specs.Outside.{writing, Took}
 use Rattle.ra_token.proofs.ToldLemmas.{at_exit}
-use Rattle.ra_jobs.specs.Output.{BrokeOff}
 use Rattle.ra_jobs.proofs.RepairLemmas.{run_tried}
 use Rattle.ra_jobs.proofs.repair.try_over.Goals as goal
 
@@ -30,8 +29,10 @@ returns-in_err-ended-clause-refused g c =
       c.first_broken-broken.result,
       run_tried c.args.inst.now c.args.initial.now c.assignment.result.now c.args.lot.now c.run.new.self
           c.first_broken-broken.result c.first_broken-broken.result
-          (BrokeOff (writing g.O.Sink c.args.out.now c.write_repair-ended.new.sink)) c.run.ensures.run
-          (c.run.ensures.instance ∙ c.in_ok-repair.ensures.instance) (c.run.ensures.initial ∙ c.in_ok-repair.ensures.initial)
-          (c.run.ensures.lot ∙ c.in_ok-repair.ensures.lot) c.assignment.ensures.value c.first_broken-broken.ensures.first
+          _ c.run.ensures.run
+          (c.run.ensures.instance ∙ c.in_ok-repair.ensures.instance) (c.run.ensures.initial
+          ∙ c.in_ok-repair.ensures.initial)
+          (c.run.ensures.lot ∙ c.in_ok-repair.ensures.lot)
+          c.assignment.ensures.value c.first_broken-broken.ensures.first
           c.first_broken-broken.ensures.feasible.0 refl c.in_err-ended.ensures.part,
     )

@@ -1,8 +1,3 @@
-use Rattle.std.specs.Option.{option_copied}
-use Rattle.ra_io.specs.Outside.{reading}
-use Rattle.ra_jobs.specs.Files.{check_names}
-use Rattle.ra_jobs.specs.Output.{output}
-use Rattle.ra_jobs.specs.Outputs.{checked}
 use Rattle.ra_jobs.proofs.CompleteLemmas.{never_rose, no_read_fault, no_write_fault}
 use Rattle.ra_jobs.proofs.EndLemmas.{ends_of}
 use Rattle.ra_jobs.proofs.steady.check_steady.Goals as goal
@@ -10,15 +5,13 @@ use Rattle.ra_jobs.proofs.steady.check_steady.Goals as goal
 pub returns-clause-no_read_fault : goal.returns-clause-no_read_fault
 returns-clause-no_read_fault c =
     no_read_fault
-    (ends_of (checked
-    (check_names c.args.model.now c.args.initial.now c.args.changed.now (option_copied c.args.closed))) _ _ _ _
+    (ends_of _ _ _ _ _
     c.check_run.ensures) (λ name. never_rose)
 
 pub returns-clause-no_write_fault : goal.returns-clause-no_write_fault
 returns-clause-no_write_fault c =
     no_write_fault
-    (ends_of (checked
-    (check_names c.args.model.now c.args.initial.now c.args.changed.now (option_copied c.args.closed))) _ _ _ _
+    (ends_of _ _ _ _ _
     c.check_run.ensures) (λ printed. never_rose printed.text.1)
 
 pub returns-clause-complete : goal.returns-clause-complete

@@ -16,7 +16,7 @@ returns-in-None c = λ cost is.
     let fits : FitsSigned w128 local = search rules in
     let value : pos c.cost_after-cost.result ≡ settled_cost c.args.kept c.args.now c.args.after c.args.service_weight
     local = rw (to_z-of_z w128 local fits) at c.cost_after-cost.ensures.value in
-    let both : pos c.cost_after-cost.result ≡ pos cost = value ∙ is in
+    let both = value ∙ is in
     let same : c.cost_after-cost.result ≡ cost = cc in
     c.by_rise.ensures ∙ ap (λ n. verdict_of (rise_test c.args.kept n c.args.allowed) n) same
     ∙ settled_whole _ _ _ c.in-None.is

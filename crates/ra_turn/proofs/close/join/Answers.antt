@@ -8,7 +8,7 @@ join_seat-requires g c =
       search rules,
       search rules,
       search rules,
-      (let sized = c.args.turn.now.sized in omega arith),
+      (omega arith),
       glues story.opening story.notes story.author story.touches key.passes key.turns key.guards
           (story.opening key.start.value) _ c.args.seat.now.me.0 _ other.me.0 c.requires.seat.1
           (ap (λ s. s.me.0.stage) c.into_seat.ensures ∙ c.requires.pass.1.0) c.requires.seat.2

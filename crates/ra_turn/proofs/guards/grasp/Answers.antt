@@ -4,7 +4,7 @@ use Rattle.ra_turn.proofs.guards.grasp.Goals as goal
 
 pub compare_exchange-requires : goal.compare_exchange-requires
 compare_exchange-requires g c =
-    let key = c.args.desk.now.key in let story = g.V.Story in let even = c.requires.even in (
+    let key = c.args.desk.now.key in let story = g.V.Story in (
       search rules,
       omega arith,
       grips story.opening story.notes story.author story.touches key.passes key.turns

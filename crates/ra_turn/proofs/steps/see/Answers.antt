@@ -1,6 +1,5 @@
-use Rattle.std.proofs.Common.{◌≡◌, ◌∷◌, Some, rules, arith, subst, sym, ap, ◌∙◌}
+use Rattle.std.proofs.Common.{◌≡◌, ◌∷◌, Some, rules, arith, sym, ap, ◌∙◌}
 use Rattle.atomic_table.specs.Table.{rest}
-use Rattle.ra_turn.specs.Steps.{IsShut, IsTold}
 use Rattle.ra_turn.proofs.Turns.{sees}
 use Rattle.ra_turn.proofs.steps.see.Goals as goal
 
@@ -14,13 +13,13 @@ fetch_add-count-requires g c = let key = c.args.desk.now.key in let story = g.V.
 
 pub exchange-value-requires : goal.exchange-value-requires
 exchange-value-requires g c = let told = c.fetch_add-count.ensures.2 in let seat = c.fetch_add-count.new.seat in
-    let taken : seat.me.1 ≡ (0, Some told.0) ∷ c.args.seat.now.me.1 = ap (λ m. m.1) told.2 in
+    let taken : seat.me.1 ≡ (0, Some told.0) ∷ c.args.seat.now.me.1 = rw told.2 in
     (search rules, (Some told.0, taken ∙ ap (λ cs. (0, Some told.0) ∷ rest cs) (sym taken)))
 
 pub returns-clause-guards : goal.returns-clause-guards
-returns-clause-guards g c = let told = c.fetch_add-count.ensures.2 in let story = g.V.Story in
+returns-clause-guards g c = let told = c.fetch_add-count.ensures.2 in
     let view : c.exchange-value.new.seat.me.0 ≡ c.fetch_add-count.new.seat.me.0 =
-    ap (λ m. m.0) c.exchange-value.ensures.3 in (
-      subst (λ v. IsShut story.author story.touches v) (sym view) told.3,
-      subst (λ v. IsTold story.touches v) (sym view) told.4,
+    rw c.exchange-value.ensures.3 in (
+      rw view told.3,
+      rw view told.4,
     )

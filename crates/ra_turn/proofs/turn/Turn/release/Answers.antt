@@ -1,7 +1,5 @@
-use Rattle.std.proofs.Common.{◌≡◌, ◌+◌, ◌<◌, ◌==◌, not, All, ap, sym, subst, ◌∙◌}
+use Rattle.std.proofs.Common.{◌≡◌, ◌+◌, ◌<◌, ◌==◌, not, ap, sym, subst, ◌∙◌}
 use Rattle.std.proofs.lemmas.List.Elements.{All-filter}
-use Rattle.atomic_table.specs.Seated.{TableId}
-use Rattle.ra_turn.specs.declared.sight.Grip.{Grip}
 use Rattle.ra_turn.specs.Notes.{by, without}
 use Rattle.ra_turn.proofs.Passing.{shut_at}
 use Rattle.ra_turn.proofs.turn.Turn.release.Goals as goal
@@ -10,13 +8,10 @@ use Rattle.ra_turn.proofs.turn.Turn.release.Goals as goal
 pub invariant_of-pass-clause-within : goal.invariant_of-pass-clause-within
 invariant_of-pass-clause-within g c = let old = c.args.pass.now.seat in let new = c.release_guard.new.seat in
     let grips : new.me.0.grips ≡ without c.args.guard old.me.0.grips =
-    ap (λ m. m.0.grips) c.release_guard.ensures.view.0 in
-    let table : new.table_id ≡ old.table_id = c.release_guard.ensures.same.0 in
-    subst (λ ks. All (λ (k : Grip). 3 + k.guard < new.table_id.words) ks) (sym grips)
-    (subst (λ (z : TableId). All (λ (k : Grip). 3 + k.guard < z.words) (without c.args.guard old.me.0.grips))
-    (sym table)
-    (All-filter (λ (k : Grip). not (k.guard == c.args.guard)) (λ (k : Grip). 3 + k.guard < old.table_id.words)
-    old.me.0.grips c.args.pass.now.within))
+    rw c.release_guard.ensures.view.0 in
+    let table = c.release_guard.ensures.same.0 in
+    rw (grips, table) (All-filter (λ k. not (k.guard == c.args.guard)) (λ k. 3 + k.guard < old.table_id.words)
+    old.me.0.grips c.args.pass.now.within)
 
 pub returns-clause-shut : goal.returns-clause-shut
 returns-clause-shut g c = let story = g.V.Story in let v = c.release_guard.new.seat.me.0 in
