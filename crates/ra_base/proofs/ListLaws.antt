@@ -1,6 +1,6 @@
 -- Sums and searches over the elements of a list, f j x being the term of the element x at place j.
 use Rattle.std.proofs.Common.{◌≡◌, ℕ, zero, suc, ◌+◌, ◌<◌, ◌≤◌, List, [], ◌∷◌, ◌++◌, length, get_or, set, take, sum}
-use Rattle.std.proofs.Common.{Option, refl, ap, ap₂, ◌∙◌, add-one, arith, length-append, get_or-set_other}
+use Rattle.std.proofs.Common.{Option, refl, ap, ◌∙◌, add-one, arith, length-append, get_or-set_other}
 use Rattle.std.proofs.Common.{get_or-set_same, get_or-take}
 use Rattle.std.proofs.lemmas.List.{get_or_append_left}
 use Rattle.std.proofs.Math.Seq.{get_or-append_seam}
@@ -14,37 +14,26 @@ use Rattle.ra_base.proofs.Searches.{first_more, first_same}
 pub total_push : {X : Type 0} → (xs : List X) (x d : X) (f : ℕ → X → ℕ) →
     total (length (xs ++ x ∷ [])) (λ j. f j (get_or (xs ++ x ∷ []) j d)) ≡ total (length xs) (λ j. f j (get_or xs j d))
     + f (length xs) x
-total_push xs x d f =
-    ap (λ n. total n (λ j. f j (get_or (xs ++ x ∷ []) j d))) (length-append xs (x ∷ []))
-    ∙ total_more (length xs) (λ j. f j (get_or (xs ++ x ∷ []) j d))
-    ∙ ap₂ (λ a b. a + b) (total_same (length xs) (λ j. f j (get_or (xs ++ x ∷ []) j d)) (λ j. f j (get_or xs j d))
-    (λ j h. ap (f j) (get_or_append_left xs (x ∷ []) d j h)))
-    (ap (f (length xs)) (get_or-append_seam xs x [] d))
+total_push xs x d f = grind (arith, length-append, total_more, total_same, get_or_append_left, get_or-append_seam)
 
 pub first_push : {X Y : Type 0} → (xs : List X) (x d : X) (f : ℕ → X → Option Y) →
     first (length (xs ++ x ∷ [])) (λ j. f j (get_or (xs ++ x ∷ []) j d)) ≡
     or_else (first (length xs) (λ j. f j (get_or xs j d))) (f (length xs) x)
-first_push xs x d f =
-    ap (λ n. first n (λ j. f j (get_or (xs ++ x ∷ []) j d))) (length-append xs (x ∷ []))
-    ∙ first_more (length xs) (λ j. f j (get_or (xs ++ x ∷ []) j d))
-    ∙ ap₂ or_else (first_same (length xs) (λ j. f j (get_or (xs ++ x ∷ []) j d)) (λ j. f j (get_or xs j d))
-    (λ j h. ap (f j) (get_or_append_left xs (x ∷ []) d j h)))
-    (ap (f (length xs)) (get_or-append_seam xs x [] d))
+first_push xs x d f = grind (arith, length-append, first_more, first_same, get_or_append_left, get_or-append_seam)
 
 -- a write at p
 pub total_set : {X : Type 0} → (n p : ℕ) (xs : List X) (y d : X) (f : ℕ → X → ℕ) → p < n → p < length xs →
     total n (λ k. f k (get_or (set xs p y) k d)) + f p (get_or xs p d) ≡ total n (λ k. f k (get_or xs k d)) + f p y
 total_set n p xs y d f within there =
     ap (λ v. total n (λ k. f k (get_or (set xs p y) k d)) + v) refl
-    ∙ total_change n p (λ k. f k (get_or (set xs p y) k d)) (λ k. f k (get_or xs k d)) within
-    (λ k h apart. ap (f k) (get_or-set_other xs p k y d apart))
-    ∙ ap (λ v. total n (λ k. f k (get_or xs k d)) + f p v) (get_or-set_same xs p y d there)
+    ∙ total_change n p (λ k. f k (get_or (set xs p y) k d)) _ within
+    (λ k h apart. rw (get_or-set_other xs p k y d apart))
+    ∙ ap (λ v. total n _ + f p v) (get_or-set_same xs p y d there)
 
 -- the front of a list
 pub total_take : {X : Type 0} → (n m : ℕ) (xs : List X) (d : X) (f : ℕ → X → ℕ) → n ≤ m →
     total n (λ k. f k (get_or (take m xs) k d)) ≡ total n (λ k. f k (get_or xs k d))
-total_take n m xs d f few = total_same n (λ k. f k (get_or (take m xs) k d)) (λ k. f k (get_or xs k d))
-    (λ k h. ap (f k) (get_or-take m xs k d (omega arith)))
+total_take n m xs d f few = grind (arith, total_same, get_or-take)
 
 -- a list's own sum
 sum_more : (xs : List ℕ) (n : ℕ) → n < length xs → sum (take (n + 1) xs) ≡ sum (take n xs) + get_or xs n 0

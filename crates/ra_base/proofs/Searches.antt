@@ -4,96 +4,96 @@ use Rattle.std.proofs.Common.{◌∙◌, inl, inr, ⊎_elim, add-one, add-suc, a
 use Rattle.std.proofs.lemmas.Bool.{cases_lt}
 use Rattle.ra_base.specs.Searches.{or_else, first}
 
-pub or_else_none : {X : Type 0} → (b : Option X) → or_else None b ≡ b
-unfolding or_else
-or_else_none b = refl
+module _ {X : Type 0} where
+  pub or_else_none : (b : Option X) → or_else None b ≡ b
+  unfolding or_else
+  or_else_none b = refl
 
-pub or_else_some : {X : Type 0} → (x : X) (b : Option X) → or_else (Some x) b ≡ Some x
-unfolding or_else
-or_else_some x b = refl
+  pub or_else_some : (x : X) (b : Option X) → or_else (Some x) b ≡ Some x
+  unfolding or_else
+  or_else_some x b = refl
 
-pub or_else_none_right : {X : Type 0} → (a : Option X) → or_else a None ≡ a
-unfolding or_else
-or_else_none_right None = refl
-or_else_none_right (Some x) = refl
+  pub or_else_none_right : (a : Option X) → or_else a None ≡ a
+  unfolding or_else
+  or_else_none_right None = refl
+  or_else_none_right (Some x) = refl
 
-pub or_else_assoc : {X : Type 0} → (a b c : Option X) → or_else (or_else a b) c ≡ or_else a (or_else b c)
-unfolding or_else
-or_else_assoc None b c = refl
-or_else_assoc (Some x) b c = refl
+  pub or_else_assoc : (a b c : Option X) → or_else (or_else a b) c ≡ or_else a (or_else b c)
+  unfolding or_else
+  or_else_assoc None b c = refl
+  or_else_assoc (Some x) b c = refl
 
--- none, if neither of the two is there
-pub both_none : {X : Type 0} → (a b : Option X) → a ≡ None → b ≡ None → or_else a b ≡ None
-both_none a b no_a no_b = rw (no_a, no_b) (or_else_none None)
+  -- none, if neither of the two is there
+  pub both_none : (a b : Option X) → a ≡ None → b ≡ None → or_else a b ≡ None
+  both_none a b no_a no_b = rw (no_a, no_b) (or_else_none None)
 
-pub left_none : {X : Type 0} → (a b : Option X) → or_else a b ≡ None → a ≡ None
-unfolding or_else
-left_none None b none = refl
-left_none (Some x) b none = none
+  pub left_none : (a b : Option X) → or_else a b ≡ None → a ≡ None
+  unfolding or_else
+  left_none None b none = refl
+  left_none (Some x) b none = none
 
-pub right_none : {X : Type 0} → (a b : Option X) → or_else a b ≡ None → b ≡ None
-unfolding or_else
-right_none None b none = none
-right_none (Some x) b none = cc
+  pub right_none : (a b : Option X) → or_else a b ≡ None → b ≡ None
+  unfolding or_else
+  right_none None b none = none
+  right_none _ b none = cc
 
--- what is found is the one, or the other if the one is not there
-pub or_else_cases : {X : Type 0} → (a b : Option X) (x : X) → or_else a b ≡ Some x → (a ≡ Some x)
-    ⊎ ((a ≡ None) × (b ≡ Some x))
-unfolding or_else
-or_else_cases None b x found = inr (refl, found)
-or_else_cases (Some y) b x found = inl found
+  -- what is found is the one, or the other if the one is not there
+  pub or_else_cases : (a b : Option X) (x : X) → or_else a b ≡ Some x → (a ≡ Some x) ⊎ ((a ≡ None) × (b ≡ Some x))
+  unfolding or_else
+  or_else_cases None b x found = inr (refl, found)
+  or_else_cases (Some y) b x found = inl found
 
 module _ {X : Type 0} where
   pub first_none : (f : ℕ → Option X) → first 0 f ≡ None
   unfolding first
   first_none f = refl
 
-  pub first_suc : (n : ℕ) (f : ℕ → Option X) → first (suc n) f ≡ or_else (first n f) (f n)
-  unfolding first
-  first_suc n f = refl
+  module _ (n : ℕ) (f : ℕ → Option X) where
+    pub first_suc : first (suc n) f ≡ or_else (first n f) (f n)
+    unfolding first
+    first_suc = refl
 
-  -- one more, as a loop counts
-  pub first_more : (n : ℕ) (f : ℕ → Option X) → first (n + 1) f ≡ or_else (first n f) (f n)
-  unfolding first
-  first_more n f = rw add-one refl
+    -- one more, as a loop counts
+    pub first_more : first (n + 1) f ≡ or_else (first n f) (f n)
+    unfolding first
+    first_more = rw add-one refl
 
-  -- nothing so far, and nothing here
-  pub first_more_none : (n : ℕ) (f : ℕ → Option X) → first n f ≡ None → f n ≡ None → first (n + 1) f ≡ None
-  first_more_none n f before here = first_more n f ∙ both_none (first n f) (f n) before here
+    -- nothing so far, and nothing here
+    pub first_more_none : first n f ≡ None → f n ≡ None → first (n + 1) f ≡ None
+    first_more_none before here = first_more ∙ both_none (first n f) _ before here
 
-  -- nothing so far, so the answer is the one here
-  pub first_more_skip : (n : ℕ) (f : ℕ → Option X) → first n f ≡ None → first (n + 1) f ≡ f n
-  first_more_skip n f before = first_more n f ∙ ap (λ (a : Option X). or_else a (f n)) before ∙ or_else_none (f n)
+    -- nothing so far, so the answer is the one here
+    pub first_more_skip : first n f ≡ None → first (n + 1) f ≡ f n
+    first_more_skip before = grind (arith, first_more, or_else_none)
 
   -- what is found stays found
   pub first_grows : (i n : ℕ) (f : ℕ → Option X) (x : X) → i ≤ n → first i f ≡ Some x → first n f ≡ Some x
   unfolding first
   first_grows i zero f x below found = let none : i ≡ 0 = omega arith in rw none at found
   first_grows i (suc n) f x below found = ⊎_elim
-      (λ before. ap (λ (a : Option X). or_else a (f n)) (first_grows i n f x (omega arith) found)
+      (λ before. ap (λ a. or_else a (f n)) (first_grows i n f x (omega arith) found)
       ∙ or_else_some x (f n))
       (λ after. let all : i ≡ suc n = omega arith in rw all at found)
       (cases_lt i (suc n))
 
   -- nothing before i, and an answer at i
   pub first_found : (i n : ℕ) (f : ℕ → Option X) (x : X) → i < n → first i f ≡ None → f i ≡ Some x → first n f ≡ Some x
-  first_found i n f x within before here =
-      first_grows (suc i) n f x within (first_suc i f ∙ ap (λ (a : Option X). or_else a (f i)) before
-      ∙ or_else_none (f i) ∙ here)
+  first_found i n f x within before here = first_grows _ n f x within (rw (
+    first_suc i f,
+    before,
+    here,
+  ) (or_else_none _))
 
   pub first_none_at : (i n : ℕ) (f : ℕ → Option X) → i < n → first n f ≡ None → f i ≡ None
   unfolding first
   first_none_at i zero f within none = absurd (omega arith)
-  first_none_at i (suc n) f within none = ⊎_elim
-      (λ before. first_none_at i n f before (left_none (first n f) (f n) none))
-      (λ after. let here : i ≡ n = omega arith in ap f here ∙ right_none (first n f) (f n) none)
-      (cases_lt i n)
+  first_none_at i (suc n) f within none = grind (arith, first_none_at i n f, left_none, right_none)
 
   pub first_none_from : (n : ℕ) (f : ℕ → Option X) → ((k : ℕ) → k < n → f k ≡ None) → first n f ≡ None
   unfolding first
   first_none_from zero f nones = refl
   first_none_from (suc n) f nones =
-      both_none (first n f) (f n) (first_none_from n f (λ k h. nones k (omega arith))) (nones n (omega arith))
+      both_none (first n f) _ (first_none_from n f (λ k h. nones k (omega arith))) (nones n (omega arith))
 
   pub first_same : (n : ℕ) (f g : ℕ → Option X) → ((k : ℕ) → k < n → f k ≡ g k) → first n f ≡ first n g
   unfolding first
@@ -115,26 +115,25 @@ module _ {X : Type 0} where
       × (first i f ≡ None)
   unfolding first
   first_some_at zero f x found = absurd (cc)
-  first_some_at (suc n) f x found = ⊎_elim
-      (λ (before : first n f ≡ Some x). let at = first_some_at n f x before in (at.0, omega arith, at.2, at.3))
-      (λ (here : (first n f ≡ None) × (f n ≡ Some x)). (n, omega arith, here.1, here.0))
-      (or_else_cases (first n f) (f n) x found)
+  first_some_at (suc n) f x found = elim (or_else_cases (first n f) _ x found) [
+    | inl before ↦ let at = first_some_at n f x before in (at.0, omega arith, at.2, at.3)
+    | inr here ↦ (n, omega arith, here.1, here.0)
+  ]
 
   -- the first m, and then the next n
   pub first_split : (m n : ℕ) (f : ℕ → Option X) → first (m + n) f ≡ or_else (first m f) (first n (λ k. f (m + k)))
   unfolding first
   first_split m zero f = rw add-zero (sym (or_else_none_right (first m f)))
   first_split m (suc n) f =
-      rw add-suc (ap (λ (a : Option X). or_else a (f (m + n))) (first_split m n f)
-      ∙ or_else_assoc (first m f) (first n (λ k. f (m + k))) (f (m + n)))
+      rw add-suc (ap (λ a. or_else a (f (m + n))) (first_split m n f)
+      ∙ or_else_assoc (first m f) (first n _) _)
 
 -- rows of n places each, one after another
 pub first_rows : {X : Type 0} → (m n : ℕ) (f : ℕ → Option X) →
     first (m * n) f ≡ first m (λ i. first n (λ j. f (i * n + j)))
 unfolding first
-first_rows zero n f = ap (λ k. first k f) (zero-mul n)
-first_rows (suc m) n f = ap (λ k. first k f) (suc-mul m n) ∙ first_split (m * n) n f
-    ∙ ap (λ a. or_else a (first n (λ j. f (m * n + j)))) (first_rows m n f)
+first_rows zero n f = rw (zero-mul n)
+first_rows (suc m) n f = rw (suc-mul m n, first_split _ n f, first_rows m n f) refl
 
 -- what is found is passed on through h
 or_else_map : {X Y : Type 0} → (h : X → Y) (a b : Option X) → or_else (option_map h a) (option_map h b) ≡
@@ -147,7 +146,7 @@ pub first_map : {X Y : Type 0} → (n : ℕ) (h : X → Y) (f : ℕ → Option X
     option_map h (first n f)
 unfolding first
 first_map zero h f = refl
-first_map (suc n) h f = ap (λ a. or_else a (option_map h (f n))) (first_map n h f) ∙ or_else_map h (first n f) (f n)
+first_map (suc n) h f = ap (λ a. or_else a (option_map h (f n))) (first_map n h f) ∙ or_else_map h (first n f) _
 
 -- what a search in a loop needs
 pub ruleset searches = (first_none, first_more_none, first_more_skip, first_found)

@@ -1,5 +1,6 @@
 -- Laws of `total`, the sum of a function over the numbers below n.
-use Rattle.std.proofs.Common.{◌≡◌, ℕ, zero, suc, ◌+◌, ◌-◌, ◌*◌, ◌<◌, ◌≤◌, ◌≢◌, Bool, true, false, cond, eqb, sym, refl}
+use Rattle.std.proofs.Common.{inl, inr, ◌≡◌, ℕ, zero, suc, ◌+◌, ◌-◌, ◌*◌, ◌<◌, ◌≤◌, ◌≢◌, Bool, true, false, cond, eqb}
+use Rattle.std.proofs.Common.{sym, refl}
 use Rattle.std.proofs.Common.{ap, ◌∙◌, ⊎_elim, add-one, add-suc, add-zero, zero-mul, suc-mul, arith, eq-eqb, ne_eqb}
 use Rattle.std.proofs.Common.{le_trans, le_refl, mul-le-mul_right}
 use Rattle.std.proofs.lemmas.Bool.{cases_lt, cases_eq, cond-true, cond-false}
@@ -51,28 +52,22 @@ pub total_change : (n i : ℕ) (f g : ℕ → ℕ) → i < n → ((k : ℕ) → 
     total n f + g i ≡ total n g + f i
 unfolding total
 total_change zero i f g within same = omega arith
-total_change (suc n) i f g within same = ⊎_elim
-    (λ before. omega (
-      arith,
-      total_change n i f g before (λ k h d. same k (omega arith) d),
-      same n (omega arith) (omega arith),
-    ))
-    (λ after. let here : i ≡ n = omega arith in
-    omega (arith, ap f here, ap g here, total_same n f g (λ k h. same k (omega arith) (omega arith))))
-    (cases_lt i n)
+total_change (suc n) i f g within same = grind (arith, total_change n i f g, total_same n f g)
 
 -- f and g differ at i and at j alone
 pub total_change_two : (n i j : ℕ) (f g : ℕ → ℕ) → i < n → j < n → i ≢ j →
     ((k : ℕ) → k < n → k ≢ i → k ≢ j → f k ≡ g k) → total n f + (g i + g j) ≡ total n g + (f i + f j)
 total_change_two n i j f g i_within j_within apart same =
     let h = λ (k : ℕ). cond (eqb k i) (g k) (f k) in
-    let h_i : h i ≡ g i = cond-true (eqb i i) (g i) (f i) (eq-eqb i i refl) in
+    let h_i = cond-true (eqb i i) (g i) (f i) (eq-eqb i i refl) in
     let h_other = λ (k : ℕ) (d : k ≢ i). cond-false (eqb k i) (g k) (f k) (ne_eqb k i d) in
     let first = total_change n i f h i_within (λ k w d. sym (h_other k d)) in
     let second =
     total_change n j h g j_within
-    (λ k w d. ⊎_elim (λ (e : k ≡ i). cond-true (eqb k i) (g k) (f k) (eq-eqb k i e))
-    (λ (e : k ≢ i). h_other k e ∙ same k w e d) (cases_eq k i)) in
+    (λ k w d. elim (cases_eq k i) [
+      | inl e ↦ cond-true (eqb k i) (g k) (f k) (eq-eqb k i e)
+      | inr e ↦ h_other k e ∙ same k w e d
+    ]) in
     omega (arith, first, second, h_i, h_other j (λ e. apart (sym e)))
 
 pub total_of_sum : (n : ℕ) (f g : ℕ → ℕ) → total n (λ k. f k + g k) ≡ total n f + total n g
@@ -103,31 +98,39 @@ total_grows n (suc m) f few = ⊎_elim
     (λ above. let all : n ≡ suc m = omega arith in rw all (le_refl (total (suc m) f)))
     (cases_lt n (suc m))
 
-pub total_term : (n i : ℕ) (f : ℕ → ℕ) → i < n → f i ≤ total n f
-total_term n i f within = omega (arith, total_grows (suc i) n f within, total_suc i f)
+-- all terms but that at i are zero
+pub total_only : (n i : ℕ) (f : ℕ → ℕ) → i < n → ((k : ℕ) → k < n → k ≢ i → f k ≡ 0) → total n f ≡ f i
+total_only n i f within zeros =
+    omega (arith, total_change n i f _ within zeros, total_zero n _ (λ k h. refl))
+
+module _ (n i : ℕ) (f : ℕ → ℕ) where
+  pub total_term : i < n → f i ≤ total n f
+  total_term within = omega (arith, total_grows _ n f within, total_suc i f)
+
+  -- if the sum is zero, each term is
+  pub total_zero_at : total n f ≡ 0 → i < n → f i ≡ 0
+  total_zero_at zeros within = omega (arith, total_term within)
+
+  -- the terms so far and the next are a part of the sum
+  pub total_part : i < n → total i f + f i ≤ total n f
+  total_part within = omega (arith, total_grows _ n f within, total_suc i f)
+
+  -- the term at i alone
+  pub total_point : i < n → total n (λ k. cond (eqb k i) (f k) 0) ≡ f i
+  total_point within =
+      total_only n i _ within (λ k h d. cond-false (eqb k i) _ 0 (ne_eqb k i d))
+      ∙ cond-true _ _ 0 (eq-eqb i i refl)
 
 -- two terms
 pub total_terms : (n i j : ℕ) (f : ℕ → ℕ) → i < j → j < n → f i + f j ≤ total n f
 total_terms n i j f before within =
-    omega (arith, total_grows (suc j) n f within, total_suc j f, total_term j i f before)
-
--- if the sum is zero, each term is
-pub total_zero_at : (n i : ℕ) (f : ℕ → ℕ) → total n f ≡ 0 → i < n → f i ≡ 0
-total_zero_at n i f zeros within = omega (arith, total_term n i f within)
+    omega (arith, total_grows _ n f within, total_suc j f, total_term j i f before)
 
 -- a sum above zero has a term above zero
 pub total_positive : (n : ℕ) (f : ℕ → ℕ) → 0 < total n f → (k : ℕ) × (k < n) × (0 < f k)
 unfolding total
 total_positive zero f positive = absurd (omega arith)
-total_positive (suc n) f positive = ⊎_elim
-    (λ here. (n, omega arith, here))
-    (λ none. let found = total_positive n f (omega arith) in (found.0, omega arith, found.2))
-    (cases_lt 0 (f n))
-
--- all terms but that at i are zero
-pub total_only : (n i : ℕ) (f : ℕ → ℕ) → i < n → ((k : ℕ) → k < n → k ≢ i → f k ≡ 0) → total n f ≡ f i
-total_only n i f within zeros =
-    omega (arith, total_change n i f (λ k. 0) within zeros, total_zero n (λ k. 0) (λ k h. refl))
+total_positive (suc n) f positive = grind (arith, total_positive n f)
 
 -- at most one term is above zero
 pub total_at_most_one : (n b : ℕ) (f : ℕ → ℕ) → ((k : ℕ) → k < n → f k ≤ b) →
@@ -139,11 +142,13 @@ total_at_most_one n b f each one = ⊎_elim
       arith,
       each found.0 found.1,
       total_only n found.0 f found.1
-          (λ k h d. ⊎_elim (λ (more : 0 < f k). absurd (d (one k found.0 h found.1 more found.2)))
-          (λ (none : f k ≤ 0). omega arith) (cases_lt 0 (f k))),
+          (λ k h d. elim (cases_lt 0 _) [
+            | inl more ↦ absurd (d (one k found.0 h found.1 more found.2))
+            | inr none ↦ omega arith
+          ]),
     ))
     (λ none. omega arith)
-    (cases_lt 0 (total n f))
+    (cases_lt 0 _)
 
 -- sums by rows and by columns
 pub total_swap : (m n : ℕ) (f : ℕ → ℕ → ℕ) → total m (λ i. total n (f i)) ≡ total n (λ j. total m (λ i. f i j))
@@ -164,7 +169,7 @@ total_times_minus n c f g = omega (arith, total_minus n (λ k. c * f k) g, total
 -- the first m terms and the next n
 pub total_split : (m n : ℕ) (f : ℕ → ℕ) → total (m + n) f ≡ total m f + total n (λ k. f (m + k))
 unfolding total
-total_split m zero f = ap (λ k. total k f) (add-zero m) ∙ sym (add-zero (total m f))
+total_split m zero f = ap (λ k. total k f) (add-zero m) ∙ sym (add-zero _)
 total_split m (suc n) f = rw add-suc (omega (arith, total_split m n f))
 
 -- one term at the front
@@ -172,10 +177,6 @@ pub total_front : (n : ℕ) (f : ℕ → ℕ) → total (suc n) f ≡ f 0 + tota
 unfolding total
 total_front zero f = omega arith
 total_front (suc n) f = omega (arith, total_front n f)
-
--- the terms so far and the next are a part of the sum
-pub total_part : (n i : ℕ) (f : ℕ → ℕ) → i < n → total i f + f i ≤ total n f
-total_part n i f within = omega (arith, total_grows (suc i) n f within, total_suc i f)
 
 pub total_times_right : (n c : ℕ) (f : ℕ → ℕ) → total n (λ k. f k * c) ≡ total n f * c
 unfolding total
@@ -185,20 +186,14 @@ total_times_right (suc n) c f = omega (arith, total_times_right n c f)
 -- weighed sums of rows, by columns
 pub total_times_swap : (m n : ℕ) (w : ℕ → ℕ) (f : ℕ → ℕ → ℕ) → total m (λ i. w i * total n (f i)) ≡
     total n (λ j. total m (λ i. w i * f i j))
-total_times_swap m n w f = total_same m (λ i. w i * total n (f i)) (λ i. total n (λ j. w i * f i j))
-    (λ i h. sym (total_times n (w i) (f i))) ∙ total_swap m n (λ i j. w i * f i j)
-
--- the term at i alone
-pub total_point : (n i : ℕ) (f : ℕ → ℕ) → i < n → total n (λ k. cond (eqb k i) (f k) 0) ≡ f i
-total_point n i f within =
-    total_only n i (λ k. cond (eqb k i) (f k) 0) within (λ k h d. cond-false (eqb k i) (f k) 0 (ne_eqb k i d))
-    ∙ cond-true (eqb i i) (f i) 0 (eq-eqb i i refl)
+total_times_swap m n w f = total_same m _ _
+    (λ i h. sym (total_times n _ _)) ∙ total_swap m n _
 
 -- the terms that pass and those that fail
 pub total_parts : (n : ℕ) (test : ℕ → Bool) (f : ℕ → ℕ) → total n f ≡ total n (λ k. cond (test k) (f k) 0)
     + total n (λ k. cond (test k) 0 (f k))
-total_parts n test f = total_same n f (λ k. cond (test k) (f k) 0 + cond (test k) 0 (f k))
-    (λ k h. both_parts (test k) (f k)) ∙ total_of_sum n (λ k. cond (test k) (f k) 0) (λ k. cond (test k) 0 (f k))
+total_parts n test f = total_same n f _
+    (λ k h. both_parts (test k) _) ∙ total_of_sum n _ _
   where
     both_parts : (t : Bool) (x : ℕ) → x ≡ cond t x 0 + cond t 0 x
     both_parts true x = omega arith
@@ -208,18 +203,13 @@ total_parts n test f = total_same n f (λ k. cond (test k) (f k) 0 + cond (test 
 pub total_lt : (n i : ℕ) (f g : ℕ → ℕ) → i < n → f i < g i → ((k : ℕ) → k < n → f k ≤ g k) → total n f < total n g
 unfolding total
 total_lt zero i f g within less each = absurd (omega arith)
-total_lt (suc n) i f g within less each = ⊎_elim
-    (λ (before : i < n).
-    omega (arith, total_lt n i f g before less (λ k h. each k (omega arith)), each n (omega arith)))
-    (λ (after : n ≤ i). let here : i ≡ n = omega arith in
-    omega (arith, total_le n f g (λ k h. each k (omega arith)), ap f here, ap g here))
-    (cases_lt i n)
+total_lt (suc n) i f g within less each = grind (arith, total_lt n i f g, total_le n f g)
 
 -- a sum by groups: each place is in the group that g gives it
 pub total_grouped : (m n : ℕ) (g f : ℕ → ℕ) → ((k : ℕ) → k < n → g k < m) →
     total m (λ i. total n (λ k. cond (eqb (g k) i) (f k) 0)) ≡ total n f
-total_grouped m n g f within = total_swap m n (λ i k. cond (eqb (g k) i) (f k) 0)
-    ∙ total_same n (λ k. total m (λ i. cond (eqb (g k) i) (f k) 0)) f (λ k h. one_group k h)
+total_grouped m n g f within = total_swap m n _
+    ∙ total_same n _ f (λ k h. one_group k h)
   where
     one_group : (k : ℕ) → k < n → total m (λ i. cond (eqb (g k) i) (f k) 0) ≡ f k
     one_group k h = total_only m (g k) (λ i. cond (eqb (g k) i) (f k) 0) (within k h)
@@ -230,17 +220,13 @@ total_grouped m n g f within = total_swap m n (λ i k. cond (eqb (g k) i) (f k) 
 pub total_region : (n x : ℕ) (f : ℕ → ℕ) → x < total n f → (i : ℕ) × (i < n) × (total i f ≤ x) × (x < total i f + f i)
 unfolding total
 total_region zero x f below = absurd (omega arith)
-total_region (suc n) x f below = ⊎_elim
-    (λ (before : x < total n f). let found = total_region n x f before in (found.0, omega arith, found.2, found.3))
-    (λ (after : total n f ≤ x). (n, omega arith, after, below))
-    (cases_lt x (total n f))
+total_region (suc n) x f below = grind (arith, total_region n x f)
 
 -- rows of n terms each, one after another
 pub total_rows : (m n : ℕ) (f : ℕ → ℕ) → total (m * n) f ≡ total m (λ i. total n (λ j. f (i * n + j)))
 unfolding total
-total_rows zero n f = ap (λ k. total k f) (zero-mul n)
-total_rows (suc m) n f = ap (λ k. total k f) (suc-mul m n) ∙ total_split (m * n) n f
-    ∙ ap (λ a. a + total n (λ j. f (m * n + j))) (total_rows m n f)
+total_rows zero n f = rw (zero-mul n)
+total_rows (suc m) n f = rw (suc-mul m n, total_split _ n f, total_rows m n f) refl
 
 -- the sum of no term, and of one more: what a loop needs
 pub ruleset sums = (total_none, total_more)

@@ -17,68 +17,62 @@ pub record IsShort (c : ℕ) (line : List ℕ) : Type 0 where
 
 -- lines of small numbers, whose text has at most b bytes
 pub record AreShort (b : ℕ) (lines : List (List ℕ)) : Type 0 where
-  pub small : All (λ line. All IsSmall line) lines
+  pub small : All (All IsSmall) lines
   pub short : length (lines_text lines) ≤ b
 
 pub listed_all : {X : Type 0} (P : X → Type 0) (n : ℕ) (f : ℕ → X) → ((k : ℕ) → k < n → P (f k)) → All P (listed n f)
 unfolding listed
 listed_all P zero f each = All-nil P
 listed_all P (suc n) f each =
-    All-push P (listed n f) (f n) (listed_all P n f (λ k within. each k (omega arith))) (each n (omega arith))
+    All-push P (listed n f) _ (listed_all P n f (λ k within. each k (omega arith))) (each n (omega arith))
 
 -- one line, and lines after lines
-pub one_short : (c : ℕ) (line : List ℕ) → IsShort c line → AreShort (11 * c + 1) (line ∷ [])
-one_short c line h = record {
-  small = All-cons (λ ns. All IsSmall ns) line [] h.small (All-nil (λ ns. All IsSmall ns));
+pub one_short : {c : ℕ} {line : List ℕ} → IsShort c line → AreShort (11 * c + 1) (line ∷ [])
+one_short {c} {line} h = record {
+  small = All-cons (All IsSmall) line [] h.small (All-nil _);
   short = let e : length (lines_text (line ∷ [])) ≡ length (line_text line) = ap length (lines_one line) in
-      let few : length line ≤ c = h.short in
-      omega (arith, e, line_short line h.small);
+      omega (arith, h.short, e, line_short line h.small);
 }
 
-pub short_append : (a b c : ℕ) (xs ys : List (List ℕ)) → a + b ≤ c → AreShort a xs → AreShort b ys →
+pub short_append : (a b c : ℕ) {xs ys : List (List ℕ)} → a + b ≤ c → AreShort a xs → AreShort b ys →
     AreShort c (xs ++ ys)
-short_append a b c xs ys fits first then = record {
-  small = All-append (λ line. All IsSmall line) xs ys first.small then.small;
+short_append a b c {xs} {ys} fits first then = record {
+  small = All-append (All IsSmall) xs ys first.small then.small;
   short = let e : length (lines_text (xs ++ ys)) ≡ length (lines_text xs ++ lines_text ys) =
       ap length (lines_append xs ys) in
-      let one : length (lines_text xs) ≤ a = first.short in
-      let two : length (lines_text ys) ≤ b = then.short in
-      omega (arith, e, length-append (lines_text xs) (lines_text ys));
+      omega (arith, first.short, then.short, e, length-append (lines_text xs) (lines_text ys));
 }
 
 -- n lines
-pub listed_short : (n c b : ℕ) (f : ℕ → List ℕ) → 11 * c + 1 ≤ b → ((k : ℕ) → k < n → IsShort c (f k)) →
-    AreShort (n * b) (listed n f)
+pub listed_short : (n c : ℕ) (f : ℕ → List ℕ) → ((k : ℕ) → k < n → IsShort c (f k)) →
+    AreShort (n * (11 * c + 1)) (listed n f)
 unfolding listed lines_text
-listed_short zero c b f enough each = record { small = All-nil (λ line. All IsSmall line); short = omega arith }
-listed_short (suc n) c b f enough each =
-    short_append (n * b) (11 * c + 1) (suc n * b) (listed n f) (f n ∷ []) (omega arith)
-    (listed_short n c b f enough (λ k within. each k (omega arith)))
-    (one_short c (f n) (each n (omega arith)))
+listed_short zero c f each = record { small = All-nil (All IsSmall); short = omega arith }
+listed_short (suc n) c f each = short_append _ _ _ (omega arith)
+    (listed_short n c f (λ k within. each k (omega arith))) (one_short (each n (omega arith)))
 
 -- a count and n lines
-pub group_short : (n c b most : ℕ) (f : ℕ → List ℕ) → 11 * c + 1 ≤ b → 12 + n * b ≤ most → n < 2 ^ 32 →
+pub group_short : {n c most : ℕ} {f : ℕ → List ℕ} → 12 + n * (11 * c + 1) ≤ most → n < 2 ^ 32 →
     ((k : ℕ) → k < n → IsShort c (f k)) → AreShort most ((n ∷ []) ∷ listed n f)
-group_short n c b most f enough all few each = short_append 12 (n * b) most ((n ∷ []) ∷ []) (listed n f) all
-    (one_short 1 (n ∷ []) (record { small = All-cons IsSmall n [] few (All-nil IsSmall); short = omega arith }))
-    (listed_short n c b f enough each)
+group_short {n} {c} {most} {f} all few each = short_append 12 _ most all
+    (one_short {c = 1} (record { small = All-cons IsSmall n [] few (All-nil IsSmall); short = omega arith }))
+    (listed_short n c f each)
 
 -- n numbers
-pub numbers_short : (n : ℕ) (f : ℕ → ℕ) → ((k : ℕ) → k < n → IsSmall (f k)) → IsShort n (listed n f)
-numbers_short n f each = record { small = listed_all IsSmall n f each; short = omega (arith, length_listed n f) }
+pub numbers_short : {n : ℕ} {f : ℕ → ℕ} → ((k : ℕ) → k < n → IsSmall (f k)) → IsShort n (listed n f)
+numbers_short {n} {f} each = record { small = listed_all IsSmall n f each; short = omega (arith, length_listed n f) }
 
-pub number_short : (c d n : ℕ) (ns : List ℕ) → c + 1 ≤ d → IsSmall n → IsShort c ns → IsShort d (n ∷ ns)
-number_short c d n ns enough small h = record {
+pub number_short : {c : ℕ} (d : ℕ) {n : ℕ} {ns : List ℕ} → c + 1 ≤ d → IsSmall n → IsShort c ns → IsShort d (n ∷ ns)
+number_short {c} d {n} {ns} enough small h = record {
   small = All-cons IsSmall n ns small h.small;
-  short = let few : length ns ≤ c = h.short in omega arith;
+  short = omega (arith, h.short);
 }
 
 pub none_short : IsShort 0 []
 none_short = record { small = All-nil IsSmall; short = omega arith }
 
-pub numbers_append : (a b c : ℕ) (xs ys : List ℕ) → a + b ≤ c → IsShort a xs → IsShort b ys → IsShort c (xs ++ ys)
-numbers_append a b c xs ys enough first then = record {
+pub numbers_append : {a b : ℕ} (c : ℕ) {xs ys : List ℕ} → a + b ≤ c → IsShort a xs → IsShort b ys → IsShort c (xs ++ ys)
+numbers_append {a} {b} c {xs} {ys} enough first then = record {
   small = All-append IsSmall xs ys first.small then.small;
-  short = let one : length xs ≤ a = first.short in let two : length ys ≤ b = then.short in
-      omega (arith, length-append xs ys);
+  short = omega (arith, first.short, then.short, length-append xs ys);
 }

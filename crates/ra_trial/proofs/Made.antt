@@ -18,23 +18,7 @@ use Rattle.ra_trial.specs.Instances.{trial_services, trial_process, trial_proces
 use Rattle.ra_trial.specs.Instances.{IsTrial}
 use Rattle.ra_trial.proofs.TrialBounds.{process_cost_low, spread_low}
 
-quotient_small : (k d most : ℕ) → most < 2 ^ 32 → min (k / d) most < 2 ^ 32
-quotient_small k d most small = omega arith
-
-label_small : (m : ℕ) → m % 10 < 2 ^ 32
-label_small m = omega arith
-
-spread_small : (g : ℕ → ℕ) (s : ℕ) → trial_spread_of g s < 2 ^ 32
-spread_small g s = omega (arith, spread_low g s)
-
-end_small : (s : ℕ) → min (s / 5) 49 + 1 < 2 ^ 32
-end_small s = omega arith
-
-cost_small : (g : ℕ → ℕ) (p : ℕ) → trial_process_cost_of g p < 2 ^ 32
-cost_small g p = omega (arith, process_cost_low g p)
-
 -- the rows; those of numbers past the last are of no account
-
 made_resource : ℕ → ResourceRow
 made_resource r = record { transient = eqb r 0; load_weight = 10; small = lit< tt }
 
@@ -42,25 +26,45 @@ made_machine : ℕ → MachineRow
 made_machine m = record {
   neighbourhood = min (m / 20) 4;
   location = m % 10;
-  small_neighbourhood = quotient_small m 20 4 (lit< tt);
-  small_location = label_small m;
+  small_neighbourhood = omega arith;
+  small_location = omega arith;
 }
+
+-- a list with room for no more
+full : {X : Type 0} → ℕ → List X → Listed X
+full room items = record { items = items; room = room }
+
+map_listed : {X Y : Type 0} (f : X → Y) (n : ℕ) (h : ℕ → X) (k : ℕ → Y) → ((j : ℕ) → j < n → f (h j) ≡ k j) →
+    map f (listed n h) ≡ listed n k
+unfolding listed
+map_listed f zero h k same = refl
+map_listed f (suc n) h k same = map-append f (listed n h) _
+    ∙ ap₂ (λ xs x. xs ++ x ∷ []) (map_listed f n h k (λ j within. same j (omega arith))) (same n (omega arith))
+
+resources_made : map of_resource (listed 4 made_resource) ≡ listed 4 trial_resource
+unfolding made_resource trial_resource
+resources_made = map_listed of_resource 4 made_resource trial_resource (λ r within. refl)
+
+machines_made : map of_machine (listed 100 made_machine) ≡ listed 100 trial_machine
+unfolding made_machine trial_machine
+machines_made = grind (arith, map_listed, made_machine)
 
 made_service : (ℕ → ℕ) → ℕ → ServiceRow
 made_service g s = record {
   spread_min = trial_spread_of g s;
   dependency_end = min (s / 5) 49 + 1;
-  small_spread = spread_small g s;
-  small_end = end_small s;
+  small_spread = omega (arith, spread_low g s);
+  small_end = omega arith;
 }
 
 made_process : (ℕ → ℕ) → ℕ → ProcessRow
 made_process g p =
-    record { service = record { 0 = p / 4 }; move_cost = trial_process_cost_of g p; small = cost_small g p }
-
--- a list with room for no more
-full : {X : Type 0} → ℕ → List X → Listed X
-full room items = record { items = items; room = room }
+    record {
+      service = record { 0 = p / 4 };
+      move_cost = trial_process_cost_of g p;
+      small =
+          omega (arith, process_cost_low g p);
+    }
 
 pub made : (ℕ → ℕ) → RawInstance
 made g = record {
@@ -89,44 +93,18 @@ made g = record {
   small_machine_weight = lit< tt;
 }
 
-map_listed : {X Y : Type 0} (f : X → Y) (n : ℕ) (h : ℕ → X) (k : ℕ → Y) → ((j : ℕ) → j < n → f (h j) ≡ k j) →
-    map f (listed n h) ≡ listed n k
-unfolding listed
-map_listed f zero h k same = refl
-map_listed f (suc n) h k same = map-append f (listed n h) (h n ∷ [])
-    ∙ ap₂ (λ xs x. xs ++ x ∷ []) (map_listed f n h k (λ j within. same j (omega arith))) (same n (omega arith))
+module _ (g : ℕ → ℕ) where
+  services_made : map service_numbers_of (listed 250 (made_service g)) ≡ listed 250 (trial_service g)
+  unfolding made_service trial_service
+  services_made = grind (arith, map_listed, made_service)
 
-resources_made : map of_resource (listed 4 made_resource) ≡ listed 4 trial_resource
-unfolding made_resource trial_resource
-resources_made = map_listed of_resource 4 made_resource trial_resource (λ r within. refl)
+  processes_made : map of_process (listed 1000 (made_process g)) ≡ listed 1000 (trial_process g)
+  unfolding made_process trial_process
+  processes_made = map_listed of_process 1000 (made_process g) _ (λ p within. refl)
 
-machines_made : map of_machine (listed 100 made_machine) ≡ listed 100 trial_machine
-unfolding made_machine trial_machine
-machines_made =
-    map_listed of_machine 100 made_machine trial_machine
-    (λ m within. ap (λ n. record { neighbourhood = n; location = m % 10 })
-    (let e : min (m / 20) 4 ≡ m / 20 = omega arith in e))
-
-services_made : (g : ℕ → ℕ) → map service_numbers_of (listed 250 (made_service g)) ≡ listed 250 (trial_service g)
-unfolding made_service trial_service
-services_made g = map_listed service_numbers_of 250 (made_service g) (trial_service g)
-    (λ s within. ap (λ n. record { spread_min = trial_spread_of g s; dependency_end = n })
-    (let e : min (s / 5) 49 + 1 ≡ s / 5 + 1 = omega arith in e))
-
-processes_made : (g : ℕ → ℕ) → map of_process (listed 1000 (made_process g)) ≡ listed 1000 (trial_process g)
-unfolding made_process trial_process
-processes_made g = map_listed of_process 1000 (made_process g) (trial_process g) (λ p within. refl)
-
-pub made_is_trial : (g : ℕ → ℕ) → IsTrial g (all_open (made g))
-unfolding made full trial_lists trial_machines trial_services trial_processes trial_balance
-made_is_trial g = record {
-  lists = joined resources_made machines_made (services_made g) (processes_made g);
-  open_to_all = refl;
-}
-  where
-    joined : map of_resource (listed 4 made_resource) ≡ listed 4 trial_resource →
-        map of_machine (listed 100 made_machine) ≡ listed 100 trial_machine →
-        map service_numbers_of (listed 250 (made_service g)) ≡ listed 250 (trial_service g) →
-        map of_process (listed 1000 (made_process g)) ≡ listed 1000 (trial_process g) →
-        lists_of (made g) ≡ trial_lists g
-    joined resources machines services processes = cc
+  pub made_is_trial : IsTrial g (all_open (made g))
+  unfolding made full trial_lists trial_machines trial_services trial_processes trial_balance
+  made_is_trial = record {
+    lists = cc (resources_made, machines_made, services_made, processes_made);
+    open_to_all = refl;
+  }

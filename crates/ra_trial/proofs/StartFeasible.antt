@@ -24,7 +24,7 @@ use Rattle.ra_trial.proofs.Places.{count_distinct}
 -- the machine of a process
 start_at : (p : ℕ) → p < 1000 → machine_at start_list p ≡ p % 100
 unfolding machine_at start_list start_machine trial_start_of
-start_at p within = ap (λ (m : Machine). m.0) (listed_at 1000 start_machine p _ within)
+start_at p within = ap (λ m. m.0) (listed_at 1000 start_machine p _ within)
 
 pub start_many : length start_list ≡ 1000
 unfolding start_list
@@ -37,40 +37,36 @@ module _ (g : ℕ → ℕ) (i : Tables) (has : HasNumbers g i) where
     in_range = λ p within. omega (arith, has.processes, has.machines, start_at p (omega (arith, has.processes)));
   }
 
-  -- what process p uses of a resource of a machine
-  share_is : (m r p : ℕ) → p < 1000 → r < 4 → use_share i m r p (machine_at start_list p) ≡ start_share g m r p
-  unfolding use_share start_share trial_start_of
-  share_is m r p p_in r_in = ap₂ (λ at needs. cond (eqb at m) needs 0) (start_at p p_in) (has.requirement p r p_in r_in)
-
-  use_is : (m r : ℕ) → r < 4 → use_of i start_list m r ≡ start_use_of g m r
-  unfolding use_of tally start_use_of
-  use_is m r r_in =
-      ap (λ n. total n (λ p. use_share i m r p (machine_at start_list p))) has.processes
-      ∙ total_same 1000 (λ p. use_share i m r p (machine_at start_list p)) (start_share g m r)
-      (λ p p_in. share_is m r p p_in r_in)
-
-  use_fits : (m r : ℕ) → m < 100 → r < 4 → use_of i start_list m r ≤ model.capacity_of i m r
-  unfolding trial_capacity_of
-  use_fits m r m_in r_in = omega (arith, use_is m r r_in, has.capacity m r m_in r_in)
-
   -- nothing has moved
   or_itself : (b : Bool) → (b || b) ≡ b
   or_itself true = refl
   or_itself false = refl
 
-  transient_is : (m r : ℕ) → transient_of i start_list start_list m r ≡ use_of i start_list m r
-  unfolding transient_of use_of tally transient_share use_share
-  transient_is m r =
-      total_same (model.process_count i) (λ p. transient_share i start_list m r p (machine_at start_list p))
-      (λ p. use_share i m r p (machine_at start_list p))
-      (λ p within. ap (λ b. cond b (model.requirement_of i p r) 0) (or_itself (eqb (machine_at start_list p) m)))
+  module _ (m r : ℕ) where
+    -- what process p uses of a resource of a machine
+    share_is : (p : ℕ) → p < 1000 → r < 4 → use_share i m r p (machine_at start_list p) ≡ start_share g m r p
+    unfolding use_share start_share trial_start_of
+    share_is p p_in r_in = grind (arith, start_at)
+
+    use_is : r < 4 → use_of i start_list m r ≡ start_use_of g m r
+    unfolding use_of tally start_use_of
+    use_is r_in = grind (arith, total_same, share_is)
+
+    use_fits : m < 100 → r < 4 → use_of i start_list m r ≤ model.capacity_of i m r
+    unfolding trial_capacity_of
+    use_fits m_in r_in = omega (arith, use_is r_in, has.capacity m r m_in r_in)
+
+    transient_is : transient_of i start_list start_list m r ≡ use_of i start_list m r
+    unfolding transient_of use_of tally transient_share use_share
+    transient_is =
+        total_same (model.process_count i) _
+        _
+        (λ p within. rw (or_itself _))
 
   -- two processes of one service are apart
   starts_apart : (p q : ℕ) → p < 1000 → q < 1000 → p ≢ q → model.service_of i p ≡ model.service_of i q →
       machine_at start_list p ≢ machine_at start_list q
-  starts_apart p q p_in q_in apart one same =
-      apart_in_service p q apart (sym (has.service p p_in) ∙ one ∙ has.service q q_in) (sym (start_at p p_in) ∙ same
-      ∙ start_at q q_in)
+  starts_apart p q p_in q_in apart one same = grind (arith, apart_in_service, start_at)
 
   -- the location of process j of service s is one in which the service is
   in_location_of : (s j : ℕ) → s < 250 → j < 3 → ltb 0 (in_location i start_list s ((4 * s + j) % 10)) ≡ true
@@ -94,7 +90,7 @@ module _ (g : ℕ → ℕ) (i : Tables) (has : HasNumbers g i) where
   three_locations : (s : ℕ) → s < 250 → 3 ≤ locations_of i start_list s
   unfolding locations_of
   three_locations s s_in =
-      count_distinct (2 ^ 32) 3 (λ label. ltb 0 (in_location i start_list s label)) (λ j. (4 * s + j) % 10)
+      count_distinct _ 3 (λ label. ltb 0 _) _
       (λ j j_in. omega arith)
       (λ j j_in. in_location_of s j s_in j_in)
       (λ k j k_in j_in apart. locations_apart s k j k_in j_in apart)
@@ -112,7 +108,7 @@ module _ (g : ℕ → ℕ) (i : Tables) (has : HasNumbers g i) where
         omega (arith, has.processes),
         has.service ((p + 100) % 1000) q_in ∙ service_later p p_in
             ∙ ap (λ t. (t + 25) % 250) (sym (has.service p p_in) ∙ its) ∙ sym (has.need s k s_in k_in),
-        ap (model.neighbourhood_of i) (start_at ((p + 100) % 1000) q_in ∙ machine_later p p_in ∙ sym (start_at p p_in)),
+        rw (start_at ((p + 100) % 1000) q_in ∙ machine_later p p_in ∙ sym (start_at p p_in)),
       )
 
   pub start_feasible : Feasible i start_list start_list

@@ -33,35 +33,35 @@ number m = m.0
 more_is_line : (ms : List Machine) → assign.more_machines_text ms ≡ more_text (map number ms)
 unfolding assign.more_machines_text more_text number
 more_is_line [] = refl
-more_is_line (m ∷ ms) = ap (λ t. 32 ∷ decimal m.0 ++ t) (more_is_line ms)
+more_is_line (m ∷ ms) = rw (more_is_line ms)
 
 text_is_line : (ms : List Machine) → assignment_bytes ms ≡ line_text (map number ms)
 unfolding assignment_bytes line_text number
 text_is_line [] = refl
-text_is_line (m ∷ ms) = ap (λ t. decimal m.0 ++ t) (more_is_line ms)
+text_is_line (m ∷ ms) = rw (more_is_line ms)
 
 start_is_lines : start_text ≡ lines_text (map number start_list ∷ [])
 unfolding start_text start_list
 start_is_lines = text_is_line (listed 1000 start_machine) ∙ sym (lines_one (map number (listed 1000 start_machine)))
 
-machines_low : All (λ (m : Machine). m.0 < 100) start_list
+machines_low : All (λ m. m.0 < 100) start_list
 unfolding start_list start_machine trial_start_of
-machines_low = listed_all (λ (m : Machine). m.0 < 100) 1000 start_machine (λ p within. omega arith)
+machines_low = listed_all (λ m. m.0 < 100) 1000 start_machine (λ p within. omega arith)
 
 start_short : IsShort 1000 (map number start_list)
 unfolding number
 start_short = record {
   small = All-map IsSmall number start_list
-      (λ k d within. let low : (get_or start_list k d).0 < 100 = machines_low k d within in omega arith);
+      (λ k d within. let low = machines_low k d within in omega arith);
   short = omega (arith, length-map start_list number, start_many);
 }
 
 start_told : (first_fault start_text ≡ None) × (map value_of (tokens start_text) ≡ map number start_list)
 start_told =
-    let short = one_short 1000 (map number start_list) start_short in
-    let told = lines_told (map number start_list ∷ []) short.small (omega (arith, short.short)) in (
+    let short = one_short start_short in
+    let told = lines_told _ short.small (omega (arith, short.short)) in (
       ap first_fault start_is_lines ∙ told.0,
-      ap (λ bytes. map value_of (tokens bytes)) start_is_lines ∙ told.1 ∙ append-nil (map number start_list),
+      ap (λ bytes. map value_of (tokens bytes)) start_is_lines ∙ told.1 ∙ append-nil _,
     )
 
 -- the tokens' machines are the start
@@ -77,7 +77,7 @@ token_machines (t ∷ ts) (m ∷ ms) same =
 
 tokens_many : length (tokens start_text) ≡ 1000
 tokens_many =
-    sym (length-map (tokens start_text) value_of) ∙ ap length start_told.1 ∙ length-map start_list number ∙ start_many
+    sym (length-map _ value_of) ∙ ap length start_told.1 ∙ length-map start_list number ∙ start_many
 
 -- there is a token for each process, and each is the number of a machine
 module _ (g : ℕ → ℕ) (i : Tables) (is : IsTrial g i) where
@@ -85,7 +85,7 @@ module _ (g : ℕ → ℕ) (i : Tables) (is : IsTrial g i) where
   unfolding number
   token_low p d within =
       let has = has_numbers g i is in
-      let t : Token = get_or (tokens start_text) p d in
+      let t = get_or (tokens start_text) p d in
       let value : t.value ≡ get_or (map number start_list) p 0 =
       sym (get_or-map value_of (tokens start_text) p d 0 (omega (arith, tokens_many)))
       ∙ ap (λ ns. get_or ns p 0) start_told.1 in
@@ -104,9 +104,9 @@ module _ (g : ℕ → ℕ) (i : Tables) (is : IsTrial g i) where
 
   pub start_text_is_start : (a : List Machine) → IsAssignmentOf start_text i a ↔ (a ≡ start_list)
   start_text_is_start a = (
-    λ told. told.machines ∙ token_machines (tokens start_text) start_list start_told.1,
+    λ told. told.machines ∙ token_machines _ start_list start_told.1,
     λ same. record {
       file = start_file;
-      machines = same ∙ sym (token_machines (tokens start_text) start_list start_told.1);
+      machines = same ∙ sym (token_machines _ start_list start_told.1);
     },
   )

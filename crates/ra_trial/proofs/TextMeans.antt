@@ -19,41 +19,42 @@ use Rattle.ra_trial.proofs.TrialBounds.{all_short}
 use Rattle.ra_trial.proofs.TrialLimits.{trial_fits}
 use Rattle.ra_trial.proofs.TrialNumbers.{has_numbers}
 
-text_is_lines : (g : ℕ → ℕ) → text_over g ≡ lines_text (all_lines g)
-unfolding text_over all_lines
-text_is_lines g = simp (lines_append, append_assoc)
-
-text_has_numbers : (g : ℕ → ℕ) (i : Tables) → IsTrial g i → IsTextOf (text_over g) i
-text_has_numbers g i is =
-    let short = all_short g in
-    let told = lines_told (all_lines g) short.small (omega (arith, short.short)) in
-    subst (λ bytes. IsTextOf bytes i) (sym (text_is_lines g)) (record {
-      sound = told.0;
-      numbers = told.1 ∙ numbers_same g i (has_numbers g i is);
-    })
-
-pub text_means : (g : ℕ → ℕ) → model_of (text_over g) ≡ Ok (trial_lists g)
-text_means g =
-    let is = made_is_trial g in
-    text_accepted (made g) (text_over g) (trial_fits g (all_open (made g)) is)
-    (text_has_numbers g (all_open (made g)) is)
-    ∙ ap (λ (l : Lists). Ok l) is.lists
-
 same_lists : (answer : Result Lists ModelFault) (a b : Lists) → answer ≡ Ok a → answer ≡ Ok b → a ≡ b
 same_lists answer a b one other = cc
 
-pub text_is_trial : (g : ℕ → ℕ) (i : Tables) → IsModel (text_over g) i ↔ IsTrial g i
-text_is_trial g i = (
-  λ model. record {
-    lists = same_lists (model_of (text_over g)) (lists_of i.raw) (trial_lists g) model.lists (text_means g);
-    open_to_all = model.open_to_all;
-  },
-  λ trial. record {
-    lists = text_means g ∙ ap (λ (l : Lists). Ok l) (sym trial.lists);
-    open_to_all = trial.open_to_all;
-  },
-)
+module _ (g : ℕ → ℕ) where
+  text_is_lines : text_over g ≡ lines_text (all_lines g)
+  unfolding text_over all_lines
+  text_is_lines = simp (lines_append, append_assoc)
 
-pub text_accepted_whole : (g : ℕ → ℕ) → model_refusal (text_over g) ≡ None
-unfolding model_refusal
-text_accepted_whole g = ap result_err (text_means g)
+  text_has_numbers : (i : Tables) → IsTrial g i → IsTextOf (text_over g) i
+  text_has_numbers i is =
+      let short = all_short g in
+      let told = lines_told (all_lines g) short.small (omega (arith, short.short)) in
+      rw (text_is_lines) (record {
+        sound = told.0;
+        numbers = told.1 ∙ numbers_same g i (has_numbers g i is);
+      })
+
+  pub text_means : model_of (text_over g) ≡ Ok (trial_lists g)
+  text_means =
+      let is = made_is_trial g in
+      text_accepted _ _ (trial_fits g _ is)
+      (text_has_numbers _ is)
+      ∙ ap (λ l. Ok l) is.lists
+
+  pub text_is_trial : (i : Tables) → IsModel (text_over g) i ↔ IsTrial g i
+  text_is_trial i = (
+    λ model. record {
+      lists = same_lists _ _ _ model.lists (text_means);
+      open_to_all = model.open_to_all;
+    },
+    λ trial. record {
+      lists = text_means ∙ ap (λ l. Ok l) (sym trial.lists);
+      open_to_all = trial.open_to_all;
+    },
+  )
+
+  pub text_accepted_whole : model_refusal (text_over g) ≡ None
+  unfolding model_refusal
+  text_accepted_whole = ap result_err (text_means)

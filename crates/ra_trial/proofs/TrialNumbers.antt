@@ -1,6 +1,7 @@
 -- From the lists of a trial's instance to its numbers.
-use Rattle.std.proofs.Common.{◌≡◌, ◌≢◌, ℕ, zero, suc, ◌+◌, ◌-◌, ◌*◌, ◌/◌, ◌%◌, ◌<◌, ◌≤◌, cond, eqb, false, List, []}
-use Rattle.std.proofs.Common.{◌∷◌, length, map, get_or, refl, sym, ap, ap₂, ◌∙◌, ⊎_elim, arith, eq-eqb, ne_eqb}
+use Rattle.std.proofs.Common.{inl, inr, ◌≡◌, ◌≢◌, ℕ, zero, suc, ◌+◌, ◌-◌, ◌*◌, ◌/◌, ◌%◌, ◌<◌, ◌≤◌, cond, eqb, false}
+use Rattle.std.proofs.Common.{List, []}
+use Rattle.std.proofs.Common.{◌∷◌, length, map, get_or, refl, sym, ap, ap₂, ◌∙◌, arith, eq-eqb, ne_eqb}
 use Rattle.std.proofs.lemmas.Bool.{cases_eq, cond-true, cond-false}
 use Rattle.std.proofs.lemmas.List.{length-map}
 use Rattle.ra_base.specs.declared.ids.Service.{Service}
@@ -73,27 +74,27 @@ module _ (g : ℕ → ℕ) (i : Tables) (is : IsTrial g i) where
 
   resource_many : model.resource_count i ≡ 4
   unfolding model.resource_count
-  resource_many = rows_many of_resource i.raw.resources.items 4 trial_resource resource_rows
+  resource_many = rows_many _ _ _ resource_rows
 
   machine_many : model.machine_count i ≡ 100
   unfolding model.machine_count
-  machine_many = rows_many of_machine i.raw.machines.items 100 trial_machine machine_rows
+  machine_many = rows_many _ _ _ machine_rows
 
   is_open : (m : ℕ) → model.closed_at i m ≡ false
   unfolding model.closed_at model.flag_in
-  is_open m = ap (λ flags. model.flag_in flags m) is.open_to_all
+  is_open m = rw is.open_to_all
 
   pub has_lists : HasLists i
   unfolding model.service_row model.dependency_end model.need_at trial_service trial_need
   has_lists = record {
     all_needs = ap length need_list ∙ length_listed 50 trial_need;
-    all_capacities = ap length capacity_table ∙ table_many 100 4 (trial_capacity_of g);
-    all_safeties = ap length safety_table ∙ table_many 100 4 (trial_safety_of g);
-    all_way_costs = ap length way_cost_table ∙ table_many 100 100 trial_way_cost_of;
-    all_requirements = ap length requirement_table ∙ table_many 1000 4 (trial_requirement_of g);
+    all_capacities = ap length capacity_table ∙ table_many _ _ _;
+    all_safeties = ap length safety_table ∙ table_many _ _ _;
+    all_way_costs = ap length way_cost_table ∙ table_many _ _ _;
+    all_requirements = ap length requirement_table ∙ table_many _ _ _;
     needs_end = λ s within.
         ap (λ row. row.dependency_end)
-        (row_is service_numbers_of i.raw.services.items 250 (trial_service g) s _ service_rows within);
+        (row_is _ _ _ _ service_rows within);
     need_at = λ k within. ap (λ (all : List Service). (get_or all k (record { 0 = 0 })).0) need_list
         ∙ ap (λ service. service.0) (listed_at 50 trial_need k (record { 0 = 0 }) within);
   }
@@ -109,20 +110,18 @@ module _ (g : ℕ → ℕ) (i : Tables) (is : IsTrial g i) where
   needs_counted s within = ap₂ (λ a b. a - b) (has_lists.needs_end s within) (needs_start s (omega arith))
 
   fifths_need : (s : ℕ) → s < 250 → model.dependency_count i s ≡ cond (eqb (s % 5) 0) 1 0
-  fifths_need s within = ⊎_elim
-      (λ (fifth : s % 5 ≡ 0).
-      omega (arith, needs_counted s within, cond-true {A = ℕ} (eqb (s % 5) 0) 1 0 (eq-eqb (s % 5) 0 fifth)))
-      (λ (other : s % 5 ≢ 0).
-      omega (arith, needs_counted s within, cond-false {A = ℕ} (eqb (s % 5) 0) 1 0 (ne_eqb (s % 5) 0 other)))
-      (cases_eq (s % 5) 0)
+  fifths_need s within = elim (cases_eq (s % 5) 0) [
+    | inl fifth ↦ omega (arith, needs_counted s within, cond-true {A = ℕ} (eqb _ 0) 1 0 (eq-eqb (s % 5) 0 fifth))
+    | inr other ↦ omega (arith, needs_counted s within, cond-false {A = ℕ} (eqb _ 0) 1 0 (ne_eqb (s % 5) 0 other))
+  ]
 
   need_is : (s k : ℕ) → s < 250 → k < model.dependency_count i s → model.need_of i s k ≡ (s + 25) % 250
   unfolding model.need_of
   need_is s k within below =
-      let count : model.dependency_count i s ≡ s / 5 + 1 - (s + 4) / 5 = needs_counted s within in
+      let count = needs_counted s within in
       let place : model.dependency_start i s + k ≡ s / 5 = omega (arith, needs_start s (omega arith)) in
       let owner : 5 * (s / 5) ≡ s = omega arith in
-      ap (model.need_at i) place ∙ has_lists.need_at (s / 5) (omega arith) ∙ ap (λ n. (n + 25) % 250) owner
+      ap (model.need_at i) place ∙ has_lists.need_at _ (omega arith) ∙ ap (λ n. (n + 25) % 250) owner
 
   pub has_numbers : HasNumbers g i
   unfolding model.service_count model.process_count model.balance_count model.resource_row model.machine_row
@@ -134,44 +133,44 @@ module _ (g : ℕ → ℕ) (i : Tables) (is : IsTrial g i) where
   has_numbers = record {
     resources = resource_many;
     machines = machine_many;
-    services = rows_many service_numbers_of i.raw.services.items 250 (trial_service g) service_rows;
-    processes = rows_many of_process i.raw.processes.items 1000 (trial_process g) process_rows;
+    services = rows_many _ _ _ service_rows;
+    processes = rows_many _ _ _ process_rows;
     balances = sym (length-map i.raw.balances.items of_balance) ∙ ap length balance_rows;
     transient = λ r within.
-        ap (λ row. row.transient) (row_is of_resource i.raw.resources.items 4 trial_resource r _ resource_rows within);
+        ap (λ row. row.transient) (row_is _ _ _ _ resource_rows within);
     load_weight =
         λ r within. ap (λ row. row.load_weight)
-        (row_is of_resource i.raw.resources.items 4 trial_resource r _ resource_rows within);
+        (row_is _ _ _ _ resource_rows within);
     neighbourhood =
         λ m within. ap (λ row. row.neighbourhood)
-        (row_is of_machine i.raw.machines.items 100 trial_machine m _ machine_rows within);
+        (row_is _ _ _ _ machine_rows within);
     location = λ m within.
-        ap (λ row. row.location) (row_is of_machine i.raw.machines.items 100 trial_machine m _ machine_rows within);
-    capacity = λ m r m_in r_in. cell_at _ 100 4 _ (trial_capacity_of g) m r resource_many capacity_table m_in r_in;
-    safety = λ m r m_in r_in. cell_at _ 100 4 _ (trial_safety_of g) m r resource_many safety_table m_in r_in;
-    move_cost = λ a b a_in b_in. cell_at _ 100 100 _ trial_way_cost_of a b machine_many way_cost_table a_in b_in;
+        ap (λ row. row.location) (row_is _ _ _ _ machine_rows within);
+    capacity = λ m r m_in r_in. cell_at _ resource_many capacity_table m_in r_in;
+    safety = λ m r m_in r_in. cell_at _ resource_many safety_table m_in r_in;
+    move_cost = λ a b a_in b_in. cell_at trial_way_cost_of machine_many way_cost_table a_in b_in;
     spread = λ s within.
         ap (λ row. row.spread_min)
-        (row_is service_numbers_of i.raw.services.items 250 (trial_service g) s _ service_rows within);
+        (row_is _ _ _ _ service_rows within);
     dependencies = fifths_need;
     need = need_is;
     service = λ p within.
         ap (λ row. row.service.0)
-        (row_is of_process i.raw.processes.items 1000 (trial_process g) p _ process_rows within);
-    requirement = λ p r p_in r_in. cell_at _ 1000 4 _ (trial_requirement_of g) p r resource_many requirement_table p_in
+        (row_is _ _ _ _ process_rows within);
+    requirement = λ p r p_in r_in. cell_at _ resource_many requirement_table p_in
         r_in;
     process_cost =
         λ p within. ap (λ row. row.move_cost)
-        (row_is of_process i.raw.processes.items 1000 (trial_process g) p _ process_rows within);
+        (row_is _ _ _ _ process_rows within);
     first = ap (λ row. row.first.0)
-        (row_is of_balance i.raw.balances.items 1 (λ k. trial_balance) 0 _ one_balance (omega arith));
+        (row_is _ _ _ _ one_balance (omega arith));
     second = ap (λ row. row.second.0)
-        (row_is of_balance i.raw.balances.items 1 (λ k. trial_balance) 0 _ one_balance (omega arith));
+        (row_is _ _ _ _ one_balance (omega arith));
     target = ap (λ row. row.target)
-        (row_is of_balance i.raw.balances.items 1 (λ k. trial_balance) 0 _ one_balance (omega arith));
+        (row_is _ _ _ _ one_balance (omega arith));
     balance_weight =
         ap (λ row. row.weight)
-        (row_is of_balance i.raw.balances.items 1 (λ k. trial_balance) 0 _ one_balance (omega arith));
+        (row_is _ _ _ _ one_balance (omega arith));
     process_weight = ap (λ l. l.weights.process) is.lists;
     service_weight = ap (λ l. l.weights.service) is.lists;
     machine_weight = ap (λ l. l.weights.machine) is.lists;

@@ -1,15 +1,15 @@
-use Rattle.std.proofs.Common.{◌+◌, ◌*◌, arith}
+use Rattle.std.proofs.Common.{arith}
 use Rattle.ra_trial.specs.Trials.{process_lines}
 use Rattle.ra_trial.proofs.LineLemmas.{adds_count, adds_line, adds_group}
 use Rattle.ra_trial.proofs.groups.push_processes.Goals as goal
 
 pub loop-p-init : goal.loop-p-init
-loop-p-init c = adds_count _ _ _ _ _ c.push_line.ensures
+loop-p-init c = adds_count _ _ c.push_line.ensures
 
 pub loop-p-preserved : goal.loop-p-preserved
 loop-p-preserved c =
-    adds_line _ _ _ _ _ c.loop-p.p (12 + 67 * c.loop-p.p) 67 _ (omega arith) c.loop-p.invariant c.push_process.ensures
+    adds_line _ _ c.loop-p.p (omega arith) c.loop-p.invariant c.push_process.ensures
 
 pub returns : goal.returns
 unfolding process_lines
-returns c = adds_group _ _ _ _ c.loop-p.p 1000 (12 + 67 * c.loop-p.p) _ (omega arith) (omega arith) c.loop-p.invariant
+returns c = adds_group _ _ (omega arith) (omega arith) c.loop-p.invariant

@@ -7,7 +7,7 @@ loop-b-init c = record { items = none_behind _ _; many = omega arith; room = ref
 
 pub loop-b-preserved : goal.loop-b-preserved
 loop-b-preserved c = record {
-  items = listed_behind _ _ _ _ _ _ c.loop-b.invariant.items c.move_cost.ensures c.push.ensures.items;
+  items = listed_behind _ _ c.loop-b.invariant.items c.move_cost.ensures c.push.ensures.items;
   many = omega (arith, ap length c.push.ensures.items, length-append {A = ℕ});
   room = c.push.ensures.room ∙ c.loop-b.invariant.room;
 }

@@ -3,5 +3,5 @@ use Rattle.ra_trial.proofs.machines.gather_machine.Goals as goal
 
 pub returns-clause-items : goal.returns-clause-items
 returns-clause-items c =
-    machine_gathered _ _ _ _ _ c.front.result c.clear.ensures.items c.extend_from_slice.ensures.items c.front.ensures
+    machine_gathered _ _ c.clear.ensures.items c.extend_from_slice.ensures.items c.front.ensures
     c.add_way_costs.ensures.items

@@ -15,7 +15,7 @@ loop-p-init c = record {
 pub loop-p-preserved : goal.loop-p-preserved
 unfolding start_machine trial_start_of
 loop-p-preserved c = record {
-  items = listed_pushed _ _ _ _ _ c.loop-p.invariant.items refl c.push.ensures.items;
+  items = listed_pushed _ _ c.loop-p.invariant.items refl c.push.ensures.items;
   many = omega (arith, ap length c.push.ensures.items, length-append {A = Machine});
   room = c.push.ensures.room ∙ c.loop-p.invariant.room;
 }

@@ -8,4 +8,4 @@ pub get-requires : goal.get-requires
 get-requires c = omega (arith, ap length c.args.self.now.first, length_listed 5650 (trial_word c.args.self.now.number))
 
 pub returns : goal.returns
-returns c = word_at _ 5650 _ _ _ c.args.self.now.first (omega arith) c.get.ensures
+returns c = word_at _ c.args.self.now.first (omega arith) c.get.ensures

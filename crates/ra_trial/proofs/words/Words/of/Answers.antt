@@ -3,5 +3,5 @@ use Rattle.ra_trial.proofs.words.Words.of.Goals as goal
 
 pub invariant_of-result : goal.invariant_of-result
 invariant_of-result c = record {
-  first = seeded c.args.number c.seed_from_u64-rng.result _ c.seed_from_u64-rng.ensures c.fill.ensures;
+  first = seeded c.args.number c.seed_from_u64-rng.ensures c.fill.ensures;
 }
