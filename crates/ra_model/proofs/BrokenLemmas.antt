@@ -38,173 +38,6 @@ pub cause_free : (failed : Bool) (cause : Cause) → failed ≡ false → cause_
 unfolding cause_if
 cause_free failed cause holds = cond-false failed (Some cause) None holds
 
--- capacity
-
-pub capacity_met : (i : Tables) (a : List Machine) → broken_capacity i a ≡ None → (m r : ℕ) → m < machine_count i →
-    r < resource_count i → use_of i a m r ≤ capacity_of i m r
-unfolding broken_capacity row_capacity capacity_test
-capacity_met i a none m r m_in r_in =
-    ltb-false _ _ (cause_none _ _ (first_none_at r _ _ r_in (first_none_at m _ _ m_in none)))
-
-pub capacity_unbroken : (i : Tables) (a : List Machine) →
-    ((m r : ℕ) → m < machine_count i → r < resource_count i → use_of i a m r ≤ capacity_of i m r) →
-    broken_capacity i a ≡ None
-unfolding broken_capacity row_capacity capacity_test
-capacity_unbroken i a met =
-    first_none_from _ _ (λ m m_in. first_none_from _ _ (λ r r_in. cause_free _ _ (le-ltb _ _ (met m r m_in r_in))))
-
--- transient use
-
-pub transient_met : (i : Tables) (a0 a : List Machine) → broken_transient i a0 a ≡ None → (m r : ℕ) →
-    m < machine_count i → r < resource_count i → IsTrue (transient_at i r) → transient_of i a0 a m r ≤ capacity_of i m r
-unfolding broken_transient row_transient transient_test
-transient_met i a0 a none m r m_in r_in twice = ⊎_elim
-    (λ (once : transient_at i r ≡ false). absurd (both_ways (transient_at i r) once twice))
-    (λ (within : ltb (capacity_of i m r) (transient_of i a0 a m r) ≡ false). ltb-false _ _ within)
-    (and_cases _ _ (cause_none _ _ (first_none_at r _ _ r_in (first_none_at m _ _ m_in none))))
-
-pub transient_unbroken : (i : Tables) (a0 a : List Machine) →
-    ((m r : ℕ) → m < machine_count i → r < resource_count i → IsTrue (transient_at i r) →
-    transient_of i a0 a m r ≤ capacity_of i m r) → broken_transient i a0 a ≡ None
-unfolding broken_transient row_transient transient_test
-transient_unbroken i a0 a met = first_none_from _ _ (λ m m_in. first_none_from _ _ (λ r r_in. cause_free _ _ (⊎_elim
-    (λ (twice : transient_at i r ≡ true). and_right _ _ (le-ltb _ _ (met m r m_in r_in twice)))
-    (λ (once : transient_at i r ≡ false). and_left _ _ once)
-    (cases_Bool (transient_at i r)))))
-
--- conflict
-
-pub on_machine_count : (i : Tables) (a : List Machine) (s m : ℕ) →
-    on_machine i a s m ≡ count (process_count i) (λ p. is_of i s p && eqb (machine_at a p) m)
-unfolding on_machine
-on_machine_count i a s m = members_count i a s (λ p at. eqb at m)
-
-pub conflict_met : (i : Tables) (a : List Machine) → WellFormed i → IsAssignment i a → broken_conflict i a ≡ None →
-    (p q : ℕ) → p < process_count i → q < process_count i → p ≢ q → service_of i p ≡ service_of i q →
-    machine_at a p ≢ machine_at a q
-unfolding broken_conflict service_conflict conflict_test is_of
-conflict_met i a limits fits none p q p_in q_in apart one_service one_machine =
-    let s = service_of i p in
-    let m = machine_at a p in
-    let few = ltb-false 1 (on_machine i a s m)
-    (cause_none _ _
-    (first_none_at m _ (conflict_test i a s) (fits.in_range p p_in)
-    (first_none_at s _ (service_conflict i a) (limits.services p p_in) none))) in
-    let two = count_two (process_count i) p q (λ k. is_of i s k && eqb (machine_at a k) m) p_in q_in apart
-    (and_from _ _ (eq-eqb s s refl) (eq-eqb m m refl))
-    (and_from _ _ (eq-eqb (service_of i q) s (sym one_service)) (eq-eqb (machine_at a q) m (sym one_machine))) in
-    omega (arith, few, two, on_machine_count i a s m)
-
-pub conflict_unbroken : (i : Tables) (a : List Machine) →
-    ((p q : ℕ) → p < process_count i → q < process_count i → p ≢ q → service_of i p ≡ service_of i q →
-    machine_at a p ≢ machine_at a q) → broken_conflict i a ≡ None
-unfolding broken_conflict service_conflict conflict_test is_of
-conflict_unbroken i a met =
-    first_none_from _ _
-    (λ s s_in. first_none_from _ _ (λ m m_in. cause_free _ _ (le-ltb 1 (on_machine i a s m) (alone s m))))
-  where
-    alone : (s m : ℕ) → on_machine i a s m ≤ 1
-    alone s m = rw (on_machine_count i a s m)
-        (count_at_most_one (process_count i) (λ p. is_of i s p && eqb (machine_at a p) m)
-        (λ p q p_in q_in p_there q_there. ⊎_elim
-        (λ (same : p ≡ q). same)
-        (λ (apart : p ≢ q).
-        let p_is = and_parts _ _ p_there in
-        let q_is = and_parts _ _ q_there in
-        absurd (met p q p_in q_in apart (eqb-true _ _ p_is.0 ∙ sym (eqb-true _ _ q_is.0))
-        (eqb-true _ _ p_is.1 ∙ sym (eqb-true _ _ q_is.1))))
-        (cases_eq p q)))
-
--- spread
-
-pub spread_met : (i : Tables) (a : List Machine) → broken_spread i a ≡ None → (s : ℕ) → s < service_count i →
-    spread_of i s ≤ locations_of i a s
-unfolding broken_spread spread_test
-spread_met i a none s s_in = ltb-false _ _ (cause_none _ _ (first_none_at s _ _ s_in none))
-
-pub spread_unbroken : (i : Tables) (a : List Machine) →
-    ((s : ℕ) → s < service_count i → spread_of i s ≤ locations_of i a s) → broken_spread i a ≡ None
-unfolding broken_spread spread_test
-spread_unbroken i a met = first_none_from _ _ (λ s s_in. cause_free _ _ (le-ltb _ _ (met s s_in)))
-
--- dependency
-
-pub neighbourhood_count : (i : Tables) (a : List Machine) (s label : ℕ) →
-    in_neighbourhood i a s label ≡ count (process_count i)
-    (λ q. is_of i s q && eqb (neighbourhood_of i (machine_at a q)) label)
-unfolding in_neighbourhood
-neighbourhood_count i a s label = members_count i a s (λ q at. eqb (neighbourhood_of i at) label)
-
--- a process of service s is near exactly if the count of those near is above zero
-
-pub near_from_count : (i : Tables) (a : List Machine) (s label : ℕ) → 0 < in_neighbourhood i a s label →
-    HasNear i a s label
-unfolding is_of
-near_from_count i a s label some =
-    let found = count_positive (process_count i) (λ q. is_of i s q && eqb (neighbourhood_of i (machine_at a q)) label)
-    (rw (neighbourhood_count i a s label) at some) in
-    let both = and_parts _ _ found.2 in
-    (found.0, found.1, eqb-true _ _ both.0, eqb-true _ _ both.1)
-
-pub count_from_near : (i : Tables) (a : List Machine) (s label : ℕ) → HasNear i a s label →
-    0 < in_neighbourhood i a s label
-unfolding is_of
-count_from_near i a s label near =
-    rw (neighbourhood_count i a s label)
-    (count_some (process_count i) near.0 (λ q. is_of i s q && eqb (neighbourhood_of i (machine_at a q)) label) near.1
-    (and_from _ _ (eq-eqb _ _ near.2) (eq-eqb _ _ near.3)))
-
-pub dependency_met : (i : Tables) (a : List Machine) → broken_dependency i a ≡ None → (s k p : ℕ) →
-    s < service_count i → k < dependency_count i s → p < process_count i → service_of i p ≡ s →
-    HasNear i a (need_of i s k) (neighbourhood_of i (machine_at a p))
-unfolding broken_dependency service_dependency pair_dependency dependency_test far_test near_of is_of
-dependency_met i a none s k p s_in k_in p_in one_service =
-    let tested =
-    first_none_at p _ (dependency_test i a s k) p_in
-    (first_none_at k _ (pair_dependency i a s) k_in (first_none_at s _ (service_dependency i a) s_in none)) in
-    let far : far_test i a s k p ≡ None =
-    sym (cond-true (is_of i s p) (far_test i a s k p) None (eq-eqb _ _ one_service)) ∙ tested in
-    let label = neighbourhood_of i (machine_at a p) in
-    let some = eqb-false (in_neighbourhood i a (need_of i s k) label) 0 (cause_none _ _ far) in
-    near_from_count i a (need_of i s k) label (omega arith)
-
-pub dependency_unbroken : (i : Tables) (a : List Machine) →
-    ((s k p : ℕ) → s < service_count i → k < dependency_count i s → p < process_count i → service_of i p ≡ s →
-    HasNear i a (need_of i s k) (neighbourhood_of i (machine_at a p))) → broken_dependency i a ≡ None
-unfolding broken_dependency service_dependency pair_dependency dependency_test far_test near_of is_of
-dependency_unbroken i a met =
-    first_none_from _ _ (λ s s_in. first_none_from _ _ (λ k k_in. first_none_from _ _ (λ p p_in. ⊎_elim
-    (λ (member : is_of i s p ≡ true). cond-true _ _ _ member
-    ∙ cause_free _ _
-    (ne_eqb _ 0 (λ none.
-    absurd (omega (
-      arith,
-      none,
-      count_from_near i a (need_of i s k) (neighbourhood_of i (machine_at a p))
-          (met s k p s_in k_in p_in (eqb-true _ _ member)),
-    )))))
-    (λ (other : is_of i s p ≡ false). cond-false _ _ _ other)
-    (cases_Bool (is_of i s p)))))
-
--- closed machines
-
-pub closed_met : (i : Tables) (a0 a : List Machine) → broken_closed i a0 a ≡ None → (p : ℕ) → p < process_count i →
-    IsTrue (closed_at i (machine_at a p)) → machine_at a0 p ≡ machine_at a p
-unfolding broken_closed closed_test
-closed_met i a0 a none p p_in shut = ⊎_elim
-    (λ (free : closed_at i (machine_at a p) ≡ false). absurd (both_ways _ free shut))
-    (λ (stays : not (eqb (machine_at a0 p) (machine_at a p)) ≡ false). eqb-true _ _ (not-false _ stays))
-    (and_cases _ _ (cause_none _ _ (first_none_at p _ _ p_in none)))
-
-pub closed_unbroken : (i : Tables) (a0 a : List Machine) →
-    ((p : ℕ) → p < process_count i → IsTrue (closed_at i (machine_at a p)) → machine_at a0 p ≡ machine_at a p) →
-    broken_closed i a0 a ≡ None
-unfolding broken_closed closed_test
-closed_unbroken i a0 a met = first_none_from _ _ (λ p p_in. cause_free _ _ (⊎_elim
-    (λ (shut : closed_at i (machine_at a p) ≡ true). and_right _ _ (not_from_true _ (eq-eqb _ _ (met p p_in shut))))
-    (λ (free : closed_at i (machine_at a p) ≡ false). and_left _ _ free)
-    (cases_Bool (closed_at i (machine_at a p)))))
-
 -- all six together
 
 -- none of the six searches finds anything
@@ -216,56 +49,217 @@ pub record Fine (i : Tables) (a0 a : List Machine) : Type 0 where
   pub dependency : broken_dependency i a ≡ None
   pub closed : broken_closed i a0 a ≡ None
 
-pub fine_from_unbroken : (i : Tables) (a0 a : List Machine) → first_broken i a0 a ≡ None → Fine i a0 a
-unfolding first_broken
-fine_from_unbroken i a0 a none =
-    let after_capacity = right_none _ _ none in
-    let after_transient = right_none _ _ after_capacity in
-    let after_conflict = right_none _ _ after_transient in
-    let after_spread = right_none _ _ after_conflict in
-    record {
-      capacity = left_none _ _ none;
-      transient = left_none _ _ after_capacity;
-      conflict = left_none _ _ after_transient;
-      spread = left_none _ _ after_conflict;
-      dependency = left_none _ _ after_spread;
-      closed = right_none _ _ after_spread;
+module _ (i : Tables) where
+  module _ (a : List Machine) where
+    -- capacity
+
+    pub capacity_met : broken_capacity i a ≡ None → (m r : ℕ) → m < machine_count i →
+        r < resource_count i → use_of i a m r ≤ capacity_of i m r
+    unfolding broken_capacity row_capacity capacity_test
+    capacity_met none m r m_in r_in =
+        ltb-false _ _ (cause_none _ _ (first_none_at r _ _ r_in (first_none_at m _ _ m_in none)))
+
+    pub capacity_unbroken : ((m r : ℕ) → m < machine_count i → r < resource_count i →
+        use_of i a m r ≤ capacity_of i m r) → broken_capacity i a ≡ None
+    unfolding broken_capacity row_capacity capacity_test
+    capacity_unbroken met =
+        first_none_from _ _ (λ m m_in. first_none_from _ _ (λ r r_in. cause_free _ _ (le-ltb _ _ (met m r m_in r_in))))
+
+    -- conflict
+
+    pub on_machine_count : (s m : ℕ) →
+        on_machine i a s m ≡ count (process_count i) (λ p. is_of i s p && eqb (machine_at a p) m)
+    unfolding on_machine
+    on_machine_count s m = members_count i a s (λ p at. eqb at m)
+
+    pub conflict_met : WellFormed i → IsAssignment i a → broken_conflict i a ≡ None → (p q : ℕ) → p < process_count i →
+        q < process_count i → p ≢ q → service_of i p ≡ service_of i q → machine_at a p ≢ machine_at a q
+    unfolding broken_conflict service_conflict conflict_test is_of
+    conflict_met limits fits none p q p_in q_in apart one_service one_machine =
+        let s = service_of i p in
+        let m = machine_at a p in
+        let few = ltb-false 1 (on_machine i a s m)
+        (cause_none _ _
+        (first_none_at m _ (conflict_test i a s) (fits.in_range p p_in)
+        (first_none_at s _ (service_conflict i a) (limits.services p p_in) none))) in
+        let two = count_two (process_count i) p q (λ k. is_of i s k && eqb (machine_at a k) m) p_in q_in apart
+        (and_from _ _ (eq-eqb s s refl) (eq-eqb m m refl))
+        (and_from _ _ (eq-eqb (service_of i q) s (sym one_service)) (eq-eqb (machine_at a q) m (sym one_machine))) in
+        omega (arith, few, two, on_machine_count s m)
+
+    pub conflict_unbroken : ((p q : ℕ) → p < process_count i → q < process_count i → p ≢ q →
+        service_of i p ≡ service_of i q → machine_at a p ≢ machine_at a q) → broken_conflict i a ≡ None
+    unfolding broken_conflict service_conflict conflict_test is_of
+    conflict_unbroken met =
+        first_none_from _ _
+        (λ s s_in. first_none_from _ _ (λ m m_in. cause_free _ _ (le-ltb 1 (on_machine i a s m) (alone s m))))
+      where
+        alone : (s m : ℕ) → on_machine i a s m ≤ 1
+        alone s m = rw (on_machine_count s m)
+            (count_at_most_one (process_count i) (λ p. is_of i s p && eqb (machine_at a p) m)
+            (λ p q p_in q_in p_there q_there. ⊎_elim
+            (λ (same : p ≡ q). same)
+            (λ (apart : p ≢ q).
+            let p_is = and_parts _ _ p_there in
+            let q_is = and_parts _ _ q_there in
+            absurd (met p q p_in q_in apart (eqb-true _ _ p_is.0 ∙ sym (eqb-true _ _ q_is.0))
+            (eqb-true _ _ p_is.1 ∙ sym (eqb-true _ _ q_is.1))))
+            (cases_eq p q)))
+
+    -- spread
+
+    pub spread_met : broken_spread i a ≡ None → (s : ℕ) → s < service_count i → spread_of i s ≤ locations_of i a s
+    unfolding broken_spread spread_test
+    spread_met none s s_in = ltb-false _ _ (cause_none _ _ (first_none_at s _ _ s_in none))
+
+    pub spread_unbroken : ((s : ℕ) → s < service_count i → spread_of i s ≤ locations_of i a s) →
+        broken_spread i a ≡ None
+    unfolding broken_spread spread_test
+    spread_unbroken met = first_none_from _ _ (λ s s_in. cause_free _ _ (le-ltb _ _ (met s s_in)))
+
+    module _ (s label : ℕ) where
+      -- dependency
+
+      pub neighbourhood_count : in_neighbourhood i a s label ≡ count (process_count i)
+          (λ q. is_of i s q && eqb (neighbourhood_of i (machine_at a q)) label)
+      unfolding in_neighbourhood
+      neighbourhood_count = members_count i a s (λ q at. eqb (neighbourhood_of i at) label)
+
+      -- a process of service s is near exactly if the count of those near is above zero
+
+      pub near_from_count : 0 < in_neighbourhood i a s label → HasNear i a s label
+      unfolding is_of
+      near_from_count some =
+          let found = count_positive (process_count i) (λ q. is_of i s q && eqb (neighbourhood_of i (machine_at a q))
+          label)
+          (rw (neighbourhood_count) at some) in
+          let both = and_parts _ _ found.2 in
+          (found.0, found.1, eqb-true _ _ both.0, eqb-true _ _ both.1)
+
+      pub count_from_near : HasNear i a s label → 0 < in_neighbourhood i a s label
+      unfolding is_of
+      count_from_near near =
+          rw (neighbourhood_count)
+          (count_some (process_count i) near.0 (λ q. is_of i s q && eqb (neighbourhood_of i (machine_at a q)) label)
+          near.1
+          (and_from _ _ (eq-eqb _ _ near.2) (eq-eqb _ _ near.3)))
+
+    pub dependency_met : broken_dependency i a ≡ None → (s k p : ℕ) → s < service_count i → k < dependency_count i s →
+        p < process_count i → service_of i p ≡ s → HasNear i a (need_of i s k) (neighbourhood_of i (machine_at a p))
+    unfolding broken_dependency service_dependency pair_dependency dependency_test far_test near_of is_of
+    dependency_met none s k p s_in k_in p_in one_service =
+        let tested =
+        first_none_at p _ (dependency_test i a s k) p_in
+        (first_none_at k _ (pair_dependency i a s) k_in (first_none_at s _ (service_dependency i a) s_in none)) in
+        let far : far_test i a s k p ≡ None =
+        sym (cond-true (is_of i s p) (far_test i a s k p) None (eq-eqb _ _ one_service)) ∙ tested in
+        let label = neighbourhood_of i (machine_at a p) in
+        let some = eqb-false (in_neighbourhood i a (need_of i s k) label) 0 (cause_none _ _ far) in
+        near_from_count (need_of i s k) label (omega arith)
+
+    pub dependency_unbroken : ((s k p : ℕ) → s < service_count i → k < dependency_count i s → p < process_count i →
+        service_of i p ≡ s → HasNear i a (need_of i s k) (neighbourhood_of i (machine_at a p))) →
+        broken_dependency i a ≡ None
+    unfolding broken_dependency service_dependency pair_dependency dependency_test far_test near_of is_of
+    dependency_unbroken met =
+        first_none_from _ _ (λ s s_in. first_none_from _ _ (λ k k_in. first_none_from _ _ (λ p p_in. ⊎_elim
+        (λ (member : is_of i s p ≡ true). cond-true _ _ _ member
+        ∙ cause_free _ _
+        (ne_eqb _ 0 (λ none.
+        absurd (omega (
+          arith,
+          none,
+          count_from_near (need_of i s k) (neighbourhood_of i (machine_at a p))
+              (met s k p s_in k_in p_in (eqb-true _ _ member)),
+        )))))
+        (λ (other : is_of i s p ≡ false). cond-false _ _ _ other)
+        (cases_Bool (is_of i s p)))))
+
+  module _ (a0 a : List Machine) where
+    -- transient use
+
+    pub transient_met : broken_transient i a0 a ≡ None → (m r : ℕ) → m < machine_count i → r < resource_count i →
+        IsTrue (transient_at i r) → transient_of i a0 a m r ≤ capacity_of i m r
+    unfolding broken_transient row_transient transient_test
+    transient_met none m r m_in r_in twice = ⊎_elim
+        (λ (once : transient_at i r ≡ false). absurd (both_ways (transient_at i r) once twice))
+        (λ (within : ltb (capacity_of i m r) (transient_of i a0 a m r) ≡ false). ltb-false _ _ within)
+        (and_cases _ _ (cause_none _ _ (first_none_at r _ _ r_in (first_none_at m _ _ m_in none))))
+
+    pub transient_unbroken : ((m r : ℕ) → m < machine_count i → r < resource_count i → IsTrue (transient_at i r) →
+        transient_of i a0 a m r ≤ capacity_of i m r) → broken_transient i a0 a ≡ None
+    unfolding broken_transient row_transient transient_test
+    transient_unbroken met = first_none_from _ _ (λ m m_in. first_none_from _ _ (λ r r_in. cause_free _ _ (⊎_elim
+        (λ (twice : transient_at i r ≡ true). and_right _ _ (le-ltb _ _ (met m r m_in r_in twice)))
+        (λ (once : transient_at i r ≡ false). and_left _ _ once)
+        (cases_Bool (transient_at i r)))))
+
+    -- closed machines
+
+    pub closed_met : broken_closed i a0 a ≡ None → (p : ℕ) → p < process_count i →
+        IsTrue (closed_at i (machine_at a p)) → machine_at a0 p ≡ machine_at a p
+    unfolding broken_closed closed_test
+    closed_met none p p_in shut = ⊎_elim
+        (λ (free : closed_at i (machine_at a p) ≡ false). absurd (both_ways _ free shut))
+        (λ (stays : not (eqb (machine_at a0 p) (machine_at a p)) ≡ false). eqb-true _ _ (not-false _ stays))
+        (and_cases _ _ (cause_none _ _ (first_none_at p _ _ p_in none)))
+
+    pub closed_unbroken : ((p : ℕ) → p < process_count i → IsTrue (closed_at i (machine_at a p)) →
+        machine_at a0 p ≡ machine_at a p) → broken_closed i a0 a ≡ None
+    unfolding broken_closed closed_test
+    closed_unbroken met = first_none_from _ _ (λ p p_in. cause_free _ _ (⊎_elim
+        (λ (shut : closed_at i (machine_at a p) ≡ true). and_right _ _ (not_from_true _ (eq-eqb _ _ (met p p_in shut))))
+        (λ (free : closed_at i (machine_at a p) ≡ false). and_left _ _ free)
+        (cases_Bool (closed_at i (machine_at a p)))))
+
+    pub fine_from_unbroken : first_broken i a0 a ≡ None → Fine i a0 a
+    unfolding first_broken
+    fine_from_unbroken none =
+        let after_capacity = right_none _ _ none in
+        let after_transient = right_none _ _ after_capacity in
+        let after_conflict = right_none _ _ after_transient in
+        let after_spread = right_none _ _ after_conflict in
+        record {
+          capacity = left_none _ _ none;
+          transient = left_none _ _ after_capacity;
+          conflict = left_none _ _ after_transient;
+          spread = left_none _ _ after_conflict;
+          dependency = left_none _ _ after_spread;
+          closed = right_none _ _ after_spread;
+        }
+
+    pub unbroken_from_fine : Fine i a0 a → first_broken i a0 a ≡ None
+    unfolding first_broken
+    unbroken_from_fine fine =
+        both_none _ _ fine.capacity
+        (both_none _ _ fine.transient
+        (both_none _ _ fine.conflict (both_none _ _ fine.spread (both_none _ _ fine.dependency fine.closed))))
+
+    pub feasible_from_fine : WellFormed i → IsAssignment i a → Fine i a0 a → Feasible i a0 a
+    feasible_from_fine limits fits fine = record {
+      capacity = capacity_met a fine.capacity;
+      transient = transient_met fine.transient;
+      conflict = conflict_met a limits fits fine.conflict;
+      spread = spread_met a fine.spread;
+      dependency = dependency_met a fine.dependency;
+      closed = closed_met fine.closed;
     }
 
-pub unbroken_from_fine : (i : Tables) (a0 a : List Machine) → Fine i a0 a → first_broken i a0 a ≡ None
-unfolding first_broken
-unbroken_from_fine i a0 a fine =
-    both_none _ _ fine.capacity
-    (both_none _ _ fine.transient
-    (both_none _ _ fine.conflict (both_none _ _ fine.spread (both_none _ _ fine.dependency fine.closed))))
+    pub fine_from_feasible : Feasible i a0 a → Fine i a0 a
+    fine_from_feasible feasible = record {
+      capacity = capacity_unbroken a feasible.capacity;
+      transient = transient_unbroken feasible.transient;
+      conflict = conflict_unbroken a feasible.conflict;
+      spread = spread_unbroken a feasible.spread;
+      dependency = dependency_unbroken a feasible.dependency;
+      closed = closed_unbroken feasible.closed;
+    }
 
-pub feasible_from_fine : (i : Tables) (a0 a : List Machine) → WellFormed i → IsAssignment i a → Fine i a0 a →
-    Feasible i a0 a
-feasible_from_fine i a0 a limits fits fine = record {
-  capacity = capacity_met i a fine.capacity;
-  transient = transient_met i a0 a fine.transient;
-  conflict = conflict_met i a limits fits fine.conflict;
-  spread = spread_met i a fine.spread;
-  dependency = dependency_met i a fine.dependency;
-  closed = closed_met i a0 a fine.closed;
-}
+    pub feasible_from_unbroken : WellFormed i → IsAssignment i a → first_broken i a0 a ≡ None → Feasible i a0 a
+    feasible_from_unbroken limits fits none = feasible_from_fine limits fits (fine_from_unbroken none)
 
-pub fine_from_feasible : (i : Tables) (a0 a : List Machine) → Feasible i a0 a → Fine i a0 a
-fine_from_feasible i a0 a feasible = record {
-  capacity = capacity_unbroken i a feasible.capacity;
-  transient = transient_unbroken i a0 a feasible.transient;
-  conflict = conflict_unbroken i a feasible.conflict;
-  spread = spread_unbroken i a feasible.spread;
-  dependency = dependency_unbroken i a feasible.dependency;
-  closed = closed_unbroken i a0 a feasible.closed;
-}
-
-pub feasible_from_unbroken : (i : Tables) (a0 a : List Machine) → WellFormed i → IsAssignment i a →
-    first_broken i a0 a ≡ None → Feasible i a0 a
-feasible_from_unbroken i a0 a limits fits none = feasible_from_fine i a0 a limits fits (fine_from_unbroken i a0 a none)
-
-pub unbroken_from_feasible : (i : Tables) (a0 a : List Machine) → Feasible i a0 a → first_broken i a0 a ≡ None
-unbroken_from_feasible i a0 a feasible = unbroken_from_fine i a0 a (fine_from_feasible i a0 a feasible)
+    pub unbroken_from_feasible : Feasible i a0 a → first_broken i a0 a ≡ None
+    unbroken_from_feasible feasible = unbroken_from_fine (fine_from_feasible feasible)
 
 -- what is found is a constraint
 

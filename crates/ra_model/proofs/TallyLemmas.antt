@@ -14,23 +14,22 @@ use Rattle.ra_model.specs.Assignments.{IsAssignment, machine_at, tally}
 use Rattle.ra_model.specs.Usage.{use_share, use_of, transient_share, transient_of}
 use Rattle.ra_model.specs.Services.{is_of, of_service, members_at}
 
--- the machine of a process
+module _ (a : List Machine) (p : ℕ) where
+  -- the machine of a process
 
--- what a read of an assignment gives
-pub machine_at_read : (a : List Machine) (p : ℕ) (m : Machine) → p < length a → m ≡ slice_index_or a p m →
-    m.0 ≡ machine_at a p
-unfolding machine_at
-machine_at_read a p m within read = ap (λ (x : Machine). x.0) (get_or_read a p m within read (record { 0 = 0 }))
+  -- what a read of an assignment gives
+  pub machine_at_read : (m : Machine) → p < length a → m ≡ slice_index_or a p m → m.0 ≡ machine_at a p
+  unfolding machine_at
+  machine_at_read m within read = ap (λ (x : Machine). x.0) (get_or_read a p m within read (record { 0 = 0 }))
 
--- a process put on a machine: itself and the others
-pub machine_at_set_same : (a : List Machine) (p : ℕ) (to : Machine) → p < length a → machine_at (set a p to) p ≡ to.0
-unfolding machine_at
-machine_at_set_same a p to within = ap (λ (x : Machine). x.0) (get_or-set_same a p to (record { 0 = 0 }) within)
+  -- a process put on a machine: itself and the others
+  pub machine_at_set_same : (to : Machine) → p < length a → machine_at (set a p to) p ≡ to.0
+  unfolding machine_at
+  machine_at_set_same to within = ap (λ (x : Machine). x.0) (get_or-set_same a p to (record { 0 = 0 }) within)
 
-pub machine_at_set_other : (a : List Machine) (p : ℕ) (to : Machine) (k : ℕ) → k ≢ p →
-    machine_at (set a p to) k ≡ machine_at a k
-unfolding machine_at
-machine_at_set_other a p to k apart = ap (λ (x : Machine). x.0) (get_or-set_other a p k to (record { 0 = 0 }) apart)
+  pub machine_at_set_other : (to : Machine) (k : ℕ) → k ≢ p → machine_at (set a p to) k ≡ machine_at a k
+  unfolding machine_at
+  machine_at_set_other to k apart = ap (λ (x : Machine). x.0) (get_or-set_other a p k to (record { 0 = 0 }) apart)
 
 -- two assignments of as many processes with the same machines are one
 pub same_machines : (a b : List Machine) → length a ≡ length b →
@@ -39,59 +38,6 @@ unfolding machine_at
 same_machines a b as_many same =
     ext_get_or (record { 0 = 0 }) a b as_many
     (λ p within. ap (λ n. let m : Machine = record { 0 = n } in m) (same p within))
-
--- an assignment stays one when a process is put on a machine of the instance
-pub fits_set : (i : Tables) (a : List Machine) (p : ℕ) (to : Machine) → IsAssignment i a → p < process_count i →
-    to.0 < machine_count i → IsAssignment i (set a p to)
-fits_set i a p to fits within exists = record {
-  one_each = length-set a p to ∙ fits.one_each;
-  in_range = λ k k_in. ⊎_elim
-      (λ (here : k ≡ p).
-      omega (
-        arith,
-        ap (machine_at (set a p to)) here,
-        machine_at_set_same a p to (omega (arith, fits.one_each)),
-        exists,
-      ))
-      (λ (apart : k ≢ p). omega (arith, machine_at_set_other a p to k apart, fits.in_range k k_in))
-      (cases_eq k p);
-}
-
--- sums over the processes
-
-pub tally_none : (f : ℕ → ℕ → ℕ) (a : List Machine) → tally 0 f a ≡ 0
-unfolding tally
-tally_none f a = total_none _
-
--- one more, as a loop over the processes counts
-pub tally_more : (n : ℕ) (f : ℕ → ℕ → ℕ) (a : List Machine) → tally (n + 1) f a ≡ tally n f a + f n (machine_at a n)
-unfolding tally
-tally_more n f a = total_more n _
-
--- equal shares have equal sums
-pub tally_same : (n : ℕ) (f g : ℕ → ℕ → ℕ) (a b : List Machine) →
-    ((p : ℕ) → p < n → f p (machine_at a p) ≡ g p (machine_at b p)) → tally n f a ≡ tally n g b
-unfolding tally
-tally_same n f g a b same = total_same n _ _ same
-
-pub tally_le : (n : ℕ) (f g : ℕ → ℕ → ℕ) (a b : List Machine) →
-    ((p : ℕ) → p < n → f p (machine_at a p) ≤ g p (machine_at b p)) → tally n f a ≤ tally n g b
-unfolding tally
-tally_le n f g a b each = total_le n _ _ each
-
-pub tally_zero : (n : ℕ) (f : ℕ → ℕ → ℕ) (a : List Machine) → ((p : ℕ) → p < n → f p (machine_at a p) ≡ 0) →
-    tally n f a ≡ 0
-unfolding tally
-tally_zero n f a zeros = total_zero n _ zeros
-
-pub tally_bound : (n b : ℕ) (f : ℕ → ℕ → ℕ) (a : List Machine) → ((p : ℕ) → p < n → f p (machine_at a p) ≤ b) →
-    tally n f a ≤ n * b
-unfolding tally
-tally_bound n b f a each = total_bound n b _ each
-
-pub tally_term : (n p : ℕ) (f : ℕ → ℕ → ℕ) (a : List Machine) → p < n → f p (machine_at a p) ≤ tally n f a
-unfolding tally
-tally_term n p f a within = total_term n p (λ k. f k (machine_at a k)) within
 
 -- process p is put on machine `to`
 pub tally_set : (n p : ℕ) (f : ℕ → ℕ → ℕ) (a : List Machine) (to : Machine) → p < n → p < length a →
@@ -102,14 +48,72 @@ tally_set n p f a to within there =
     (λ k h apart. ap (f k) (machine_at_set_other a p to k apart))
     ∙ ap (λ m. total n (λ k. f k (machine_at a k)) + f p m) (machine_at_set_same a p to there)
 
--- what changes in each quantity that is a sum over the processes
+module _ (i : Tables) (a : List Machine) (p : ℕ) (to : Machine) where
+  -- an assignment stays one when a process is put on a machine of the instance
+  pub fits_set : IsAssignment i a → p < process_count i → to.0 < machine_count i → IsAssignment i (set a p to)
+  fits_set fits within exists = record {
+    one_each = length-set a p to ∙ fits.one_each;
+    in_range = λ k k_in. ⊎_elim
+        (λ (here : k ≡ p).
+        omega (
+          arith,
+          ap (machine_at (set a p to)) here,
+          machine_at_set_same a p to (omega (arith, fits.one_each)),
+          exists,
+        ))
+        (λ (apart : k ≢ p). omega (arith, machine_at_set_other a p to k apart, fits.in_range k k_in))
+        (cases_eq k p);
+  }
 
-pub use_set : (i : Tables) (a : List Machine) (p : ℕ) (to : Machine) (m r : ℕ) → IsAssignment i a →
-    p < process_count i → use_of i (set a p to) m r + use_share i m r p (machine_at a p) ≡ use_of i a m r
-    + use_share i m r p to.0
-unfolding use_of
-use_set i a p to m r fits within =
-    tally_set (process_count i) p (use_share i m r) a to within (omega (arith, fits.one_each))
+  -- what changes in each quantity that is a sum over the processes
+
+  pub use_set : (m r : ℕ) → IsAssignment i a → p < process_count i → use_of i (set a p to) m r + use_share i m r p
+      (machine_at a p) ≡ use_of i a m r + use_share i m r p to.0
+  unfolding use_of
+  use_set m r fits within =
+      tally_set (process_count i) p (use_share i m r) a to within (omega (arith, fits.one_each))
+
+  pub members_set : (s : ℕ) (test : ℕ → ℕ → Bool) → IsAssignment i a → p < process_count i →
+      members_at i (set a p to) s test + of_service i s test p
+      (machine_at a p) ≡ members_at i a s test + of_service i s test p to.0
+  unfolding members_at
+  members_set s test fits within =
+      tally_set (process_count i) p (of_service i s test) a to within (omega (arith, fits.one_each))
+
+-- sums over the processes
+
+pub tally_none : (f : ℕ → ℕ → ℕ) (a : List Machine) → tally 0 f a ≡ 0
+unfolding tally
+tally_none f a = total_none _
+
+module _ (n : ℕ) (f : ℕ → ℕ → ℕ) where
+  -- one more, as a loop over the processes counts
+  pub tally_more : (a : List Machine) → tally (n + 1) f a ≡ tally n f a + f n (machine_at a n)
+  unfolding tally
+  tally_more a = total_more n _
+
+  module _ (g : ℕ → ℕ → ℕ) (a b : List Machine) where
+    -- equal shares have equal sums
+    pub tally_same : ((p : ℕ) → p < n → f p (machine_at a p) ≡ g p (machine_at b p)) → tally n f a ≡ tally n g b
+    unfolding tally
+    tally_same same = total_same n _ _ same
+
+    pub tally_le : ((p : ℕ) → p < n → f p (machine_at a p) ≤ g p (machine_at b p)) → tally n f a ≤ tally n g b
+    unfolding tally
+    tally_le each = total_le n _ _ each
+
+  pub tally_zero : (a : List Machine) → ((p : ℕ) → p < n → f p (machine_at a p) ≡ 0) → tally n f a ≡ 0
+  unfolding tally
+  tally_zero a zeros = total_zero n _ zeros
+
+pub tally_bound : (n b : ℕ) (f : ℕ → ℕ → ℕ) (a : List Machine) → ((p : ℕ) → p < n → f p (machine_at a p) ≤ b) →
+    tally n f a ≤ n * b
+unfolding tally
+tally_bound n b f a each = total_bound n b _ each
+
+pub tally_term : (n p : ℕ) (f : ℕ → ℕ → ℕ) (a : List Machine) → p < n → f p (machine_at a p) ≤ tally n f a
+unfolding tally
+tally_term n p f a within = total_term n p (λ k. f k (machine_at a k)) within
 
 pub transient_set : (i : Tables) (a0 a : List Machine) (p : ℕ) (to : Machine) (m r : ℕ) → IsAssignment i a →
     p < process_count i → transient_of i a0 (set a p to) m r + transient_share i a0 m r p (machine_at a p) ≡
@@ -117,13 +121,6 @@ pub transient_set : (i : Tables) (a0 a : List Machine) (p : ℕ) (to : Machine) 
 unfolding transient_of
 transient_set i a0 a p to m r fits within =
     tally_set (process_count i) p (transient_share i a0 m r) a to within (omega (arith, fits.one_each))
-
-pub members_set : (i : Tables) (a : List Machine) (p : ℕ) (to : Machine) (s : ℕ) (test : ℕ → ℕ → Bool) →
-    IsAssignment i a → p < process_count i → members_at i (set a p to) s test + of_service i s test p (machine_at a p) ≡
-    members_at i a s test + of_service i s test p to.0
-unfolding members_at
-members_set i a p to s test fits within =
-    tally_set (process_count i) p (of_service i s test) a to within (omega (arith, fits.one_each))
 
 -- counts over a service's processes
 

@@ -221,7 +221,8 @@ impl Instance {
         self.process(p).move_cost
     }
 
-    /// What a process requires of a resource. Each call counts one step, and no other call reads a requirement.
+    /// What a process requires of a resource. Each call counts one step. Requirements are read only by this call and by
+    /// `read_requirements`.
     #[tactic(auto, unfolding(crate::specs::Numbers::requirement_of))]
     pub fn requirement<L: Ledger>(&self, p: Process, r: Resource, steps: &mut Steps<L>) -> u32
         requires process { p.0 < process_count self.now.tables }

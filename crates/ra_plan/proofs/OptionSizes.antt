@@ -20,11 +20,6 @@ kind_in Shift a x m d i = refl
 kind_in Swap a x m d i = refl
 kind_in Chain a x m d i = refl
 
--- an option's kind
-pub option_kind : (a : List Machine) (x : List ℕ) (m : ℕ) (d : Drawing) (i : ℕ) → (option_at a x m d i).kind ≡ kind_of x
-unfolding option_at
-option_kind a x m d i = kind_in (kind_of x) a x m d i
-
 length_in : (k : MoveKind) (a : List Machine) (x : List ℕ) (m : ℕ) (d : Drawing) (i : ℕ) →
     length (option_of k a x m d i).steps ≡ step_count k
 unfolding option_of shift_of swap_of chain_of step_count
@@ -32,26 +27,11 @@ length_in Shift a x m d i = refl
 length_in Swap a x m d i = refl
 length_in Chain a x m d i = refl
 
--- how many steps it has
-pub option_length : (a : List Machine) (x : List ℕ) (m : ℕ) (d : Drawing) (i : ℕ) → length (option_at a x m d i).steps ≡
-    step_count (kind_of x)
-unfolding option_at
-option_length a x m d i = length_in (kind_of x) a x m d i
-
-pub shift_length : (a : List Machine) (x : List ℕ) (m : ℕ) (d : Drawing) (i : ℕ) (mv : MoveSteps) →
-    mv ≡ option_at a x m d i → kind_of x ≡ Shift → length mv.steps ≡ 1
-unfolding step_count
-shift_length a x m d i mv option is =
-    ap (λ (v : MoveSteps). length v.steps) option ∙ option_length a x m d i ∙ ap step_count is
-
 few_steps : (k : MoveKind) → step_count k ≤ 3
 unfolding step_count
 few_steps Shift = omega arith
 few_steps Swap = omega arith
 few_steps Chain = omega arith
-
-pub option_few : (a : List Machine) (x : List ℕ) (m : ℕ) (d : Drawing) (i : ℕ) → length (option_at a x m d i).steps ≤ 3
-option_few a x m d i = omega (arith, option_length a x m d i, few_steps (kind_of x))
 
 -- what is read for all options of a swap or a chain but one, if two numbers are read for each step and each of r
 -- resources
@@ -65,7 +45,7 @@ rest_reads_of Chain d m r other = omega arith
 pub rest_reads : (x : List ℕ) (m : ℕ) (d : Drawing) (r : ℕ) → kind_of x ≢ Shift →
     option_count x m d * (2 * (step_count (kind_of x) * r)) ≤ 12 * r + 2 * (step_count (kind_of x) * r)
 unfolding option_count
-rest_reads x m d r other = rest_reads_of (kind_of x) d m r other
+rest_reads x m d r other = rest_reads_of _ d m r other
 
 some_options : (k : MoveKind) (d : Drawing) (m : ℕ) → 1 ≤ m → 0 < count_of k d m
 unfolding count_of
@@ -76,43 +56,60 @@ some_options Chain d m some = omega arith
 
 pub option_some : (x : List ℕ) (m : ℕ) (d : Drawing) → 1 ≤ m → 0 < option_count x m d
 unfolding option_count
-option_some x m d some = some_options (kind_of x) d m some
+option_some x m d some = some_options _ d m some
 
--- a shift's options differ by their machines
-pub shift_steps : (a : List Machine) (x : List ℕ) (m : ℕ) (d : Drawing) (i p to : ℕ) → kind_of x ≡ Shift →
-    p ≡ drawn a x 1 → to ≡ target d x m i → (option_at a x m d i).steps ≡ leaving a p to ∷ []
-unfolding option_at option_of shift_of
-shift_steps a x m d i p to is process machine = rw (is, process, machine) refl
+module _ (a : List Machine) (x : List ℕ) where
+  module _ (m : ℕ) (d : Drawing) (i : ℕ) where
+    -- an option's kind
+    pub option_kind : (option_at a x m d i).kind ≡ kind_of x
+    unfolding option_at
+    option_kind = kind_in _ a x m d i
 
-first_drawn : (a : List Machine) (x : List ℕ) (m : ℕ) (d : Drawing) (i : ℕ) → kind_of x ≡ Shift →
-    (step_at (option_at a x m d i).steps 0).process.0 ≡ drawn a x 1
-unfolding option_at option_of shift_of step_at leaving
-first_drawn a x m d i is = rw is refl
+    -- how many steps it has
+    pub option_length : length (option_at a x m d i).steps ≡
+        step_count (kind_of x)
+    unfolding option_at
+    option_length = length_in _ a x m d i
 
--- a resolved shift, and its process
-pub is_shift : (a : List Machine) (x : List ℕ) (m : ℕ) (d : Drawing) (i : ℕ) (mv : MoveSteps) →
-    mv ≡ option_at a x m d i → kind_of x ≡ Shift → mv.kind ≡ Shift
-is_shift a x m d i mv option is = ap (λ (v : MoveSteps). v.kind) option ∙ option_kind a x m d i ∙ is
+    pub option_few : length (option_at a x m d i).steps ≤ 3
+    option_few = omega (arith, option_length, few_steps (kind_of x))
 
-pub asks_shift : (a : List Machine) (x : List ℕ) (m : ℕ) (d : Drawing) (i : ℕ) (mv : MoveSteps) →
-    mv ≡ option_at a x m d i → mv.kind ≡ Shift → kind_of x ≡ Shift
-asks_shift a x m d i mv option is = sym (ap (λ (v : MoveSteps). v.kind) option ∙ option_kind a x m d i) ∙ is
+    -- a shift's options differ by their machines
+    pub shift_steps : (p to : ℕ) → kind_of x ≡ Shift → p ≡ drawn a x 1 → to ≡ target d x m i →
+        (option_at a x m d i).steps ≡ leaving a p to ∷ []
+    unfolding option_at option_of shift_of
+    shift_steps p to is process machine = rw (is, process, machine) refl
 
-pub process_drawn : (a : List Machine) (x : List ℕ) (m : ℕ) (d : Drawing) (i : ℕ) (mv : MoveSteps) →
-    mv ≡ option_at a x m d i → mv.kind ≡ Shift → (step_at mv.steps 0).process.0 ≡ drawn a x 1
-process_drawn a x m d i mv option is = ap (λ (v : MoveSteps). (step_at v.steps 0).process.0) option
-    ∙ first_drawn a x m d i (asks_shift a x m d i mv option is)
+    first_drawn : kind_of x ≡ Shift → (step_at (option_at a x m d i).steps 0).process.0 ≡ drawn a x 1
+    unfolding option_at option_of shift_of step_at leaving
+    first_drawn is = rw is refl
 
--- its one step
-pub alone : (a : List Machine) (x : List ℕ) (m : ℕ) (d : Drawing) (i p : ℕ) (mv : MoveSteps) →
-    mv ≡ option_at a x m d i → kind_of x ≡ Shift → p ≡ drawn a x 1 →
-    mv.steps ≡ leaving a p (step_at mv.steps 0).to.0 ∷ []
-unfolding option_at option_of shift_of step_at leaving
-alone a x m d i p mv option is process = rw (option, is, process) refl
+    module _ (mv : MoveSteps) (option : mv ≡ option_at a x m d i) where
+      pub shift_length : kind_of x ≡ Shift → length mv.steps ≡ 1
+      unfolding step_count
+      shift_length is =
+          ap (λ (v : MoveSteps). length v.steps) option ∙ option_length ∙ ap step_count is
 
-pub drawn_below : (a : List Machine) (x : List ℕ) (j : ℕ) → 0 < length a → drawn a x j < length a
-unfolding drawn
-drawn_below a x j some = omega arith
+      -- a resolved shift, and its process
+      pub is_shift : kind_of x ≡ Shift → mv.kind ≡ Shift
+      is_shift is = ap (λ (v : MoveSteps). v.kind) option ∙ option_kind ∙ is
+
+      pub asks_shift : mv.kind ≡ Shift → kind_of x ≡ Shift
+      asks_shift is = sym (ap (λ (v : MoveSteps). v.kind) option ∙ option_kind) ∙ is
+
+      pub process_drawn : mv.kind ≡ Shift → (step_at mv.steps 0).process.0 ≡ drawn a x 1
+      process_drawn is = ap (λ (v : MoveSteps). (step_at v.steps 0).process.0) option
+          ∙ first_drawn (asks_shift is)
+
+    -- its one step
+    pub alone : (p : ℕ) (mv : MoveSteps) → mv ≡ option_at a x m d i → kind_of x ≡ Shift → p ≡ drawn a x 1 →
+        mv.steps ≡ leaving a p (step_at mv.steps 0).to.0 ∷ []
+    unfolding option_at option_of shift_of step_at leaving
+    alone p mv option is process = rw (option, is, process) refl
+
+  pub drawn_below : (j : ℕ) → 0 < length a → drawn a x j < length a
+  unfolding drawn
+  drawn_below j some = omega arith
 
 -- the first place of the least answer is below n, if there is a place
 pub least_place_below : (n : ℕ) (f : ℕ → Option ℕ) → 0 < n → least_place n f < n
@@ -131,12 +128,12 @@ least_place_below (suc (suc n)) f some =
     by_test true before = omega arith
     by_test false before = omega arith
 
--- how many machines a window has
-pub window_count : (x : List ℕ) (m : ℕ) → kind_of x ≡ Shift → option_count x m Two ≡ min 64 m
-unfolding option_count count_of
-window_count x m is = rw is refl
+module _ (x : List ℕ) (m : ℕ) where
+  -- how many machines a window has
+  pub window_count : kind_of x ≡ Shift → option_count x m Two ≡ min 64 m
+  unfolding option_count count_of
+  window_count is = rw is refl
 
-pub window_target : (x : List ℕ) (m n first k : ℕ) → m ≡ n → first ≡ slice_index x 2 % m →
-    (first + k) % n ≡ target Two x m k
-unfolding target
-window_target x m n first k same is = rw (is, same) refl
+  pub window_target : (n first k : ℕ) → m ≡ n → first ≡ slice_index x 2 % m → (first + k) % n ≡ target Two x m k
+  unfolding target
+  window_target n first k same is = rw (is, same) refl

@@ -68,63 +68,35 @@ module _ (st : Situation) (p to : ℕ) where
   unbroken_after : broken_by st (leaving st.here p to ∷ []) ≡ None →
       broken_at (record st { here = shifted st.here p to }) ≡ None
   unfolding broken_by
-  unbroken_after none = ap (first_broken st.tables st.start) (sym (applied_one st.here p to))
-      ∙ right_none (same_of (leaving st.here p to ∷ [])) _ (right_none (repeat_of (leaving st.here p to ∷ [])) _ none)
+  unbroken_after none = grind (arith, applied_one, right_none)
 
   pub apart_after : broken_by st (leaving st.here p to ∷ []) ≡ None →
       machine_at st.here p ≢ to
   unfolding broken_by
-  apart_after none =
-      apart_from st.here p to
-      (left_none (same_of (leaving st.here p to ∷ [])) _ (right_none (repeat_of (leaving st.here p to ∷ [])) _ none))
+  apart_after none = grind (arith, apart_from, left_none, right_none)
 
   unbroken_from : machine_at st.here p ≢ to →
       broken_at (record st { here = shifted st.here p to }) ≡ None → broken_by st (leaving st.here p to ∷ []) ≡ None
   unfolding broken_by
-  unbroken_from apart none =
-      both_none _ _ (no_repeat st.here p to)
-      (both_none _ _ (same_none st.here p to apart) (ap (first_broken st.tables st.start) (applied_one st.here p to)
-      ∙ none))
+  unbroken_from apart none = grind (arith, both_none, no_repeat, same_none, applied_one)
 
   -- all constraints after it
   feasible_after : IsStart st p to → Allows st p to →
       IsFeasible (record st { here = shifted st.here p to })
-  feasible_after h allows = record {
-    capacity = capacity_after st p to h allows.room;
-    transient = transient_after st p to h allows.between;
-    conflict = conflict_after st p to h allows.alone;
-    spread = spread_after st p to h allows.spread;
-    dependency = dependency_after st p to h allows.needs allows.leaves;
-    closed = closed_after st p to h allows.admitted;
-  }
+  feasible_after h allows =
+      grind (arith, capacity_after, transient_after, conflict_after, spread_after, dependency_after, closed_after)
 
   allows_from : IsStart st p to → IsFeasible (record st { here = shifted st.here p to }) →
       Allows st p to
-  allows_from h after = record {
-    apart = h.apart;
-    room = room_from st p to h after;
-    between = between_from st p to h after;
-    alone = alone_from st p to h after;
-    spread = after.spread (service_of st.tables p) (h.formed.services p h.known);
-    needs = needs_from st p to h after;
-    leaves = leaves_from st p to h after;
-    admitted = λ closed. after.closed p h.known (ap (closed_at st.tables) (placed st p to h) ∙ closed) ∙ placed st p to h;
-  }
+  allows_from h after = grind (arith, room_from, between_from, alone_from, needs_from, leaves_from, placed)
 
   pub allowed : IsAt st p to →
       broken_by st (leaving st.here p to ∷ []) ≡ None → Allows st p to
-  allowed h none =
-      let start = start_of h (apart_after none) in
-      allows_from start
-      (feasible_from_unbroken st.tables st.start (shifted st.here p to) h.formed
-      (fits_set st.tables st.here p (record { 0 = to }) h.fits h.known h.reach) (unbroken_after none))
+  allowed h none = grind (arith, start_of, apart_after, allows_from, feasible_from_unbroken, fits_set, unbroken_after)
 
   pub unbroken : IsAt st p to → Allows st p to →
       broken_by st (leaving st.here p to ∷ []) ≡ None
-  unbroken h allows =
-      unbroken_from allows.apart
-      (unbroken_from_feasible st.tables st.start (shifted st.here p to)
-      (feasible_after (start_of h allows.apart) allows))
+  unbroken h allows = grind (arith, unbroken_from, unbroken_from_feasible, feasible_after, start_of)
 
   -- in a world
   pub at_of : IsSound st → p < process_count st.tables → to < machine_count st.tables →

@@ -35,8 +35,7 @@ use Rattle.ra_shift.proofs.AllowLaws.{applied_one}
 pub row_cost_same : (i : Tables) (m : ℕ) (u v : ℕ → ℕ) → WellFormed i → ((r : ℕ) → r < resource_count i → u r ≡ v r) →
     row_cost_with i m u ≡ row_cost_with i m v
 unfolding row_cost_with
-row_cost_same i m u v limits same =
-    ap₂ (λ x y. x + y) (row_load_same i m u v same) (row_balance_same i m u v limits same)
+row_cost_same i m u v limits same = grind (arith, row_load_same, row_balance_same)
 
 -- the costs of a machine in an assignment, from its row
 cost_by_row : (i : Tables) (a : List Machine) (m : ℕ) → cost_of i a m ≡ row_cost_with i m (use_of i a m)
@@ -51,18 +50,13 @@ module _ (st : Situation) (p to : ℕ) where
   pub cost_entered : IsStart st p to →
       cost_of st.tables (shifted st.here p to) to ≡ row_cost_with st.tables to (use_with st.tables st.here p to)
   unfolding use_with
-  cost_entered h = cost_by_row st.tables (shifted st.here p to) to
-      ∙ row_cost_same st.tables to (use_of st.tables (shifted st.here p to) to) (use_with st.tables st.here p to) h.formed
-      (λ r within. use_entered st p to r h)
+  cost_entered h = grind (arith, cost_by_row, row_cost_same, use_entered)
 
   pub cost_left : IsStart st p to →
       cost_of st.tables (shifted st.here p to) (machine_at st.here p) ≡ row_cost_with st.tables (machine_at st.here p)
       (use_without st.tables st.here p)
   unfolding use_without
-  cost_left h = cost_by_row st.tables (shifted st.here p to) (machine_at st.here p)
-      ∙ row_cost_same st.tables (machine_at st.here p) (use_of st.tables (shifted st.here p to) (machine_at st.here p))
-      (use_without st.tables st.here p) h.formed
-      (λ r within. omega (arith, use_left st p to r h))
+  cost_left h = grind (arith, cost_by_row, row_cost_same, use_left)
 
   -- load and balance cost
   loads_change : IsStart st p to →
@@ -101,14 +95,7 @@ module _ (st : Situation) (p to : ℕ) where
       + (cost_of st.tables (shifted st.here p to) (machine_at st.here p) + cost_of st.tables (shifted st.here p to) to
       + way_cost st.tables st.start p to)
   unfolding local_cost cost_of way_cost
-  cost_changes h =
-      omega (
-        arith,
-        loads_change h,
-        balances_change h,
-        process_set st.tables st.start st.here p (record { 0 = to }) h.fits h.known,
-        machine_set st.tables st.start st.here p (record { 0 = to }) h.fits h.known,
-      )
+  cost_changes h = grind (arith, loads_change, balances_change, process_set, machine_set)
 
   -- the change of the costs: what is added less what is taken away
   pub change_is : (without before with way here : ℕ) → IsStart st p to →
@@ -119,13 +106,7 @@ module _ (st : Situation) (p to : ℕ) where
       pos (without + with + way) -ℤ pos (before + here) ≡ local_change st (leaving st.here p to ∷ [])
   unfolding local_change
   change_is without before with way here h without_is before_is with_is way_is here_is =
-      let left : without ≡ cost_of st.tables (shifted st.here p to) (machine_at st.here p) =
-      without_is ∙ sym (cost_left h) in
-      let entered : with ≡ cost_of st.tables (shifted st.here p to) to = with_is ∙ sym (cost_entered h) in
-      let b = applied st.here (leaving st.here p to ∷ []) in
-      let same = ap (λ (c : List Machine). local_cost (record st { here = c })) (applied_one st.here p to) in
-      signed (local_cost (record st { here = b })) (local_cost st) (without + with + way) (before + here)
-      (omega (arith, cost_changes h, left, entered, before_is, way_is, here_is, same))
+      grind (arith, cost_left, cost_entered, applied_one, signed, cost_changes)
 
   -- moved counts
   pub moved_mine : IsAssignment st.tables st.here → p < process_count st.tables →
@@ -152,13 +133,7 @@ module _ (st : Situation) (p to : ℕ) where
       gone ≡ away (machine_at st.start p) (machine_at st.here p) → come ≡ away (machine_at st.start p) to →
       (gone ≤ before + come)
       × (before + come - gone ≡ moved_at (record st { here = shifted st.here p to }) s)
-  moved_after s before gone come fits within s_is before_is gone_is come_is =
-      let change = moved_mine fits within in
-      let was = ap (moved_at st) s_is in
-      let then = ap (moved_at (record st { here = shifted st.here p to })) s_is in (
-        omega (arith, change, was, before_is, gone_is, come_is),
-        omega (arith, change, was, then, before_is, gone_is, come_is),
-      )
+  moved_after s before gone come fits within s_is before_is gone_is come_is = grind (arith, moved_mine)
 
   pub moved_is : (before after : ℕ) (service : Service) →
       service.0 ≡ service_of st.tables p → before ≡ moved_at st service.0 →
@@ -169,19 +144,7 @@ module _ (st : Situation) (p to : ℕ) where
         after = after;
       } ≡ moved_count st (leaving st.here p to ∷ []) (service_of st.tables p)
   unfolding moved_count
-  moved_is before after service s_is before_is after_is =
-      let made = λ (s : ℕ) (x y : ℕ). let count : MovedCount = record {
-        service = record { 0 = s };
-        before = x;
-        after = y;
-      } in count in
-      let there = ap (λ (b : List Machine). moved_at (record st { here = b }) (service_of st.tables p))
-      (applied_one st.here p to) in
-      ap (λ (s : ℕ). made s before after) s_is
-      ∙ ap (λ (x : ℕ). made (service_of st.tables p) x after) (before_is ∙ ap (moved_at st) s_is)
-      ∙ ap (made (service_of st.tables p) (moved_at st (service_of st.tables p)))
-      (after_is ∙ ap (moved_at (record st { here = shifted st.here p to })) s_is
-      ∙ sym there)
+  moved_is before after service s_is before_is after_is = grind (arith, applied_one)
 
   one_count : changed_count st (leaving st.here p to ∷ []) 0 ≡
       Some (moved_count st (leaving st.here p to ∷ []) (service_of st.tables p))
@@ -213,6 +176,4 @@ module _ (st : Situation) (p to : ℕ) where
 -- bounds
 pub cost_small : (i : Tables) (a : List Machine) (m : ℕ) → WellFormed i → Small i →
     (machine_load i a m + machine_balance i a m < 2 ^ 101)
-cost_small i a m limits small =
-    let fit = machine_costs_fit i a m limits small in
-    omega (arith, fit.load, fit.balance)
+cost_small i a m limits small = grind (arith, machine_costs_fit)

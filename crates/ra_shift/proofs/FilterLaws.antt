@@ -45,12 +45,7 @@ module _ (i : Tables) (a : List Machine) (p m : ℕ) where
     share_comes : load_share i m (use_with i a p m) r ≡
         load_share i m (use_of i a m) r + (load_asked i p r - load_row i a m r)
     unfolding load_share use_with load_asked load_row
-    share_comes =
-        let w = load_weight_of i r in
-        let u = use_of i a m r in
-        let q = requirement_of i p r in
-        let s = safety_of i m r in
-        omega (arith, mul-sub w (u + q) s, mul-sub w u s, mul-sub w s u)
+    share_comes = grind (arith, mul-sub)
 
     -- what is left of a resource of a machine that a process enters
     left_with : row_left i m (use_with i a p m) r ≡ available i a m r
@@ -108,14 +103,12 @@ way_away : (i : Tables) (a0 : List Machine) (p to : ℕ) → machine_at a0 p ≢
     way_cost i a0 p to ≡ process_weight_of i * process_cost_of i p + machine_weight_of i * way_cost_of i
     (machine_at a0 p) to
 unfolding way_cost process_share way_share
-way_away i a0 p to apart = ap (λ x. process_weight_of i * x + machine_weight_of i * way_cost_of i (machine_at a0 p) to)
-    (cond-false (eqb to (machine_at a0 p)) 0 (process_cost_of i p)
-    (ne_eqb to (machine_at a0 p) (λ same. apart (sym same))))
+way_away i a0 p to apart = grind arith
 
 -- moved counts if p is away from home
 counts_away : (home to : ℕ) → home ≢ to → away home to ≡ 1
 unfolding away
-counts_away home to apart = ap (λ t. one_if (not t)) (ne_eqb home to apart)
+counts_away home to apart = rw (ne_eqb home to apart)
 
 objective_parts : (st : Situation) → cost_at st ≡ local_cost st + service_cost_at st
 unfolding objective local_cost
@@ -126,14 +119,12 @@ module _ (st : Situation) (p : ℕ) where
       n ≡ moved_at st (service_of st.tables p) + 1 - away (machine_at st.start p) (machine_at st.here p) →
       n ≡ moved_away st p s
   unfolding moved_away
-  away_mine n s mine is = is ∙ ap (λ k. moved_at st k + 1 - away (machine_at st.start p) (machine_at st.here p))
-      (sym mine) ∙ sym (cond-true (eqb s (service_of st.tables p)) _ _ (eq-eqb s (service_of st.tables p) mine))
+  away_mine n s mine is = grind (arith, eq-eqb)
 
   pub away_other : (n s : ℕ) → s ≢ service_of st.tables p → n ≡ moved_at st s →
       n ≡ moved_away st p s
   unfolding moved_away
-  away_other n s other is =
-      is ∙ sym (cond-false (eqb s (service_of st.tables p)) _ (moved_at st s) (ne_eqb s (service_of st.tables p) other))
+  away_other n s other is = grind arith
 
   module _ (to : ℕ) where
     module _ (s : ℕ) where
@@ -144,15 +135,7 @@ module _ (st : Situation) (p : ℕ) where
 
       pub moved_once_away : IsAssignment st.tables st.here → p < process_count st.tables →
           machine_at st.start p ≢ to → moved_at (record st { here = shifted st.here p to }) s ≡ moved_away st p s
-      moved_once_away fits within apart = ⊎_elim
-          (λ (mine : s ≡ service_of st.tables p).
-          let change = moved_mine st p to fits within in
-          let one = counts_away (machine_at st.start p) to apart in
-          let same = ap (moved_at (record st { here = shifted st.here p to })) mine in
-          away_mine (moved_at (record st { here = shifted st.here p to }) s) s mine (omega (arith, change, one, same)))
-          (λ (other : s ≢ service_of st.tables p).
-          away_other _ s other (moved_other fits within (λ same. other (sym same))))
-          (cases_eq s (service_of st.tables p))
+      moved_once_away fits within apart = grind (arith, moved_mine, counts_away, away_mine, away_other, moved_other)
 
       -- the moved count of another service stays
       pub count_stays : IsAssignment st.tables st.here → p < process_count st.tables →
@@ -162,10 +145,7 @@ module _ (st : Situation) (p : ℕ) where
     service_then : IsAssignment st.tables st.here → p < process_count st.tables →
         machine_at st.start p ≢ to → service_cost_at (record st { here = shifted st.here p to }) ≡ service_away st p
     unfolding service_cost service_away
-    service_then fits within apart =
-        ap (λ x. service_weight_of st.tables * x)
-        (greatest_same (service_count st.tables) (moved_at (record st { here = shifted st.here p to })) (moved_away st p)
-        (λ s h. moved_once_away s fits within apart))
+    service_then fits within apart = grind (arith, greatest_same, moved_once_away)
 
     -- the whole change
     pub filtered : IsStart st p to → HasRoom st.tables st.here p to →
@@ -248,28 +228,11 @@ module _ (w : Situation) (p to : ℕ) where
       taken ≡ cost_taken w p → added ≡ cost_added w p → room ≡ bound + taken - added → IsSumBelow w p to room sum →
       sum ≡ None → cost ≡ None → IsCostBelow w p to bound cost
   dear_cost bound taken added room sum cost sound known reach apart taken_is added_is room_is sums sum_none none =
-      rw none (record {
-        free = λ n is. absurd (cc);
-        found = λ n is. absurd (cc);
-        below = λ n is. absurd (cc);
-        none = λ _ free. omega (
-          arith,
-          filtered_at sound known reach free apart,
-          taken_is,
-          added_is,
-          room_is,
-          sums.none sum_none,
-        );
-      })
+      grind (arith, filtered_at)
 
   -- nor has one if the shift breaks something
   pub broken_cost : (bound : ℕ) → (BreaksNothing w p to → ⊥) → IsCostBelow w p to bound None
-  broken_cost bound broken = record {
-    free = λ n is. absurd (cc);
-    found = λ n is. absurd (cc);
-    below = λ n is. absurd (cc);
-    none = λ _ free. absurd (broken free);
-  }
+  broken_cost bound broken = grind arith
 
   -- one that adds a sum below what is left has that cost
   pub summed_cost : (bound taken added room n : ℕ) (sum : Option ℕ) → IsSound w →
@@ -277,34 +240,18 @@ module _ (w : Situation) (p to : ℕ) where
       taken ≡ cost_taken w p → added ≡ cost_added w p → room ≡ bound + taken - added → IsSumBelow w p to room sum →
       sum ≡ Some n → BreaksNothing w p to → (taken ≤ added + n) × IsCostBelow w p to bound (Some (added + n - taken))
   summed_cost bound taken added room n sum sound known reach apart taken_is added_is room_is sums sum_is free =
-      let law = filtered_at sound known reach free apart in
-      let here = sums.found n sum_is in
-      let low = sums.below n sum_is in (
-        omega (arith, law, here, taken_is, added_is),
-        record {
-          free = λ k is. free;
-          found = λ k is. let same : added + n - taken ≡ k = cc in omega (arith, same, law, here, taken_is, added_is);
-          below = λ k is. let same : added + n - taken ≡ k = cc in
-              omega (arith, same, law, here, low, room_is, taken_is, added_is);
-          none = λ is. absurd (cc);
-        },
-      )
+      grind (arith, filtered_at)
 
   pub sum_some : (bound sum : ℕ) → sum < bound → sum ≡ sum_at w p to →
       IsSumBelow w p to bound (Some sum)
-  sum_some bound sum below is = record {
-    found = λ n some. let same : sum ≡ n = cc in omega (arith, same, is);
-    below = λ n some. let same : sum ≡ n = cc in omega (arith, same, below);
-    none = λ some. absurd (cc);
-  }
+  sum_some bound sum below is = grind arith
 
   pub sum_parts : (weight cost way load balance : ℕ) → weight ≡ machine_weight_of w.tables →
       cost ≡ way_cost_of w.tables (machine_at w.start p) to → way ≡ weight * cost →
       load ≡ load_above w.tables w.here p to →
       balance ≡ balance_above w.tables w.here p to → way + load + balance ≡ sum_at w p to
   unfolding filter_sum
-  sum_parts weight cost way load balance weight_is cost_is way_is load_is balance_is =
-      ap₂ (λ x y. x + y) (ap₂ (λ x y. x + y) (way_is ∙ ap₂ (λ x y. x * y) weight_is cost_is) load_is) balance_is
+  sum_parts weight cost way load balance weight_is cost_is way_is load_is balance_is = grind arith
 
   -- what the machine itself adds, without the way to it, and the load alone
   pub sum_without_way : (load balance : ℕ) →
@@ -321,17 +268,9 @@ module _ (w : Situation) (p to : ℕ) where
 
   pub sum_load : (load : ℕ) →
       load ≡ load_above w.tables w.here p to → load ≤ sum_at w p to
-  sum_load load load_is =
-      omega (
-        arith,
-        sum_without_way load (balance_above w.tables w.here p to) load_is refl,
-      )
+  sum_load load load_is = grind (arith, sum_without_way)
 
 -- the sum of a machine, if its parts are found
 pub sum_none : (w : Situation) (p to bound part : ℕ) → bound ≤ part → part ≤ sum_at w p to →
     IsSumBelow w p to bound None
-sum_none w p to bound part above within = record {
-  found = λ n is. absurd (cc);
-  below = λ n is. absurd (cc);
-  none = λ _. omega (arith, above, within);
-}
+sum_none w p to bound part above within = grind arith

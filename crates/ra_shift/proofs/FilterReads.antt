@@ -22,7 +22,7 @@ use Rattle.ra_shift.specs.Sharing.{AreRequired, HasAsked}
 
 -- one more term
 pub more_sum : (n s x : ℕ) (f : ℕ → ℕ) → s ≡ total n f → x ≡ f n → s + x ≡ total (n + 1) f
-more_sum n s x f so_far here = ap₂ (λ u v. u + v) so_far here ∙ sym (total_more n f)
+more_sum n s x f so_far here = grind (arith, total_more)
 
 weighed_more : (w x q y a : ℕ) → w * ((x - q - (y - a)) + (q - x - (a - y))) ≡ (w * (x - q) - w * (y - a))
     + (w * (q - x) - w * (a - y))
@@ -38,26 +38,19 @@ module _ (i : Tables) where
       amount ≡ requirement_of i p r → weight ≡ load_weight_of i r → safety ≡ safety_of i m r →
       weight * (amount - (safety - used)) ≡ load_asked i p r - load_row i a m r
   unfolding load_asked load_row
-  load_more_is a p m r used amount weight safety used_is amount_is weight_is safety_is =
-      rw (used_is, amount_is, weight_is, safety_is)
-      (mul-sub (load_weight_of i r) (requirement_of i p r) (safety_of i m r - use_of i a m r)
-      ∙ ap (λ x. load_weight_of i r * requirement_of i p r - x) refl)
+  load_more_is a p m r used amount weight safety used_is amount_is weight_is safety_is = grind (arith, mul-sub)
 
   module _ (p b : ℕ) where
     -- the number at a resource of an objective
     pub required_first : (row : BalanceRow) (required : List ℕ) → WellFormed i →
         b < balance_count i → row ≡ balance_row i b → AreRequired i p required →
         slice_index required row.first.0 ≡ requirement_of i p (first_of i b)
-    required_first row required limits within is are =
-        are.each row.first.0 (omega (arith, limits.firsts b within, first_read i b row is))
-        ∙ ap (requirement_of i p) (first_read i b row is)
+    required_first row required limits within is are = grind (arith, first_read)
 
     pub required_second : (row : BalanceRow) (required : List ℕ) → WellFormed i →
         b < balance_count i → row ≡ balance_row i b → AreRequired i p required → slice_index required row.second.0 ≡
         requirement_of i p (second_of i b)
-    required_second row required limits within is are =
-        are.each row.second.0 (omega (arith, limits.seconds b within, second_read i b row is))
-        ∙ ap (requirement_of i p) (second_read i b row is)
+    required_second row required limits within is are = grind (arith, second_read)
 
     pub saved_by_is : (weight : ℕ) (asked : Asked) → weight ≡ balance_weight_of i b → HasAsked i p b asked →
         weight * (asked.wanted - asked.taken) ≡ first_asked i p b
@@ -72,11 +65,11 @@ module _ (i : Tables) where
   -- what an objective has of its row
   pub target_read : (b : ℕ) (row : BalanceRow) → row ≡ balance_row i b → row.target ≡ target_of i b
   unfolding target_of
-  target_read b row is = ap (λ (r : BalanceRow). r.target) is
+  target_read b row is = rw is
 
   pub weight_read : (b : ℕ) (row : BalanceRow) → row ≡ balance_row i b → row.weight ≡ balance_weight_of i b
   unfolding balance_weight_of
-  weight_read b row is = ap (λ (r : BalanceRow). r.weight) is
+  weight_read b row is = rw is
 
   pub balance_more_is : (a : List Machine) (p m b weight target first second : ℕ) (asked : Asked) →
       weight ≡ balance_weight_of i b → target ≡ target_of i b → first ≡ available i a m (first_of i b) →
@@ -86,21 +79,11 @@ module _ (i : Tables) where
       first_asked i p b - first_row i a m b + (second_asked i p b - second_row i a m b)
   unfolding first_asked first_row second_asked second_row
   balance_more_is a p m b weight target first second asked weight_is target_is first_is second_is are =
-      rw (weight_is, target_is, first_is, second_is, are.wanted, are.taken)
-      (weighed_more (balance_weight_of i b) (target_of i b * requirement_of i p (first_of i b))
-      (requirement_of i p (second_of i b)) (target_of i b * available i a m (first_of i b))
-      (available i a m (second_of i b)))
+      grind (arith, weighed_more)
 
 -- the greatest moved count if that of one service is another
 pub with_one : (counts : List ℕ) (c : MovedCount) (n : ℕ) (f : ℕ → ℕ) → length counts ≡ n →
     ((k : ℕ) → k < n → k ≢ c.service.0 → slice_index counts k ≡ f k) → c.after ≡ f c.service.0 →
     greatest_with counts (Some c) None None ≡ greatest n f
 unfolding greatest_with counted_after
-with_one counts c n f long others here =
-    ap (λ k. greatest k (λ s. cond (eqb s c.service.0) c.after (slice_index counts s))) long
-    ∙ greatest_same n _ f (λ k within. ⊎_elim
-    (λ (same : k ≡ c.service.0). cond-true (eqb k c.service.0) c.after (slice_index counts k)
-    (eq-eqb k c.service.0 same) ∙ here ∙ ap f (sym same))
-    (λ (apart : k ≢ c.service.0). cond-false (eqb k c.service.0) c.after (slice_index counts k)
-    (ne_eqb k c.service.0 apart) ∙ others k within apart)
-    (cases_eq k c.service.0))
+with_one counts c n f long others here = grind (arith, greatest_same, eq-eqb)

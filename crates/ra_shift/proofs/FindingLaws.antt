@@ -51,32 +51,19 @@ module _ (st : Situation) (p to : ℕ) where
       broken_at (record st { here = shifted st.here p to }) ≡ Some cause → broken_by st (leaving st.here p to ∷ [])
       ≡ Some cause
   unfolding broken_by
-  broken_first cause apart found = behind _ _ (no_repeat st.here p to) ∙ behind _ _ (same_none st.here p to apart)
-      ∙ ap (first_broken st.tables st.start) (applied_one st.here p to) ∙ found
+  broken_first cause apart found = grind (arith, behind, no_repeat, same_none, applied_one)
 
   -- too little room
   no_row_before : (m : ℕ) → IsStart st p to → m < to →
       row_capacity st.tables (shifted st.here p to) m ≡ None
   unfolding row_capacity capacity_test
-  no_row_before m h below = first_none_from _ _ (λ r within. cause_free _ _ (le-ltb _ _ (omega (
-    arith,
-    use_other st p to m r h (λ same. absurd (omega (arith, same, below))),
-    h.feasible.capacity m r (omega (arith, below, h.reach)) within,
-  ))))
+  no_row_before m h below = grind (arith, first_none_from, cause_free, le-ltb, use_other)
 
   -- too little room in between
   no_between_before : (m : ℕ) → IsStart st p to → m < to →
       row_transient st.tables st.start (shifted st.here p to) m ≡ None
   unfolding row_transient transient_test
-  no_between_before m h below = first_none_from _ _ (λ r within. cause_free _ _ (⊎_elim
-      (λ (twice : transient_at st.tables r ≡ true). and_right _ _
-      (le-ltb (capacity_of st.tables m r) (transient_of st.tables st.start (shifted st.here p to) m r) (omega (
-        arith,
-        between_other st p to m r h (λ same. absurd (omega (arith, same, below))),
-        h.feasible.transient m r (omega (arith, below, h.reach)) within twice,
-      ))))
-      (λ (once : transient_at st.tables r ≡ false). and_left _ _ once)
-      (cases_Bool (transient_at st.tables r))))
+  no_between_before m h below = grind (arith, first_none_from, cause_free, and_right, le-ltb, between_other, and_left)
 
   module _ (r : ℕ) where
     row_over : IsStart st p to → r < resource_count st.tables →
@@ -118,10 +105,10 @@ module _ (st : Situation) (p to : ℕ) where
     row_between h away within transient fits above =
         first_found r (resource_count st.tables) (transient_test st.tables st.start (shifted st.here p to) to) _ within
         (first_none_from _ _ (λ k below. cause_free _ _ (⊎_elim
-        (λ (twice : transient_at st.tables k ≡ true). and_right _ _
+        (λ twice. and_right _ _
         (le-ltb (capacity_of st.tables to k) (transient_of st.tables st.start (shifted st.here p to) to k)
         (omega (arith, between_entered st p to k h away, fits k below twice))))
-        (λ (once : transient_at st.tables k ≡ false). and_left _ _ once)
+        (λ once. and_left _ _ once)
         (cases_Bool (transient_at st.tables k)))))
         (ap (λ u. cause_if (transient_at st.tables r && ltb (capacity_of st.tables to r) u)
         (Transient (record { 0 = to }) (record { 0 = r }) u (capacity_of st.tables to r)))
@@ -148,8 +135,7 @@ module _ (st : Situation) (p to : ℕ) where
       or_else (broken_capacity st.tables (shifted st.here p to))
       (or_else (broken_transient st.tables st.start (shifted st.here p to)) rest) ≡ rest
   no_row rest h room between =
-      behind _ _ (capacity_unbroken st.tables (shifted st.here p to) (capacity_after st p to h room))
-      ∙ behind _ _ (transient_unbroken st.tables st.start (shifted st.here p to) (transient_after st p to h between))
+      grind (arith, behind, capacity_unbroken, capacity_after, transient_unbroken, transient_after)
 
   -- twice on the machine
   one_before : (s m : ℕ) → IsStart st p to → s < service_count st.tables →
@@ -162,34 +148,19 @@ module _ (st : Situation) (p to : ℕ) where
   none_other : (s : ℕ) → IsStart st p to → s < service_count st.tables →
       service_of st.tables p ≢ s → service_conflict st.tables (shifted st.here p to) s ≡ None
   unfolding service_conflict conflict_test on_machine
-  none_other s h s_in other = first_none_from _ _ (λ m m_in. cause_free _ _ (le-ltb _ _ (omega (
-    arith,
-    members_other st.tables st.here p to s (λ q at. eqb at m) h.fits h.known other,
-    one_before s m h s_in m_in,
-  ))))
+  none_other s h s_in other = grind (arith, first_none_from, cause_free, le-ltb, members_other, one_before)
 
   none_before : (m : ℕ) → IsStart st p to → m < to →
       conflict_test st.tables (shifted st.here p to) (service_of st.tables p) m ≡ None
   unfolding conflict_test on_machine
-  none_before m h below = cause_free _ _ (le-ltb _ _ (omega (
-    arith,
-    members_mine st.tables st.here p to (service_of st.tables p) (λ q at. eqb at m) h.fits h.known refl,
-    one_if_false (eqb to m) (ne_eqb to m (λ same. absurd (omega (arith, same, below)))),
-    one_before (service_of st.tables p) m h (h.formed.services p h.known) (omega (arith, below, h.reach)),
-  )))
+  none_before m h below = grind (arith, cause_free, le-ltb, members_mine, one_if_false, one_before)
 
   two_here : IsStart st p to →
       0 < on_machine st.tables st.here (service_of st.tables p) to →
       conflict_test st.tables (shifted st.here p to) (service_of st.tables p) to ≡
       Some (Conflict (record { 0 = service_of st.tables p }) (record { 0 = to }))
   unfolding conflict_test on_machine
-  two_here h some = cause_here _ _ (lt-ltb _ _ (omega (
-    arith,
-    members_mine st.tables st.here p to (service_of st.tables p) (λ q at. eqb at to) h.fits h.known refl,
-    one_if_true (eqb to to) (eq-eqb to to refl),
-    one_if_false (eqb (machine_at st.here p) to) (ne_eqb _ _ h.apart),
-    some,
-  )))
+  two_here h some = grind (arith, cause_here, lt-ltb, members_mine, one_if_true, eq-eqb, one_if_false)
 
   pub broken_twice : IsStart st p to → HasRoom st.tables st.here p to →
       HasRoomBetween st p to → 0 < on_machine st.tables st.here (service_of st.tables p) to →

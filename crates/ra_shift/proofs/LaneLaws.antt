@@ -39,18 +39,11 @@ module _ (i : Tables) where
 
   asked_first : (p b : ℕ) → b < balance_count i → filter_asked i p (resource_count i + b) ≡ first_asked i p b
   unfolding filter_asked
-  asked_first p b below =
-      cond-false (ltb (resource_count i + b) (resource_count i)) _ _ (le-ltb _ _ (omega arith))
-      ∙ cond-true (ltb (resource_count i + b) (resource_count i + balance_count i)) _ _ (lt-ltb _ _ (omega arith))
-      ∙ ap (first_asked i p) (omega arith)
+  asked_first p b below = grind (arith, le-ltb, lt-ltb)
 
   asked_second : (p b : ℕ) → filter_asked i p (resource_count i + balance_count i + b) ≡ second_asked i p b
   unfolding filter_asked
-  asked_second p b =
-      cond-false (ltb (resource_count i + balance_count i + b) (resource_count i)) _ _ (le-ltb _ _ (omega arith))
-      ∙ cond-false (ltb (resource_count i + balance_count i + b) (resource_count i + balance_count i)) _ _
-      (le-ltb _ _ (omega arith))
-      ∙ ap (second_asked i p) (omega arith)
+  asked_second p b = grind (arith, le-ltb)
 
   module _ (a : List Machine) where
     row_load : (m j : ℕ) → j < resource_count i → filter_row i a m j ≡ load_row i a m j
@@ -60,25 +53,17 @@ module _ (i : Tables) where
     row_first : (m b : ℕ) → b < balance_count i → filter_row i a m (resource_count i + b) ≡
         first_row i a m b
     unfolding filter_row
-    row_first m b below =
-        cond-false (ltb (resource_count i + b) (resource_count i)) _ _ (le-ltb _ _ (omega arith))
-        ∙ cond-true (ltb (resource_count i + b) (resource_count i + balance_count i)) _ _ (lt-ltb _ _ (omega arith))
-        ∙ ap (first_row i a m) (omega arith)
+    row_first m b below = grind (arith, le-ltb, lt-ltb)
 
     row_second : (m b : ℕ) → filter_row i a m (resource_count i + balance_count i + b) ≡
         second_row i a m b
     unfolding filter_row
-    row_second m b =
-        cond-false (ltb (resource_count i + balance_count i + b) (resource_count i)) _ _ (le-ltb _ _ (omega arith))
-        ∙ cond-false (ltb (resource_count i + balance_count i + b) (resource_count i + balance_count i)) _ _
-        (le-ltb _ _ (omega arith))
-        ∙ ap (second_row i a m) (omega arith)
+    row_second m b = grind (arith, le-ltb)
 
     module _ (p m : ℕ) where
       load_rows : total (resource_count i) (above_of i a p m) ≡ load_above i a p m
       unfolding load_above above_of
-      load_rows = total_same (resource_count i) (above_of i a p m) (λ r. load_asked i p r - load_row i a m r)
-          (λ r below. ap₂ (λ x y. x - y) (asked_load p r below) (row_load m r below))
+      load_rows = grind (arith, total_same, above_of, asked_load, row_load)
 
       balance_rows : total (balance_count i) (λ b. above_of i a p m (resource_count i + b)) + total (balance_count i)
           (λ b. above_of i a p m (resource_count i + balance_count i + b)) ≡ balance_above i a p m
@@ -94,13 +79,7 @@ module _ (i : Tables) where
 
       rows_add_up : total (filter_row_count i) (above_of i a p m) ≡
           load_above i a p m + balance_above i a p m
-      rows_add_up = omega (
-        arith,
-        total_split (resource_count i + balance_count i) (balance_count i) (above_of i a p m),
-        total_split (resource_count i) (balance_count i) (above_of i a p m),
-        load_rows,
-        balance_rows,
-      )
+      rows_add_up = grind (arith, total_split, above_of, load_rows, balance_rows)
 
     pub lanes_lack : (p place : ℕ) (table : List ℕ) (terms : List Term) →
         IsRowTable i a table → AreTerms i (filter_row_count i) (filter_asked i p) terms → amounts terms ≤ 2 ^ 30 →
@@ -108,8 +87,8 @@ module _ (i : Tables) where
         + balance_above i a p (place % machine_count i)
     unfolding above_of
     lanes_lack p place table terms rows are small within =
-        let n : ℕ = filter_row_count i in
-        let m : ℕ = place % machine_count i in
+        let n = filter_row_count i in
+        let m = place % machine_count i in
         let low : total n (filter_asked i p) ≤ 2 ^ 30 = omega (arith, small, are.asks) in
         are.lacks table place
         ∙ total_same n (λ j. filter_asked i p j - cell (filter_width i) table j place) (above_of i a p m)
@@ -121,21 +100,15 @@ module _ (i : Tables) where
     -- a window is within each row
     pub rows_within : (first : ℕ) (table : List ℕ) (terms : List Term) →
         IsRowTable i a table → AreInRows i terms → first < machine_count i →
-        All (λ (t : Term). t.row + first + 64 ≤ length table) terms
-    rows_within first table terms rows are within =
-        All-weaker (λ (t : Term). t.row + filter_width i ≤ filter_row_count i * filter_width i)
-        (λ (t : Term). t.row + first + 64 ≤ length table)
-        (λ (t : Term) (inside : t.row + filter_width i ≤ filter_row_count i * filter_width i).
-        omega (arith, inside, rows.many, within)) terms are
+        All (λ t. t.row + first + 64 ≤ length table) terms
+    rows_within first table terms rows are within = grind (arith, All-weaker)
 
   -- the ways of a window, cut out of the ring of all ways from a machine
   pub ways_in_ring : (home first : ℕ) (ring part : List ℕ) → first < machine_count i →
       length ring ≡ machine_count i → ((to : ℕ) → to < machine_count i → get_or ring to 0 ≡ way_cost_of i home to) →
       IsRingPart ring first 64 part → (k : ℕ) → k < 64 →
       get_or part k 0 ≡ way_cost_of i home ((first + k) % machine_count i)
-  ways_in_ring home first ring part some many each are k below =
-      are.each k below ∙ ap (λ n. get_or ring ((first + k) % n) 0) many
-      ∙ each ((first + k) % machine_count i) (omega (arith, some))
+  ways_in_ring home first ring part some many each are k below = grind arith
 
 -- no bit of 0 is set
 zero_unset : (k : ℕ) → bit_at 0 k ≡ 1 → ⊥
@@ -146,17 +119,15 @@ module _ (limit said sum : ℕ) where
   -- limit so is the sum
   same_if_small : IsSumOrLarge limit said sum → said ≤ limit → said ≡ sum
   same_if_small either low =
-      ⊎_elim (λ (same : said ≡ sum). same) (λ (part : (limit < said) × (said ≤ sum)). absurd (omega (arith, part.0)))
+      ⊎_elim (λ same. same) (λ part. absurd (omega (arith, part.0)))
       either
 
   pub at_most : IsSumOrLarge limit said sum → said ≤ sum
   at_most either =
-      ⊎_elim (λ (same : said ≡ sum). omega arith) (λ (part : (limit < said) × (said ≤ sum)). part.1) either
+      ⊎_elim (λ same. omega arith) (λ part. part.1) either
 
   above_from : IsSumOrLarge limit said sum → (said ≤ limit → ⊥) → limit < sum
-  above_from either high =
-      ⊎_elim (λ (above : limit < said). omega (arith, above, at_most either))
-      (λ (low : said ≤ limit). absurd (high low)) (cases_lt limit said)
+  above_from either high = grind (arith, at_most)
 
 -- what is above the limit of a room isn't below the room
 above_limit : (room limit sum : ℕ) → 0 < room → limit ≡ min (room - 1) (2 ^ 32 - 1) → limit < 2 ^ 31 → limit < sum →
@@ -190,8 +161,7 @@ module _ (w : Situation) where
           (k : ℕ) → k < 64 → sum_at w p (machine_in w first k) ≡ lacking table terms (first + k)
           + way_in w.tables (machine_at w.start p) first k
       unfolding filter_sum
-      window_lacks table terms rows are small within k below =
-          omega (arith, lanes_lack w.tables w.here p (first + k) table terms rows are small (omega arith))
+      window_lacks table terms rows are small within k below = grind (arith, lanes_lack)
 
       -- the sums of a window of which no machine is at most a limit even without its way
       pub far_sums : (limit : ℕ) (table said sums : List ℕ) (terms : List Term) →
@@ -200,18 +170,7 @@ module _ (w : Situation) where
           + way_in w.tables (machine_at w.start p) first k) →
           ((k : ℕ) → k < 64 → IsSumOrLarge limit (get_or said k 0) (lacking table terms (first + k))) →
           ((k : ℕ) → k < 64 → (bit_at 0 k ≡ 1) ↔ (get_or said k 0 ≤ limit)) → AreSums w p first limit 0 sums
-      far_sums limit table said sums terms small each are bits =
-          let above : (k : ℕ) → k < 64 → limit < lacking table terms (first + k) = λ k below.
-          above_from limit (get_or said k 0) (lacking table terms (first + k)) (are k below)
-          (λ low. zero_unset k ((bits k below).1 low)) in
-          record {
-            bits = λ k below. (
-              λ set. absurd (zero_unset k set),
-              λ low. absurd (omega (arith, low, each k below, above k below)),
-            );
-            each = λ k below set. absurd (zero_unset k set);
-            passed = λ k below _. omega (arith, above k below, small, lacking_within table terms (first + k));
-          }
+      far_sums limit table said sums terms small each are bits = grind (arith, above_from, zero_unset, lacking_within)
 
       -- the sums of a window with the ways
       pub near_sums : (limit marks : ℕ) (table said sums : List ℕ) (terms : List Term) →
@@ -262,10 +221,10 @@ module _ (w : Situation) where
       marked bound taken added room limit marks sums sound known taken_is added_is room_is some limit_is are =
           record {
             dear = λ k below unset apart.
-                let to : ℕ = machine_in w first k in
-                let above : limit < sum_at w p to =
-                ⊎_elim (λ (high : limit < sum_at w p to). high)
-                (λ (low : sum_at w p to ≤ limit). absurd (unset ((are.bits k below).1 low)))
+                let to = machine_in w first k in
+                let above =
+                ⊎_elim (λ high. high)
+                (λ low. absurd (unset ((are.bits k below).1 low)))
                 (cases_lt limit (sum_at w p to)) in
                 dear_at to bound taken added room sound known (in_machines first k sound) apart taken_is added_is
                 room_is
@@ -280,13 +239,8 @@ module _ (w : Situation) where
           p < process_count w.tables →
           taken ≡ cost_taken w p → added ≡ cost_added w p → room ≡ bound + taken - added → room ≡ 0 →
           AreCheapMarked w p first bound 0 sums
-      none_marked bound taken added room sums sound known taken_is added_is room_is none = record {
-        dear = λ k below unset apart. dear_at (machine_in w first k) bound taken added room sound known
-            (in_machines first k sound)
-            apart taken_is added_is room_is (omega arith);
-        cheap = λ k below set apart free. absurd (zero_unset k set);
-        each = λ k below set apart. absurd (zero_unset k set);
-      }
+      none_marked bound taken added room sums sound known taken_is added_is room_is none =
+          grind (arith, dear_at, in_machines, zero_unset)
 
 -- a way at a weight
 pub way_small : (weight way most : ℕ) → way ≤ most → weight * most ≤ 2 ^ 30 → weight * way ≤ 2 ^ 30

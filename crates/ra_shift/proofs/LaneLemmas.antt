@@ -10,21 +10,18 @@ use Rattle.ra_shift.specs.Windows.{HasLanes}
 -- an operator on two vectors
 pub HasLanes-zip2 : (f : ℕ → ℕ → ℕ) (a b : List ℕ) (g : ℕ → ℕ) → length a ≡ 16 → length b ≡ 16
     → ((k : ℕ) → k < 16 → f (get_or a k 0) (get_or b k 0) ≡ g k) → HasLanes (zip2 f a b) g
-HasLanes-zip2 f a b g p q is = record {
-  many = length-zip2 f a b (p ∙ sym q) ∙ p;
-  each = λ k l. get_or-zip2 f a b k 0 0 0 (omega arith) (omega arith) ∙ is k l;
-}
+HasLanes-zip2 f a b g p q is = grind (arith, length-zip2, get_or-zip2)
 
 -- a splat
 pub HasLanes-splat : (x : ℕ) → HasLanes (replicate 16 x) (λ _. x)
-HasLanes-splat x = record { many = refl; each = λ k l. get_or-replicate 16 k x 0 l }
+HasLanes-splat x = grind (arith, get_or-replicate)
 
 -- the greater of a splat and a vector, which a comparison picks
 pub HasLanes-greater : (x : ℕ) (b : List ℕ) → length b ≡ 16
     → HasLanes (sel_l (zip2 ltb (replicate 16 x) b) b (replicate 16 x))
     (λ k. cond (ltb x (get_or b k 0)) (get_or b k 0) x)
 HasLanes-greater x b q =
-    let long : length (zip2 ltb (replicate 16 x) b) ≡ 16 = length-zip2 ltb (replicate 16 x) b (sym q) in
+    let long = length-zip2 ltb (replicate 16 x) b (sym q) in
     record {
       many = length-sel_l _ b (replicate 16 x) (long ∙ sym q) long ∙ long;
       each = λ k l.
@@ -48,14 +45,7 @@ get_or_mapped (x ∷ v) limit (suc k) l = get_or_mapped v limit k (omega arith)
 -- a bit of the mask of the lanes that are at most a limit
 pub bit_at-mask_l : (v : List ℕ) (limit k : ℕ) → k < length v
     → (bit_at (mask_l (map (λ x. leb x limit) v)) k ≡ 1) ↔ (get_or v k 0 ≤ limit)
-bit_at-mask_l v limit k l =
-    let e : bit_at (mask_l (map (λ x. leb x limit) v)) k ≡ cond (get_or (map (λ x. leb x limit) v) k false) 1 0 =
-    bit_mask_l (map (λ x. leb x limit) v) k in
-    let t = at_most_tells (get_or v k 0) limit _ refl in
-    let r : get_or (map (λ x. leb x limit) v) k false ≡ leb (get_or v k 0) limit = get_or_mapped v limit k l in
-    let e2 : bit_at (mask_l (map (λ x. leb x limit) v)) k ≡ cond (leb (get_or v k 0) limit) 1 0 = e
-    ∙ ap (λ b. cond b 1 0) r in
-    (λ h. t.0 (sym e2 ∙ h), λ h. e2 ∙ t.1 h)
+bit_at-mask_l v limit k l = grind (arith, bit_mask_l, at_most_tells, get_or_mapped)
 
 rest_by : (amount number : ℕ) → amount < 2 ^ 32 → number < 2 ^ 32 → (b : Bool) → ltb amount number ≡ b
     → (cond b number amount + (2 ^ 32 - number)) % 2 ^ 32 ≡ amount - number
@@ -78,18 +68,13 @@ pub HasLanes-lacking : (amount : ℕ) (row : List ℕ) → amount < 2 ^ 32 → l
     (λ k. amount - get_or row k 0)
 HasLanes-lacking amount row small long fit =
     let greater = HasLanes-greater amount row long in
-    subst (λ ms. HasLanes (zip2 (λ a b. (a + (2 ^ 32 - b)) % 2 ^ 32) (sel_l ms row (replicate 16 amount)) row)
-    (λ k. amount - get_or row k 0))
-    (sym (tops_compared w32 ltb (replicate 16 amount) row))
-    (HasLanes-zip2 (λ a b. (a + (2 ^ 32 - b)) % 2 ^ 32) _ row _ greater.many long
+    rw (tops_compared w32 ltb (replicate 16 amount) row) (HasLanes-zip2 (λ a b. (a + (2 ^ 32 - b)) % 2 ^ 32) _ row _ greater.many long
     (λ k l. ap (λ n. (n + (2 ^ 32 - get_or row k 0)) % 2 ^ 32) (greater.each k l)
     ∙ rest_of_greater amount (get_or row k 0) small (fits_below row k (omega arith) fit)))
 
 -- a mask of sixteen lanes has sixteen bits
 pub mask_below : (v : List ℕ) (limit : ℕ) → length v ≡ 16 → mask_l (map (λ x. leb x limit) v) < 2 ^ 16
-mask_below v limit long =
-    subst (λ n. mask_l (map (λ x. leb x limit) v) < 2 ^ n) (length-map v (λ x. leb x limit) ∙ long)
-    (mask_l-lt (map (λ x. leb x limit) v))
+mask_below v limit long = grind (arith, length-map, mask_l-lt)
 
 -- if no lane is at most a limit, the mask is empty
 none_by : (b : Bool) (x limit m : ℕ) → leb x limit ≡ b → cond b 1 0 + 2 * m ≡ 0 → (limit < x) × (m ≡ 0)
@@ -120,7 +105,7 @@ pub lesser_lane : (a b : List ℕ) (n k : ℕ) → length a ≡ n → length b �
     → get_or (sel_l (map (top 31) (zip2 (λ x y. cond (ltb x y) (2 ^ 32 - 1) 0) a b)) a b) k 0 ≡ min (get_or a k 0)
     (get_or b k 0)
 lesser_lane a b n k p q l =
-    let long : length (zip2 ltb a b) ≡ length a = length-zip2 ltb a b (p ∙ sym q) in
+    let long = length-zip2 ltb a b (p ∙ sym q) in
     ap (λ ms. get_or (sel_l ms a b) k 0) (tops_compared w32 ltb a b)
     ∙ get_or-sel_l (zip2 ltb a b) a b k 0 (omega arith) (omega arith) (omega arith)
     ∙ ap (λ t. cond t (get_or a k 0) (get_or b k 0)) (get_or-zip2 ltb a b k 0 0 false (omega arith) (omega arith))
@@ -144,11 +129,11 @@ above_by_halves v low high least limit lo hi is = (
   λ above k l. ⊎_elim
       (λ below. omega (arith, above k below, lesser_at v low high least k lo hi below (is k below)))
       (λ from.
-      let j : ℕ = k - 8 in
+      let j = k - 8 in
       let at : 8 + j ≡ k = omega arith in
       let here : limit < get_or v (8 + j) 0 =
       omega (arith, above j (omega arith), lesser_at v low high least j lo hi (omega arith) (is j (omega arith))) in
-      subst (λ n. limit < get_or v n 0) at here)
+      rw (← at) here)
       (cases_lt k 8),
   λ above k l.
       omega (arith, above k (omega arith), above (8 + k) (omega arith), lesser_at v low high least k lo hi l (is k l)),

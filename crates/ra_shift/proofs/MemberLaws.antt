@@ -19,7 +19,7 @@ use Rattle.ra_shift.proofs.RoomLaws.{IsStart, placed, others}
 share_mine : (i : Tables) (s p at : ℕ) (test : ℕ → ℕ → Bool) → service_of i p ≡ s →
     of_service i s test p at ≡ one_if (test p at)
 unfolding of_service
-share_mine i s p at test is = ap (λ b. one_if (b && test p at)) (is_of_same i s p is)
+share_mine i s p at test is = grind (arith, is_of_same)
 
 share_other : (i : Tables) (s p at : ℕ) (test : ℕ → ℕ → Bool) → service_of i p ≢ s → of_service i s test p at ≡ 0
 unfolding of_service
@@ -40,51 +40,31 @@ module _ (i : Tables) (a : List Machine) where
       pub members_mine : (test : ℕ → ℕ → Bool) → IsAssignment i a →
           p < process_count i → service_of i p ≡ s → members_at i (shifted a p to) s test + one_if (test p (machine_at a p)) ≡
           members_at i a s test + one_if (test p to)
-      members_mine test fits within is =
-          omega (
-            arith,
-            members_set i a p (record { 0 = to }) s test fits within,
-            share_mine i s p (machine_at a p) test is,
-            share_mine i s p to test is,
-          )
+      members_mine test fits within is = grind (arith, members_set, share_mine)
 
       pub members_other : (test : ℕ → ℕ → Bool) → IsAssignment i a →
           p < process_count i → service_of i p ≢ s → members_at i (shifted a p to) s test ≡ members_at i a s test
-      members_other test fits within other =
-          omega (
-            arith,
-            members_set i a p (record { 0 = to }) s test fits within,
-            share_other i s p (machine_at a p) test other,
-            share_other i s p to test other,
-          )
+      members_other test fits within other = grind (arith, members_set, share_other)
 
       pub near_other : (label : ℕ) → IsAssignment i a → p < process_count i →
           service_of i p ≢ s → in_neighbourhood i (shifted a p to) s label ≡ in_neighbourhood i a s label
       unfolding in_neighbourhood
-      near_other label fits within other =
-          members_other (λ q at. eqb (neighbourhood_of i at) label) fits within other
+      near_other label fits within other = grind (arith, members_other)
 
       location_other : (label : ℕ) → IsAssignment i a → p < process_count i →
           service_of i p ≢ s → in_location i (shifted a p to) s label ≡ in_location i a s label
       unfolding in_location
-      location_other label fits within other =
-          members_other (λ q at. eqb (location_of i at) label) fits within other
+      location_other label fits within other = grind (arith, members_other)
 
       pub locations_other : IsAssignment i a → p < process_count i →
           service_of i p ≢ s → locations_of i (shifted a p to) s ≡ locations_of i a s
       unfolding locations_of
-      locations_other fits within other =
-          count_same (2 ^ 32) _ _ (λ label h. ap (ltb 0) (location_other label fits within other))
+      locations_other fits within other = grind (arith, count_same, location_other)
 
     members_some : (s : ℕ) (test : ℕ → ℕ → Bool) → p < process_count i →
         service_of i p ≡ s → one_if (test p (machine_at a p)) ≤ members_at i a s test
     unfolding members_at
-    members_some s test within is =
-        omega (
-          arith,
-          tally_term (process_count i) p (of_service i s test) a within,
-          share_mine i s p (machine_at a p) test is,
-        )
+    members_some s test within is = grind (arith, tally_term, share_mine)
 
     -- neighbourhoods
     pub near_mine : (to label : ℕ) → IsAssignment i a → p < process_count i →
@@ -92,43 +72,29 @@ module _ (i : Tables) (a : List Machine) where
         + one_if (eqb (neighbourhood_of i (machine_at a p)) label) ≡ in_neighbourhood i a (service_of i p) label
         + one_if (eqb (neighbourhood_of i to) label)
     unfolding in_neighbourhood
-    near_mine to label fits within =
-        members_mine to (service_of i p) (λ q at. eqb (neighbourhood_of i at) label) fits within refl
+    near_mine to label fits within = grind (arith, members_mine)
 
     -- locations
     pub location_mine : (to label : ℕ) → IsAssignment i a → p < process_count i →
         in_location i (shifted a p to) (service_of i p) label + one_if (eqb (location_of i (machine_at a p)) label) ≡
         in_location i a (service_of i p) label + one_if (eqb (location_of i to) label)
     unfolding in_location
-    location_mine to label fits within =
-        members_mine to (service_of i p) (λ q at. eqb (location_of i at) label) fits within refl
+    location_mine to label fits within = grind (arith, members_mine)
 
     pub location_some : p < process_count i →
         0 < in_location i a (service_of i p) (location_of i (machine_at a p))
     unfolding in_location
-    location_some within =
-        omega (
-          arith,
-          members_some (service_of i p) (λ q at. eqb (location_of i at) (location_of i (machine_at a p)))
-              within refl,
-          one_if_true (eqb (location_of i (machine_at a p)) (location_of i (machine_at a p)))
-              (eq-eqb _ _ refl),
-        )
+    location_some within = grind (arith, members_some, one_if_true, eq-eqb)
 
     -- another process of the service isn't where p goes
     not_there : (to q : ℕ) → on_machine i a (service_of i p) to ≡ 0 →
         q < process_count i → service_of i q ≡ service_of i p → machine_at a q ≢ to
-    not_there to q alone within is here =
-        absurd (omega (arith, alone, on_mine q (service_of i p) to within is here))
+    not_there to q alone within is here = grind (arith, on_mine)
 
   on_some : (s m : ℕ) → 0 < on_machine i a s m → (q : ℕ) × (q < process_count i)
       × (service_of i q ≡ s) × (machine_at a q ≡ m)
   unfolding is_of
-  on_some s m some =
-      let found = count_positive (process_count i) (λ q. is_of i s q && eqb (machine_at a q) m)
-      (rw (on_machine_count i a s m) at some) in
-      let both = and_parts _ _ found.2 in
-      (found.0, found.1, eqb-true _ _ both.0, eqb-true _ _ both.1)
+  on_some s m some = grind (arith, count_positive, on_machine_count, and_parts, eqb-true)
 
 module _ (st : Situation) (p to : ℕ) where
   -- conflict
@@ -170,14 +136,7 @@ module _ (st : Situation) (p to : ℕ) where
       spread_of st.tables (service_of st.tables p) ≤ locations_of st.tables (shifted st.here p to)
       (service_of st.tables p) → (s : ℕ) → s < service_count st.tables →
       spread_of st.tables s ≤ locations_of st.tables (shifted st.here p to) s
-  spread_after h mine s within = ⊎_elim
-      (λ (same : s ≡ service_of st.tables p). rw same mine)
-      (λ (other : s ≢ service_of st.tables p). omega (
-        arith,
-        locations_other st.tables st.here p to s h.fits h.known (λ e. other (sym e)),
-        h.feasible.spread s within,
-      ))
-      (cases_eq s (service_of st.tables p))
+  spread_after h mine s within = grind (arith, locations_other)
 
   -- closed machines
   pub closed_after : IsStart st p to →

@@ -55,14 +55,7 @@ module _ (st : Situation) (p to : ℕ) where
       (neighbourhood_of st.tables (machine_at st.here p)) ≤ 1 →
       in_neighbourhood st.tables (shifted st.here p to) (service_of st.tables p)
       (neighbourhood_of st.tables (machine_at st.here p)) ≡ 0
-  gone_from h leaves last =
-      let label = neighbourhood_of st.tables (machine_at st.here p) in
-      omega (
-        arith,
-        near_mine st.tables st.here p to label h.fits h.known,
-        one_if_true (eqb label label) (eq-eqb _ _ refl),
-        one_if_false (eqb (neighbourhood_of st.tables to) label) (ne_eqb _ _ (λ e. leaves (sym e))),
-      )
+  gone_from h leaves last = grind (arith, near_mine, one_if_true, eq-eqb, one_if_false)
 
   -- so no other service may be there that depends on it
   pub leaves_from : IsStart st p to →
@@ -70,9 +63,9 @@ module _ (st : Situation) (p to : ℕ) where
       neighbourhood_of st.tables (machine_at st.here p) ≢ neighbourhood_of st.tables to → MayLeave st.tables st.here p
   leaves_from h after leaves = record {
     each = λ d within needs other last. ⊎_elim
-        (λ (some : 0 < in_neighbourhood st.tables st.here d (neighbourhood_of st.tables (machine_at st.here p))).
+        (λ some.
         absurd (stranded d within needs other last some))
-        (λ (none : in_neighbourhood st.tables st.here d (neighbourhood_of st.tables (machine_at st.here p)) ≤ 0). omega
+        (λ none. omega
         arith)
         (cases_lt 0 (in_neighbourhood st.tables st.here d (neighbourhood_of st.tables (machine_at st.here p))));
   }
@@ -83,21 +76,27 @@ module _ (st : Situation) (p to : ℕ) where
           ≤ 1 →
           0 < in_neighbourhood st.tables st.here d (neighbourhood_of st.tables (machine_at st.here p)) → ⊥
       stranded d within needs other last some =
-          let s = service_of st.tables p in
           let label = neighbourhood_of st.tables (machine_at st.here p) in
           let found = near_from_count st.tables st.here d label some in
           let q = found.0 in
           let q_other : q ≢ p = λ e. other (sym found.2 ∙ ap (service_of st.tables) e) in
-          let dep = depends_from st.tables d s needs in
-          let near = after.dependency d dep.0 q within dep.1 found.1 found.2 in
+          let dep = depends_from st.tables d (service_of st.tables p) needs in
           let counted = count_from_near st.tables (shifted st.here p to) (need_of st.tables d dep.0)
-          (neighbourhood_of st.tables (machine_at (shifted st.here p to) q)) near in
+          (neighbourhood_of st.tables (machine_at (shifted st.here p to) q))
+          (after.dependency d dep.0 q within dep.1 found.1 found.2) in
           let there = ap (λ m. in_neighbourhood st.tables (shifted st.here p to) (need_of st.tables d dep.0)
           (neighbourhood_of st.tables m))
           (others st.here p to q q_other) in
-          let here = ap (λ x. in_neighbourhood st.tables (shifted st.here p to) (need_of st.tables d dep.0) x) found.3 in
           let mine = ap (λ u. in_neighbourhood st.tables (shifted st.here p to) u label) dep.2 in
-          omega (arith, counted, there, here, mine, gone_from h leaves last)
+          omega (
+            arith,
+            counted,
+            there,
+            ap (in_neighbourhood st.tables (shifted st.here p to)
+                (need_of st.tables d dep.0)) found.3,
+            mine,
+            gone_from h leaves last,
+          )
 
   -- the other way round: p itself finds what its service needs
   near_p : (k : ℕ) → IsStart st p to → FindsOtherNeeds st.tables st.here p to →
@@ -105,9 +104,9 @@ module _ (st : Situation) (p to : ℕ) where
       HasNear st.tables (shifted st.here p to) (need_of st.tables (service_of st.tables p) k)
       (neighbourhood_of st.tables to)
   near_p k h needs within = ⊎_elim
-      (λ (own : need_of st.tables (service_of st.tables p) k ≡ service_of st.tables p).
-      (p, h.known, sym own, ap (neighbourhood_of st.tables) (placed st p to h)))
-      (λ (other : need_of st.tables (service_of st.tables p) k ≢ service_of st.tables p).
+      (λ own.
+      (p, h.known, sym own, rw (placed st p to h)))
+      (λ other.
       near_from_count st.tables (shifted st.here p to) (need_of st.tables (service_of st.tables p) k)
       (neighbourhood_of st.tables to)
       (omega (
@@ -128,14 +127,13 @@ module _ (st : Situation) (p to : ℕ) where
         HasNear st.tables (shifted st.here p to) (service_of st.tables p)
         (neighbourhood_of st.tables (machine_at st.here q))
     kept_near h may s_in k_in q_in one_service other mine = ⊎_elim
-        (λ (own : s ≡ service_of st.tables p). (
+        (λ own. (
           q,
           q_in,
           one_service ∙ own,
-          ap (neighbourhood_of st.tables)
-              (others st.here p to q other),
+          rw (others st.here p to q other),
         ))
-        (λ (apart : s ≢ service_of st.tables p). near_from_count st.tables (shifted st.here p to) (service_of st.tables p)
+        (λ apart. near_from_count st.tables (shifted st.here p to) (service_of st.tables p)
         label (left apart))
         (cases_eq s (service_of st.tables p))
       where
@@ -161,10 +159,8 @@ module _ (st : Situation) (p to : ℕ) where
             1 < in_neighbourhood st.tables st.here (service_of st.tables p)
             (neighbourhood_of st.tables (machine_at st.here q))
         leaving_it apart at_q leaves = ⊎_elim
-            (λ (two : 1 < in_neighbourhood st.tables st.here (service_of st.tables p)
-            (neighbourhood_of st.tables (machine_at st.here q))). two)
-            (λ (last : in_neighbourhood st.tables st.here (service_of st.tables p)
-            (neighbourhood_of st.tables (machine_at st.here q)) ≤ 1).
+            (λ two. two)
+            (λ last.
             absurd (omega (
               arith,
               here_q,
@@ -178,16 +174,15 @@ module _ (st : Situation) (p to : ℕ) where
         left : s ≢ service_of st.tables p → 0 < in_neighbourhood st.tables (shifted st.here p to) (service_of st.tables p)
             (neighbourhood_of st.tables (machine_at st.here q))
         left apart = ⊎_elim
-            (λ (at_q : neighbourhood_of st.tables (machine_at st.here p) ≡ neighbourhood_of st.tables
-            (machine_at st.here q)). ⊎_elim
-            (λ (stays : neighbourhood_of st.tables (machine_at st.here p) ≡ neighbourhood_of st.tables to).
+            (λ at_q. ⊎_elim
+            (λ stays.
             omega (
               arith,
               near_q,
               near_mine st.tables st.here p to (neighbourhood_of st.tables (machine_at st.here q)) h.fits h.known,
               ap (λ x. one_if (eqb x (neighbourhood_of st.tables (machine_at st.here q)))) stays,
             ))
-            (λ (leaves : neighbourhood_of st.tables (machine_at st.here p) ≢ neighbourhood_of st.tables to).
+            (λ leaves.
             omega (
               arith,
               leaving_it apart at_q leaves,
@@ -197,8 +192,7 @@ module _ (st : Situation) (p to : ℕ) where
                   (neighbourhood_of st.tables (machine_at st.here q))),
             ))
             (cases_eq (neighbourhood_of st.tables (machine_at st.here p)) (neighbourhood_of st.tables to)))
-            (λ (away : neighbourhood_of st.tables (machine_at st.here p) ≢ neighbourhood_of st.tables
-            (machine_at st.here q)).
+            (λ away.
             omega (
               arith,
               near_q,
@@ -250,6 +244,6 @@ module _ (st : Situation) (p to : ℕ) where
       HasNear st.tables (shifted st.here p to) (need_of st.tables s k)
       (neighbourhood_of st.tables (machine_at (shifted st.here p to) q))
   dependency_after h needs may s k q s_in k_in q_in one_service = ⊎_elim
-      (λ (same : q ≡ p). near_moved s k q h needs k_in one_service same)
-      (λ (other : q ≢ p). near_stayed s k q h may s_in k_in q_in one_service other)
+      (λ same. near_moved s k q h needs k_in one_service same)
+      (λ other. near_stayed s k q h may s_in k_in q_in one_service other)
       (cases_eq q p)

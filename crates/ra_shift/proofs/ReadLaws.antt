@@ -28,46 +28,37 @@ use Rattle.ra_shift.proofs.SpreadLaws.{some_location}
 -- one more number of a list that is filled
 pub filled_more : (numbers : List ℕ) (f : ℕ → ℕ) (r v : ℕ) → ((k : ℕ) → k < r → slice_index numbers k ≡ f k) →
     r < length numbers → v ≡ f r → (k : ℕ) → k < r + 1 → slice_index (set numbers r v) k ≡ f k
-filled_more numbers f r v so_far within is k below = ⊎_elim
-    (λ (here : k ≡ r). ap (slice_index (set numbers r v)) here ∙ get_or-set_same numbers r v 0 within ∙ is
-    ∙ ap f (sym here))
-    (λ (other : k ≢ r). get_or-set_other numbers r k v 0 other ∙ so_far k (omega (arith, other)))
-    (cases_eq k r)
+filled_more numbers f r v so_far within is k below = grind (arith, get_or-set_same, get_or-set_other)
 
 -- the dependants of a service, by place
 number_at : (services : List Service) (k : ℕ) → k < length services → slice_index (numbers_of services) k ≡
     service_at services k
 unfolding service_at
-number_at services k within = get_or-map (λ (s : Service). s.0) services k (record { 0 = 0 }) 0 within
+number_at services k within = grind (arith, get_or-map)
 
 module _ (i : Tables) where
   -- a list begins with what p requires
   pub row_filled : (p : ℕ) (row rest : List ℕ) → length row ≡ resource_count i →
       ((r : ℕ) → r < resource_count i → slice_index row r ≡ requirement_of i p r) → AreRequired i p (row ++ rest)
-  row_filled p row rest long each = record {
-    each = λ r within. get_or_append_left row rest 0 r (omega (arith, long, within)) ∙ each r within;
-  }
+  row_filled p row rest long each = grind (arith, get_or_append_left)
 
   -- a machine's row of use, with what p requires and without it
   pub used_with : (j : Tables) (a : List Machine) (p to r : ℕ) (used required : List ℕ) → j ≡ i →
       IsUsageRow j a to used → AreRequired i p required → r < resource_count i →
       slice_index used r + slice_index required r ≡ use_with i a p to r
   unfolding use_with
-  used_with j a p to r used required same row are within =
-      ap₂ (λ x y. x + y) ((rw same at row).each r within) (are.each r within)
+  used_with j a p to r used required same row are within = grind arith
 
   pub between_with : (j : Tables) (a0 b0 a : List Machine) (p to r : ℕ) (between required : List ℕ) → j ≡ i → b0 ≡ a0 →
       IsTransientRow j b0 a to between → AreRequired i p required → r < resource_count i →
       slice_index between r + slice_index required r ≡ transient_of i a0 a to r + requirement_of i p r
-  between_with j a0 b0 a p to r between required same start row are within =
-      ap₂ (λ x y. x + y) ((rw (same, start) at row).each r within) (are.each r within)
+  between_with j a0 b0 a p to r between required same start row are within = grind arith
 
   pub used_without : (j : Tables) (a : List Machine) (p from r : ℕ) (used required : List ℕ) → j ≡ i →
       IsUsageRow j a from used → AreRequired i p required → from ≡ machine_at a p → r < resource_count i →
       slice_index used r - slice_index required r ≡ use_without i a p r
   unfolding use_without
-  used_without j a p from r used required same row are here within =
-      ap₂ (λ x y. x - y) ((rw same at row).each r within ∙ ap (λ m. use_of i a m r) here) (are.each r within)
+  used_without j a p from r used required same row are here within = grind arith
 
   use_own : (m r p : ℕ) → use_share i m r p m ≡ requirement_of i p r
   unfolding use_share
@@ -79,7 +70,7 @@ module _ (i : Tables) where
   dependant_at s k services are within =
       let here = sym (number_at services k within) ∙ ap (λ xs. slice_index xs k) are.numbers in
       let inside : k < length (pick (service_count i) (is_dependant i s)) =
-      omega (arith, length-map services (λ (u : Service). u.0), ap (length {A = ℕ}) are.numbers) in
+      omega (arith, length-map services (λ u. u.0), ap (length {A = ℕ}) are.numbers) in
       let at = pick_at (service_count i) (is_dependant i s) k inside in
       (omega (arith, here, at.0), ap (λ u. depends i u s) here ∙ at.1)
 
@@ -90,7 +81,7 @@ module _ (i : Tables) where
       let place = pick_place (service_count i) d (is_dependant i s) within needs in
       let k = count d (is_dependant i s) in
       let inside : k < length services =
-      omega (arith, place.0, length-map services (λ (u : Service). u.0), ap (length {A = ℕ}) are.numbers) in
+      omega (arith, place.0, length-map services (λ u. u.0), ap (length {A = ℕ}) are.numbers) in
       (k, inside, sym (number_at services k inside) ∙ ap (λ xs. slice_index xs k) are.numbers ∙ place.1)
 
   -- what is needed, by place
@@ -111,7 +102,7 @@ module _ (i : Tables) where
     use_has : (r : ℕ) → p < process_count i →
         use_share i (machine_at a p) r p (machine_at a p) ≤ use_of i a (machine_at a p) r
     unfolding use_of
-    use_has r within = tally_term (process_count i) p (use_share i (machine_at a p) r) a within
+    use_has r within = grind (arith, tally_term)
 
     pub use_covers : (r : ℕ) → p < process_count i →
         requirement_of i p r ≤ use_of i a (machine_at a p) r
@@ -124,52 +115,35 @@ module _ (i : Tables) where
           held ≡ in_location i a s label → held ≡ 1 → (1 ≤ n) × (n - 1 ≡ locations_without i a p)
       unfolding locations_without
       without_last n held small within s_is label_is n_is held_is last =
-          let here : in_location i a (service_of i p) (location_of i (machine_at a p)) ≡ 1 =
+          let here =
           ap₂ (in_location i a) (sym s_is) (sym label_is) ∙ sym held_is ∙ last in
           let one = one_if_true (eqb (in_location i a (service_of i p) (location_of i (machine_at a p))) 1)
           (eq-eqb _ _ here) in
-          let all : n ≡ locations_of i a (service_of i p) = n_is ∙ ap (locations_of i a) s_is in
+          let all = n_is ∙ ap (locations_of i a) s_is in
           (omega (arith, all, one, some_location i a p small within), omega (arith, all, one))
 
       pub without_more : (n held : ℕ) → s ≡ service_of i p →
           label ≡ location_of i (machine_at a p) → n ≡ locations_of i a s → held ≡ in_location i a s label → held ≢ 1 →
           n ≡ locations_without i a p
       unfolding locations_without
-      without_more n held s_is label_is n_is held_is more =
-          let here : in_location i a (service_of i p) (location_of i (machine_at a p)) ≡ held =
-          ap₂ (in_location i a) (sym s_is) (sym label_is) ∙ sym held_is in
-          let none = one_if_false (eqb (in_location i a (service_of i p) (location_of i (machine_at a p))) 1)
-          (ne_eqb _ _ (λ e. more (sym here ∙ e))) in
-          let all : n ≡ locations_of i a (service_of i p) = n_is ∙ ap (locations_of i a) s_is in
-          omega (arith, all, none)
+      without_more n held s_is label_is n_is held_is more = grind (arith, one_if_false, ne_eqb)
 
       -- whether p may leave, from its service's dependants
       pub may_from_many : (n : ℕ) → s ≡ service_of i p →
           label ≡ neighbourhood_of i (machine_at a p) → n ≡ in_neighbourhood i a s label → 1 < n → MayLeave i a p
-      may_from_many n s_is label_is n_is many = record {
-        each = λ d within needs other last. absurd (omega (arith, n_is, ap₂ (in_neighbourhood i a) s_is label_is));
-      }
+      may_from_many n s_is label_is n_is many = grind arith
 
       pub may_from_none : (services : List Service) → s ≡ service_of i p →
           label ≡ neighbourhood_of i (machine_at a p) → AreDependantsOf i s services →
           ((k : ℕ) → k < length services → service_at services k ≢ s → in_neighbourhood i a (service_at services k) label ≡
           0) → MayLeave i a p
-      may_from_none services s_is label_is are none = record {
-        each = λ d within needs other last.
-            let found = dependant_found s d services are within (ap (depends i d) s_is ∙ needs) in
-            ap₂ (in_neighbourhood i a) (sym found.2) (sym label_is)
-            ∙ none found.0 found.1 (λ e. other (sym found.2 ∙ e ∙ s_is));
-      }
+      may_from_none services s_is label_is are none = grind (arith, dependant_found)
 
       pub may_not_from : (k n : ℕ) (services : List Service) → s ≡ service_of i p →
           label ≡ neighbourhood_of i (machine_at a p) → AreDependantsOf i s services → n ≡ in_neighbourhood i a s label →
           n ≤ 1 → k < length services → service_at services k ≢ s → 0 < in_neighbourhood i a (service_at services k) label →
           MayLeave i a p → ⊥
-      may_not_from k n services s_is label_is are n_is few within other some may =
-          let at = dependant_at s k services are within in
-          let none = may.each (service_at services k) at.0 (ap (depends i (service_at services k)) (sym s_is) ∙ at.1)
-          (λ e. other (e ∙ sym s_is)) (omega (arith, n_is, ap₂ (in_neighbourhood i a) s_is label_is)) in
-          omega (arith, some, none, ap (in_neighbourhood i a (service_at services k)) label_is)
+      may_not_from k n services s_is label_is are n_is few within other some may = grind (arith, dependant_at)
 
     pub needs_hold : (s to label : ℕ) (services : List Service) → s ≡ service_of i p →
         label ≡ neighbourhood_of i to → AreDistinctNeedsOf i s services →
@@ -178,7 +152,7 @@ module _ (i : Tables) where
     needs_hold s to label services s_is label_is are all = record {
       each = λ k within other.
           let listed = need_listed s k services are (omega (arith, within, ap (dependency_count i) s_is)) in
-          let here : service_at services listed.0 ≡ need_of i (service_of i p) k = listed.2
+          let here = listed.2
           ∙ ap (λ u. need_of i u k) s_is in
           omega (arith, all listed.0 listed.1 (λ e. other (sym here ∙ e)), ap₂ (in_neighbourhood i a) here label_is);
     }
@@ -189,7 +163,7 @@ module _ (i : Tables) where
         FindsOtherNeeds i a p to → ⊥
     needs_lack s to label k services s_is label_is are within other none finds =
         let listed = listed_need s k services are within in
-        let here : service_at services k ≡ need_of i (service_of i p) listed.0 = sym listed.2
+        let here = sym listed.2
         ∙ ap (λ u. need_of i u listed.0) s_is in
         omega (
           arith,
@@ -202,43 +176,31 @@ module _ (i : Tables) where
   pub used_covers : (j : Tables) (a : List Machine) (p from r : ℕ) (used required : List ℕ) → j ≡ i →
       IsUsageRow j a from used → AreRequired i p required → from ≡ machine_at a p → p < process_count i →
       r < resource_count i → slice_index required r ≤ slice_index used r
-  used_covers j a p from r used required same row are here known within =
-      omega (
-        arith,
-        (rw same at row).each r within,
-        ap (λ m. use_of i a m r) here,
-        are.each r within,
-        use_covers a p r known,
-      )
+  used_covers j a p from r used required same row are here known within = grind (arith, use_covers)
 
   -- room
   pub room_holds : (j : Tables) (a : List Machine) (p to : ℕ) (used required : List ℕ) → j ≡ i →
       IsUsageRow j a to used → AreRequired i p required →
       ((k : ℕ) → k < resource_count i → slice_index used k + slice_index required k ≤ capacity_of i to k) →
       HasRoom i a p to
-  room_holds j a p to used required same row are all = record {
-    each = λ r within. omega (arith, (rw same at row).each r within, are.each r within, all r within);
-  }
+  room_holds j a p to used required same row are all = grind arith
 
   pub between_holds : (j : Tables) (a0 b0 a : List Machine) (p to : ℕ) (between required : List ℕ) → j ≡ i → b0 ≡ a0 →
       IsTransientRow j b0 a to between → AreRequired i p required →
       ((k : ℕ) → k < resource_count i → transient_at i k ≡ true → slice_index between k + slice_index required k ≤
       capacity_of i to k) → HasRoomBetween (situation i a0 a) p to
-  between_holds j a0 b0 a p to between required same start row are all = record {
-    each = λ r within transient away.
-        omega (arith, (rw (same, start) at row).each r within, are.each r within, all r within transient);
-  }
+  between_holds j a0 b0 a p to between required same start row are all = grind arith
 
   -- the lists of a topology
   pub dependants_there : (lists : List (List Service)) (s : ℕ) (services : List Service) →
       AreDependants lists i → s < service_count i → services ≡ services_of lists s → AreDependantsOf i s services
   dependants_there lists s services are within is =
-      subst (λ (xs : List Service). AreDependantsOf i s xs) (sym is) (are.each s within)
+      rw is (are.each s within)
 
   pub needs_there : (lists : List (List Service)) (s : ℕ) (services : List Service) →
       AreDistinctNeeds lists i → s < service_count i → services ≡ services_of lists s → AreDistinctNeedsOf i s services
   needs_there lists s services are within is =
-      subst (λ (xs : List Service). AreDistinctNeedsOf i s xs) (sym is) (are.each s within)
+      rw is (are.each s within)
 
   pub needs_within : (s k : ℕ) (services : List Service) → WellFormed i → AreDistinctNeedsOf i s services →
       s < service_count i → k < length services → service_at services k < service_count i

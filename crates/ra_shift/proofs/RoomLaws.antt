@@ -35,141 +35,79 @@ module _ (i : Tables) (a0 : List Machine) (m r p at : ℕ) where
   between_here : at ≡ m →
       transient_share i a0 m r p at ≡ requirement_of i p r
   unfolding transient_share
-  between_here same = cond-true _ _ _ (or_right (eqb (machine_at a0 p) m) (eqb at m) (eq-eqb at m same))
+  between_here same = grind (arith, or_right, eq-eqb)
 
   between_home : machine_at a0 p ≡ m →
       transient_share i a0 m r p at ≡ requirement_of i p r
   unfolding transient_share
-  between_home home = cond-true _ _ _ (or_left (eqb (machine_at a0 p) m) (eqb at m) (eq-eqb _ m home))
+  between_home home = grind (arith, or_left, eq-eqb)
 
   between_elsewhere : machine_at a0 p ≢ m → at ≢ m →
       transient_share i a0 m r p at ≡ 0
   unfolding transient_share
-  between_elsewhere away apart =
-      cond-false _ _ _ (or_from (eqb (machine_at a0 p) m) (eqb at m) (ne_eqb _ m away) (ne_eqb at m apart))
+  between_elsewhere away apart = grind (arith, or_from)
 
 module _ (st : Situation) (p to : ℕ) where
   -- where the processes are after the shift
   pub placed : IsStart st p to → machine_at (shifted st.here p to) p ≡ to
-  placed h = machine_at_set_same st.here p (record { 0 = to }) (omega (arith, h.known, h.fits.one_each))
+  placed h = grind (arith, machine_at_set_same)
 
   module _ (r : ℕ) where
     pub use_entered : IsStart st p to →
         use_of st.tables (shifted st.here p to) to r ≡ use_of st.tables st.here to r + requirement_of st.tables p r
-    use_entered h =
-        omega (
-          arith,
-          use_set st.tables st.here p (record { 0 = to }) to r h.fits h.known,
-          use_elsewhere st.tables to r p (machine_at st.here p) h.apart,
-          use_here st.tables to r p to refl,
-        )
+    use_entered h = grind (arith, use_set, use_elsewhere, use_here)
 
     pub use_left : IsStart st p to →
         use_of st.tables (shifted st.here p to) (machine_at st.here p) r + requirement_of st.tables p r
         ≡ use_of st.tables st.here (machine_at st.here p) r
-    use_left h =
-        omega (
-          arith,
-          use_set st.tables st.here p (record { 0 = to }) (machine_at st.here p) r h.fits h.known,
-          use_elsewhere st.tables (machine_at st.here p) r p to (λ e. h.apart (sym e)),
-          use_here st.tables (machine_at st.here p) r p (machine_at st.here p) refl,
-        )
+    use_left h = grind (arith, use_set, use_elsewhere, use_here)
 
     pub between_entered : IsStart st p to → machine_at st.start p ≢ to →
         transient_of st.tables st.start (shifted st.here p to) to r ≡ transient_of st.tables st.start st.here to r
         + requirement_of st.tables p r
-    between_entered h away =
-        omega (
-          arith,
-          transient_set st.tables st.start st.here p (record { 0 = to }) to r h.fits h.known,
-          between_elsewhere st.tables st.start to r p (machine_at st.here p) away h.apart,
-          between_here st.tables st.start to r p to refl,
-        )
+    between_entered h away = grind (arith, transient_set, between_elsewhere, between_here)
 
     between_returned : IsStart st p to → machine_at st.start p ≡ to →
         transient_of st.tables st.start (shifted st.here p to) to r ≡ transient_of st.tables st.start st.here to r
-    between_returned h home =
-        omega (
-          arith,
-          transient_set st.tables st.start st.here p (record { 0 = to }) to r h.fits h.known,
-          between_home st.tables st.start to r p (machine_at st.here p) home,
-          between_home st.tables st.start to r p to home,
-        )
+    between_returned h home = grind (arith, transient_set, between_home)
 
   pub use_other : (m r : ℕ) → IsStart st p to → m ≢ to →
       use_of st.tables (shifted st.here p to) m r ≤ use_of st.tables st.here m r
-  use_other m r h apart =
-      omega (
-        arith,
-        use_set st.tables st.here p (record { 0 = to }) m r h.fits h.known,
-        use_elsewhere st.tables m r p to
-            (λ e. apart (sym e)),
-      )
+  use_other m r h apart = grind (arith, use_set, use_elsewhere)
 
   between_less : (m r : ℕ) → to ≢ m →
       transient_share st.tables st.start m r p to ≤ transient_share st.tables st.start m r p (machine_at st.here p)
-  between_less m r apart = ⊎_elim
-      (λ (home : machine_at st.start p ≡ m).
-      omega (
-        arith,
-        between_home st.tables st.start m r p to home,
-        between_home st.tables st.start m r p
-            (machine_at st.here p) home,
-      ))
-      (λ (away : machine_at st.start p ≢ m). omega (arith, between_elsewhere st.tables st.start m r p to away apart))
-      (cases_eq (machine_at st.start p) m)
+  between_less m r apart = grind (arith, between_home, between_elsewhere)
 
   pub between_other : (m r : ℕ) → IsStart st p to → m ≢ to →
       transient_of st.tables st.start (shifted st.here p to) m r ≤ transient_of st.tables st.start st.here m r
-  between_other m r h apart =
-      omega (
-        arith,
-        transient_set st.tables st.start st.here p (record { 0 = to }) m r h.fits h.known,
-        between_less m r (λ e. apart (sym e)),
-      )
+  between_other m r h apart = grind (arith, transient_set, between_less)
 
   -- what the constraints say of the machine that is entered
   pub room_from : IsStart st p to → IsFeasible (record st { here = shifted st.here p to }) →
       HasRoom st.tables st.here p to
-  room_from h after = record {
-    each = λ r within. omega (arith, use_entered r h, after.capacity to r h.reach within);
-  }
+  room_from h after = grind (arith, use_entered)
 
   pub between_from : IsStart st p to →
       IsFeasible (record st { here = shifted st.here p to }) → HasRoomBetween st p to
-  between_from h after = record {
-    each = λ r within transient away.
-        omega (arith, between_entered r h away, after.transient to r h.reach within transient);
-  }
+  between_from h after = grind (arith, between_entered)
 
   -- and that this is all
   pub capacity_after : IsStart st p to → HasRoom st.tables st.here p to →
       (m r : ℕ) → m < machine_count st.tables → r < resource_count st.tables →
       use_of st.tables (shifted st.here p to) m r ≤ capacity_of st.tables m r
-  capacity_after h room m r m_in r_in = ⊎_elim
-      (λ (same : m ≡ to). rw same (omega (arith, use_entered r h, room.each r r_in)))
-      (λ (apart : m ≢ to). omega (arith, use_other m r h apart, h.feasible.capacity m r m_in r_in))
-      (cases_eq m to)
+  capacity_after h room m r m_in r_in = grind (arith, use_entered, use_other)
 
   entered_between : IsStart st p to → HasRoomBetween st p to →
       (r : ℕ) → r < resource_count st.tables → IsTrue (transient_at st.tables r) →
       transient_of st.tables st.start (shifted st.here p to) to r ≤
       capacity_of st.tables to r
-  entered_between h room r r_in transient = ⊎_elim
-      (λ (home : machine_at st.start p ≡ to).
-      omega (arith, between_returned r h home, h.feasible.transient to r h.reach r_in transient))
-      (λ (away : machine_at st.start p ≢ to).
-      omega (arith, between_entered r h away, room.each r r_in transient away))
-      (cases_eq (machine_at st.start p) to)
+  entered_between h room r r_in transient = grind (arith, between_returned, between_entered)
 
   pub transient_after : IsStart st p to → HasRoomBetween st p to →
       (m r : ℕ) → m < machine_count st.tables → r < resource_count st.tables → IsTrue (transient_at st.tables r) →
       transient_of st.tables st.start (shifted st.here p to) m r ≤ capacity_of st.tables m r
-  transient_after h room m r m_in r_in transient = ⊎_elim
-      (λ (same : m ≡ to). rw same (entered_between h room r r_in transient))
-      (λ (apart : m ≢ to).
-      omega (arith, between_other m r h apart, h.feasible.transient m r m_in r_in transient))
-      (cases_eq m to)
+  transient_after h room m r m_in r_in transient = grind (arith, entered_between, between_other)
 
   -- a machine of which a resource is too much has no room
   pub not_over : (cause : Cause) → IsOver st p to cause → HasRoom st.tables st.here p to → ⊥

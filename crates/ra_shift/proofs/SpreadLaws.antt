@@ -23,37 +23,10 @@ label_idle n none = one_if_false _ (le-ltb 0 n (omega arith))
 -- how one label's count changes if one is taken away and if one comes
 taken_away : (before after : ℕ) → after + 1 ≡ before → one_if (ltb 0 after) + one_if (eqb before 1) ≡
     one_if (ltb 0 before)
-taken_away before after less = ⊎_elim
-    (λ (last : before ≡ 1). omega (
-      arith,
-      one_if_true _ (eq-eqb before 1 last),
-      label_idle after (omega arith),
-      label_counts before (omega arith),
-    ))
-    (λ (more : before ≢ 1). omega (
-      arith,
-      one_if_false _ (ne_eqb before 1 more),
-      label_counts after (omega arith),
-      label_counts before (omega arith),
-    ))
-    (cases_eq before 1)
+taken_away before after less = grind (arith, one_if_true, eq-eqb, label_idle, label_counts, one_if_false)
 
 brought : (before after : ℕ) → after ≡ before + 1 → one_if (ltb 0 after) ≡ one_if (ltb 0 before) + one_if (eqb before 0)
-brought before after more = ⊎_elim
-    (λ (none : before ≡ 0).
-    omega (
-      arith,
-      one_if_true _ (eq-eqb before 0 none),
-      label_idle before none,
-      label_counts after (omega arith),
-    ))
-    (λ (some : before ≢ 0). omega (
-      arith,
-      one_if_false _ (ne_eqb before 0 some),
-      label_counts before (omega arith),
-      label_counts after (omega arith),
-    ))
-    (cases_eq before 0)
+brought before after more = grind (arith, one_if_true, eq-eqb, label_idle, label_counts, one_if_false)
 
 module _ (i : Tables) (a : List Machine) (p : ℕ) where
   -- the location of p is one of them
@@ -73,10 +46,7 @@ module _ (i : Tables) (a : List Machine) (p : ℕ) where
         location_of i (machine_at a p) ≡ location_of i to → locations_of i (shifted a p to) (service_of i p) ≡
         locations_of i a (service_of i p)
     unfolding locations_of
-    within_location fits within same =
-        count_same (2 ^ 32) _ _
-        (λ label h. ap (ltb 0)
-        (omega (arith, location_mine i a p to label fits within, ap (λ x. one_if (eqb x label)) same)))
+    within_location fits within same = grind (arith, count_same, location_mine)
 
     -- p goes to another
     to_another : Small i → IsAssignment i a → p < process_count i →
@@ -122,33 +92,15 @@ module _ (i : Tables) (a : List Machine) (p : ℕ) where
         + one_if (eqb (in_location i a (service_of i p) (location_of i to))
         (one_if (eqb (location_of i (machine_at a p)) (location_of i to))))
     unfolding locations_without
-    spread_is small fits within = ⊎_elim
-        (λ (same : location_of i (machine_at a p) ≡ location_of i to).
-        let stays = within_location fits within same in
-        let one = one_if_true (eqb (location_of i (machine_at a p)) (location_of i to)) (eq-eqb _ _ same) in
-        let here = ap (λ x. one_if (eqb (in_location i a (service_of i p) (location_of i to)) x)) one in
-        let label = ap (λ x. one_if (eqb (in_location i a (service_of i p) x) 1)) same in
-        omega (arith, stays, here, label, some_location small within))
-        (λ (apart : location_of i (machine_at a p) ≢ location_of i to).
-        let goes = to_another small fits within apart in
-        let none = one_if_false (eqb (location_of i (machine_at a p)) (location_of i to)) (ne_eqb _ _ apart) in
-        let there = ap (λ x. one_if (eqb (in_location i a (service_of i p) (location_of i to)) x)) none in
-        omega (arith, goes, there, some_location small within))
-        (cases_eq (location_of i (machine_at a p)) (location_of i to))
+    spread_is small fits within =
+        grind (arith, within_location, one_if_true, eq-eqb, some_location, to_another, one_if_false)
 
     -- more locations than are wanted are left, whatever the machine
     pub keeps_anyway : (least : ℕ) → Small i → IsAssignment i a →
         p < process_count i → least ≡ spread_of i (service_of i p) → least < locations_of i a (service_of i p) →
         spread_of i (service_of i p) ≤ locations_of i (shifted a p to) (service_of i p)
     unfolding locations_without
-    keeps_anyway least small fits within least_is more =
-        omega (
-          arith,
-          least_is,
-          more,
-          spread_is small fits within,
-          one_if_le (eqb (in_location i a (service_of i p) (location_of i (machine_at a p))) 1),
-        )
+    keeps_anyway least small fits within least_is more = grind (arith, spread_is, one_if_le)
 
     -- or with the location of the machine
     pub keeps_with : (s without home label own held comes : ℕ) → Small i →
@@ -157,13 +109,4 @@ module _ (i : Tables) (a : List Machine) (p : ℕ) where
         held ≡ in_location i a s label → comes ≡ one_if (eqb held own) →
         without + comes ≡ locations_of i (shifted a p to) (service_of i p)
     keeps_with s without home label own held comes small fits within s_is without_is home_is label_is own_is
-        held_is comes_is =
-        let own_there : own ≡ one_if (eqb (location_of i (machine_at a p)) (location_of i to)) = own_is
-        ∙ ap₂ (λ x y. one_if (eqb x y)) home_is label_is in
-        let held_there : held ≡ in_location i a (service_of i p) (location_of i to) = held_is
-        ∙ ap₂ (in_location i a) s_is label_is in
-        let comes_there : comes ≡
-        one_if (eqb (in_location i a (service_of i p) (location_of i to))
-        (one_if (eqb (location_of i (machine_at a p)) (location_of i to)))) = comes_is
-        ∙ ap₂ (λ x y. one_if (eqb x y)) held_there own_there in
-        omega (arith, without_is, comes_there, spread_is small fits within)
+        held_is comes_is = grind (arith, spread_is)

@@ -16,12 +16,12 @@ pub lacking_from : (rows : List ℕ) (terms : List Term) (i p : ℕ) (d : Term) 
     → lacking rows (drop i terms) p ≡ ((get_or terms i d).amount - get_or rows ((get_or terms i d).row + p) 0)
     + lacking rows (drop (i + 1) terms) p
 unfolding lacking
-lacking_from rows terms i p d l = ap (λ ts. lacking rows ts p) (drop-cons terms i d l) ∙ rw add-one refl
+lacking_from rows terms i p d l = grind (arith, drop-cons, add-one)
 
 -- after all terms nothing is left
 pub lacking_past : (rows : List ℕ) (terms : List Term) (i p : ℕ) → length terms ≤ i → lacking rows (drop i terms) p ≡ 0
 unfolding lacking
-lacking_past rows terms i p l = ap (λ ts. lacking rows ts p) (drop_all i terms l)
+lacking_past rows terms i p l = rw (drop_all i terms l)
 
 -- one term more is added without wrapping, and the whole stays the same
 pub next_sum : (sum rest here after whole next : ℕ) → rest ≡ here + after → sum + rest ≡ whole → whole < 2 ^ 32
@@ -31,6 +31,4 @@ next_sum sum rest here after whole next r w small n = omega arith
 -- a sum and a way at a weight are added without wrapping
 pub sum_with_way : (said sum weight weighed read way : ℕ) → said ≡ sum → weighed ≡ weight * read % 2 ^ 32 → read ≡ way
     → sum ≤ 2 ^ 30 → weight * way ≤ 2 ^ 30 → (said + weighed) % 2 ^ 32 ≡ sum + weight * way
-sum_with_way said sum weight weighed read way s w r low small =
-    let whole : weighed ≡ weight * way = w ∙ ap (λ n. weight * n % 2 ^ 32) r ∙ mod-eq_of_lt (omega arith) in
-    omega (arith, s, whole)
+sum_with_way said sum weight weighed read way s w r low small = grind (arith, mod-eq_of_lt)

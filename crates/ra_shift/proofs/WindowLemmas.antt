@@ -12,16 +12,13 @@ pub record AreMarks (sums : List ℕ) (limit marks n : ℕ) : Type 0 where
   pub bits : (k : ℕ) → k < n → (bit_at marks k ≡ 1) ↔ (get_or sums k 0 ≤ limit)
 
 mask_fits : (small mask n : ℕ) → small < 2 ^ 16 → mask < 2 ^ n → small * 2 ^ n + mask < 2 ^ (n + 16)
-mask_fits small mask n s m =
-    let most : (small + 1) * 2 ^ n ≤ 2 ^ 16 * 2 ^ n = mul-le-mul_right {m = small + 1} {n = 2 ^ 16} (2 ^ n)
-    (omega arith) in
-    omega (arith, most, pow-add 2 n 16)
+mask_fits small mask n s m = grind (arith, mul-le-mul_right, pow-add)
 
 -- a mask of sixteen bits that moves up by whole blocks loses no bit
 pub shifted_fits : (small number : ℕ) → small < 2 ^ 16 → number < 4 → small * 2 ^ (number * 16) % 2 ^ 64 ≡ small
     * 2 ^ (number * 16)
 shifted_fits small number s l =
-    let n : ℕ = number * 16 in
+    let n = number * 16 in
     let under : 2 ^ (n + 16) ≤ 2 ^ 64 = pow-le-pow_right {n = 2} (omega arith) {i = n + 16} {j = 64} (omega arith) in
     let fits : small * 2 ^ n + 0 < 2 ^ (n + 16) = mask_fits small 0 n s (one-le-pow n 2 (omega arith)) in
     mod-eq_of_lt (omega (arith, under, fits))
@@ -32,10 +29,9 @@ pub next_marks : (sums : List ℕ) (limit marks small n : ℕ) → AreMarks sums
 next_marks sums limit marks small n are few next = record {
   below = mask_fits small marks n few are.below;
   bits = λ k l. ⊎_elim
-      (λ old. subst (λ b. (b ≡ 1) ↔ (get_or sums k 0 ≤ limit)) (sym (bit_at_cat_low small n marks k old))
-      (are.bits k old))
+      (λ old. rw (bit_at_cat_low small n marks k old) (are.bits k old))
       (λ new.
-      let j : ℕ = k - n in
+      let j = k - n in
       let at : n + j ≡ k = omega arith in
       subst (λ b. (b ≡ 1) ↔ (get_or sums k 0 ≤ limit)) (sym (bit_at_cat_high small n marks k are.below new))
       (subst (λ p. (bit_at small j ≡ 1) ↔ (get_or sums p 0 ≤ limit)) at (next j (omega arith))))

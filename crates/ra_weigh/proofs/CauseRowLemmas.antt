@@ -6,10 +6,10 @@ use Rattle.ra_model.specs.Numbers.{resource_count}
 use Rattle.ra_model.specs.Usage.{use_of, transient_of}
 use Rattle.ra_rows.specs.Rows.{IsUsageRow, IsTransientRow}
 
-pub used_here : (i j : Tables) (a : List Machine) (m r : ℕ) (row : List ℕ) → j ≡ i → IsUsageRow j a m row →
+pub used_here : {i j : Tables} {a : List Machine} {m : ℕ} (r : ℕ) {row : List ℕ} → j ≡ i → IsUsageRow j a m row →
     r < resource_count i → slice_index row r ≡ use_of i a m r
-used_here i j a m r row same is within = (rw same at is).each r within
+used_here r same is within = (rw same at is).each r within
 
-pub between_here : (i j : Tables) (a0 b0 a : List Machine) (m r : ℕ) (row : List ℕ) → j ≡ i → b0 ≡ a0 →
+pub between_here : {i j : Tables} {a0 b0 a : List Machine} {m : ℕ} (r : ℕ) {row : List ℕ} → j ≡ i → b0 ≡ a0 →
     IsTransientRow j b0 a m row → r < resource_count i → slice_index row r ≡ transient_of i a0 a m r
-between_here i j a0 b0 a m r row same start is within = (rw (same, start) at is).each r within
+between_here r same start is within = (rw (same, start) at is).each r within

@@ -13,23 +13,22 @@ use Rattle.ra_moves.specs.Moving.{IsMove}
 use Rattle.ra_moves.proofs.StayLemmas.{applied_of, process_stays}
 use Rattle.ra_weigh.proofs.StepLemmas.{process_read, to_read}
 
--- the machine to which its step leads
-pub lands_read : (i : Tables) (a : List Machine) (steps : List Step) (j p : ℕ) (s : Step) → IsMove i a steps →
-    s ≡ step_at steps j → j < length steps → s.process.0 ≡ p → s.to.0 ≡ machine_at (applied a steps) p
-lands_read i a steps j p s move is within same =
-    sym (ap (machine_at (applied a steps)) (sym (process_read steps j s is ∙ same))
-    ∙ (applied_of i a steps move).moved j within ∙ to_read steps j s is)
+module _ {i : Tables} {a : List Machine} {steps : List Step} where
+  -- the machine to which its step leads
+  pub lands_read : (j p : ℕ) {s : Step} → IsMove i a steps → s ≡ step_at steps j → j < length steps → s.process.0 ≡ p →
+      s.to.0 ≡ machine_at (applied a steps) p
+  lands_read j p {s} move is within same =
+      sym (ap (machine_at (applied a steps)) (sym (process_read steps j is ∙ same))
+      ∙ (applied_of i a steps move).moved j within ∙ to_read steps j is)
 
--- or where it was
-pub stays_read : (i : Tables) (a : List Machine) (steps : List Step) (n p m : ℕ) → IsMove i a steps → n ≡ length steps →
-    is_named n (process_in steps) p ≡ false → m ≡ machine_at a p → m ≡ machine_at (applied a steps) p
-stays_read i a steps n p m move all unnamed is = let none : is_named (length steps) (process_in steps) p ≡
-    false = rw all at unnamed in is ∙ sym (process_stays i a steps p move none)
+  -- or where it was
+  pub stays_read : (n p m : ℕ) → IsMove i a steps → n ≡ length steps → is_named n (process_in steps) p ≡ false →
+      m ≡ machine_at a p → m ≡ machine_at (applied a steps) p
+  stays_read n p m move all unnamed is = is ∙ sym (process_stays i a steps p move (rw all at unnamed))
 
-pub after_there : (i : Tables) (a : List Machine) (steps : List Step) (p : ℕ) → IsMove i a steps → p < process_count i →
-    machine_at (applied a steps) p < machine_count i
-unfolding applied
-after_there i a steps p move within =
-    (fits_after i a steps (length steps) (omega arith) move.fits move.stands move.reaches).in_range p within
+  pub after_there : (p : ℕ) → IsMove i a steps → p < process_count i → machine_at (applied a steps) p < machine_count i
+  unfolding applied
+  after_there p move within =
+      (fits_after i a steps (length steps) (omega arith) move.fits move.stands move.reaches).in_range p within
 
 pub ruleset landing = (lands_read, stays_read, after_there)

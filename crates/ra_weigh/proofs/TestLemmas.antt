@@ -1,10 +1,9 @@
 -- What the values after a move say of each test.
-use Rattle.std.proofs.Common.{◌≡◌, ◌≢◌, ℕ, ◌<◌, ◌≤◌, Bool, true, false, eqb, ◌&&◌, List, Some, None, sym, ap, ap₂, ◌∙◌, arith, lt-ltb, le-ltb, ne_eqb, eq-eqb}
+use Rattle.std.proofs.Common.{◌≡◌, ◌≢◌, ℕ, ◌<◌, ◌≤◌, Bool, true, false, List, Some, None, sym, arith, lt-ltb, le-ltb, eq-eqb}
 use Rattle.std.proofs.lemmas.Bool.{cond-true, cond-false, and_from, and_left, and_right, not_from_true, not_from_false}
 use Rattle.ra_base.specs.declared.ids.Machine.{Machine}
 use Rattle.ra_base.specs.declared.causes.Cause.{Cause}
 use Rattle.ra_base.specs.declared.causes.Cause.TheVariants.{Capacity, Transient, Conflict, Spread, Dependency, Closed}
-use Rattle.ra_base.specs.Sums.{one_if}
 use Rattle.ra_model.specs.declared.raw.Tables.{Tables}
 use Rattle.ra_model.specs.Numbers.{transient_at, capacity_of, spread_of, need_of, neighbourhood_of, closed_at, service_of}
 use Rattle.ra_model.specs.Assignments.{machine_at}
@@ -16,163 +15,141 @@ use Rattle.ra_weigh.specs.declared.marks.Mark.TheVariants.{OnMachine, InLocation
 use Rattle.ra_weigh.specs.Marks.{mark_of, has_mark, marked}
 
 -- a test that failed, and one that held
-pub failed_if : (failed : Bool) (cause : Cause) → failed ≡ true → Some cause ≡ cause_if failed cause
+pub failed_if : {failed : Bool} (cause : Cause) → failed ≡ true → Some cause ≡ cause_if failed cause
 unfolding cause_if
-failed_if failed cause is = sym (cond-true failed (Some cause) None is)
+failed_if {failed} cause is = sym (cond-true failed (Some cause) None is)
 
-pub held_if : (failed : Bool) (cause : Cause) → failed ≡ false → None ≡ cause_if failed cause
+pub held_if : {failed : Bool} (cause : Cause) → failed ≡ false → None ≡ cause_if failed cause
 unfolding cause_if
-held_if failed cause is = sym (cond-false failed (Some cause) None is)
+held_if {failed} cause is = sym (cond-false failed (Some cause) None is)
 
--- capacity
+module _ (i : Tables) (a0 : List Machine) where
+  module _ (b : List Machine) (m r : ℕ) where
+    module _ {used cap : ℕ} (use_is : used ≡ transient_of i a0 b m r) (cap_is : cap ≡ capacity_of i m r) where
+      -- transient use
 
-pub capacity_over : (i : Tables) (b : List Machine) (m r used cap : ℕ) → used ≡ use_of i b m r →
-    cap ≡ capacity_of i m r → cap < used → Some (Capacity (record { 0 = m }) (record { 0 = r }) used cap) ≡
-    capacity_test i b m r
-unfolding capacity_test
-capacity_over i b m r used cap use_is cap_is over =
-    rw (use_is, cap_is) (failed_if _ _ (lt-ltb (capacity_of i m r) (use_of i b m r) (omega arith)))
+      pub transient_over : transient_at i r ≡ true → cap < used →
+          Some (Transient (record { 0 = m }) (record { 0 = r }) used cap) ≡ transient_test i a0 b m r
+      unfolding transient_test
+      transient_over twice over = grind (arith, failed_if, and_from, lt-ltb)
 
-pub capacity_within : (i : Tables) (b : List Machine) (m r used cap : ℕ) → used ≡ use_of i b m r →
-    cap ≡ capacity_of i m r → used ≤ cap → None ≡ capacity_test i b m r
-unfolding capacity_test
-capacity_within i b m r used cap use_is cap_is within =
-    held_if _ _ (le-ltb (capacity_of i m r) (use_of i b m r) (omega arith))
+      pub transient_within : used ≤ cap → None ≡ transient_test i a0 b m r
+      unfolding transient_test
+      transient_within within = grind (arith, held_if, and_right, le-ltb)
 
--- transient use
+    pub transient_once : transient_at i r ≡ false → None ≡ transient_test i a0 b m r
+    unfolding transient_test
+    transient_once once = held_if _ (and_left _ _ once)
 
-pub transient_over : (i : Tables) (a0 b : List Machine) (m r used cap : ℕ) → used ≡ transient_of i a0 b m r →
-    cap ≡ capacity_of i m r → transient_at i r ≡ true → cap < used →
-    Some (Transient (record { 0 = m }) (record { 0 = r }) used cap) ≡ transient_test i a0 b m r
-unfolding transient_test
-transient_over i a0 b m r used cap use_is cap_is twice over =
-    rw (use_is, cap_is)
-    (failed_if _ _ (and_from _ _ twice (lt-ltb (capacity_of i m r) (transient_of i a0 b m r) (omega arith))))
+module _ (i : Tables) {mark : Mark} (b : List Machine) (s : ℕ) where
+  module _ (x : ℕ) {n : ℕ} where
+    -- counts by their marks
 
-pub transient_within : (i : Tables) (a0 b : List Machine) (m r used cap : ℕ) → used ≡ transient_of i a0 b m r →
-    cap ≡ capacity_of i m r → used ≤ cap → None ≡ transient_test i a0 b m r
-unfolding transient_test
-transient_within i a0 b m r used cap use_is cap_is within =
-    held_if _ _ (and_right _ _ (le-ltb (capacity_of i m r) (transient_of i a0 b m r) (omega arith)))
+    pub machine_marked : mark ≡ OnMachine → n ≡ on_machine i b s x → n ≡ marked i mark b s x
+    unfolding marked on_machine has_mark mark_of
+    machine_marked is count = rw is count
 
-pub transient_once : (i : Tables) (a0 b : List Machine) (m r : ℕ) → transient_at i r ≡ false →
-    None ≡ transient_test i a0 b m r
-unfolding transient_test
-transient_once i a0 b m r once = held_if _ _ (and_left _ _ once)
+    pub location_marked : mark ≡ InLocation → n ≡ in_location i b s x → n ≡ marked i mark b s x
+    unfolding marked in_location has_mark mark_of
+    location_marked is count = rw is count
 
--- conflict
+    pub neighbourhood_marked : mark ≡ InNeighbourhood → n ≡ in_neighbourhood i b s x → n ≡ marked i mark b s x
+    unfolding marked in_neighbourhood has_mark mark_of
+    neighbourhood_marked is count = rw is count
 
-pub conflict_is : (i : Tables) (b : List Machine) (s m n : ℕ) → n ≡ marked i OnMachine b s m → n ≡ on_machine i b s m
-unfolding marked on_machine has_mark mark_of
-conflict_is i b s m n count = count
+module _ (i : Tables) (s : ℕ) (mark : Mark) (x : ℕ) where
+  module _ (p at u : ℕ) where
+    pub of_other : u ≡ service_of i p → u ≢ s → 0 ≡ of_service i s (has_mark i mark x) p at
+    unfolding of_service is_of has_mark
+    of_other u_is other = grind arith
 
-pub conflict_some : (i : Tables) (b : List Machine) (s m n : ℕ) → n ≡ marked i OnMachine b s m → 1 < n →
-    Some (Conflict (record { 0 = s }) (record { 0 = m })) ≡ conflict_test i b s m
-unfolding conflict_test
-conflict_some i b s m n count more =
-    failed_if _ _ (lt-ltb 1 (on_machine i b s m) (omega (arith, conflict_is i b s m n count)))
+    module _ (k : ℕ) (u_is : u ≡ service_of i p) (same : u ≡ s) (k_is : k ≡ mark_of i mark at) where
+      pub of_here : k ≡ x → 1 ≡ of_service i s (has_mark i mark x) p at
+      unfolding of_service is_of has_mark
+      of_here here = grind (arith, eq-eqb)
 
-pub conflict_none : (i : Tables) (b : List Machine) (s m n : ℕ) → n ≡ marked i OnMachine b s m → n ≤ 1 →
-    None ≡ conflict_test i b s m
-unfolding conflict_test
-conflict_none i b s m n count few =
-    held_if _ _ (le-ltb 1 (on_machine i b s m) (omega (arith, conflict_is i b s m n count)))
+      pub of_elsewhere : k ≢ x → 0 ≡ of_service i s (has_mark i mark x) p at
+      unfolding of_service is_of has_mark
+      of_elsewhere apart = grind (arith, eq-eqb)
 
--- counts by their marks
+module _ (i : Tables) (b : List Machine) where
+  module _ (m r used : ℕ) {cap : ℕ} (use_is : used ≡ use_of i b m r) (cap_is : cap ≡ capacity_of i m r) where
+    -- capacity
 
-pub machine_marked : (i : Tables) (mark : Mark) (b : List Machine) (s x n : ℕ) → mark ≡ OnMachine →
-    n ≡ on_machine i b s x → n ≡ marked i mark b s x
-unfolding marked on_machine has_mark mark_of
-machine_marked i mark b s x n is count = rw is count
+    pub capacity_over : cap < used → Some (Capacity (record { 0 = m }) (record { 0 = r }) used cap) ≡
+        capacity_test i b m r
+    unfolding capacity_test
+    capacity_over over = grind (arith, failed_if, lt-ltb)
 
-pub location_marked : (i : Tables) (mark : Mark) (b : List Machine) (s x n : ℕ) → mark ≡ InLocation →
-    n ≡ in_location i b s x → n ≡ marked i mark b s x
-unfolding marked in_location has_mark mark_of
-location_marked i mark b s x n is count = rw is count
+    pub capacity_within : used ≤ cap → None ≡ capacity_test i b m r
+    unfolding capacity_test
+    capacity_within within =
+        held_if _ (le-ltb (capacity_of i m r) (use_of i b m r) (omega arith))
 
-pub neighbourhood_marked : (i : Tables) (mark : Mark) (b : List Machine) (s x n : ℕ) → mark ≡ InNeighbourhood →
-    n ≡ in_neighbourhood i b s x → n ≡ marked i mark b s x
-unfolding marked in_neighbourhood has_mark mark_of
-neighbourhood_marked i mark b s x n is count = rw is count
+  module _ (s : ℕ) where
+    module _ (m : ℕ) {n : ℕ} (count : n ≡ marked i OnMachine b s m) where
+      -- conflict
 
-pub of_other : (i : Tables) (s : ℕ) (mark : Mark) (x p at u : ℕ) → u ≡ service_of i p → u ≢ s →
-    0 ≡ of_service i s (has_mark i mark x) p at
-unfolding of_service is_of has_mark
-of_other i s mark x p at u u_is other =
-    sym (ap (λ v. one_if (v && eqb (mark_of i mark at) x)) (ne_eqb (service_of i p) s (λ same. other (u_is ∙ same))))
+      pub conflict_is : n ≡ on_machine i b s m
+      unfolding marked on_machine has_mark mark_of
+      conflict_is = count
 
-pub of_here : (i : Tables) (s : ℕ) (mark : Mark) (x p at u k : ℕ) → u ≡ service_of i p → u ≡ s → k ≡ mark_of i mark at →
-    k ≡ x → 1 ≡ of_service i s (has_mark i mark x) p at
-unfolding of_service is_of has_mark
-of_here i s mark x p at u k u_is same k_is here =
-    sym (ap₂ (λ v w. one_if (v && w)) (eq-eqb (service_of i p) s (sym u_is ∙ same))
-    (eq-eqb (mark_of i mark at) x (sym k_is ∙ here)))
+      pub conflict_some : 1 < n → Some (Conflict (record { 0 = s }) (record { 0 = m })) ≡ conflict_test i b s m
+      unfolding conflict_test
+      conflict_some more =
+          failed_if _ (lt-ltb 1 (on_machine i b s m) (omega (arith, conflict_is)))
 
-pub of_elsewhere : (i : Tables) (s : ℕ) (mark : Mark) (x p at u k : ℕ) → u ≡ service_of i p → u ≡ s →
-    k ≡ mark_of i mark at → k ≢ x → 0 ≡ of_service i s (has_mark i mark x) p at
-unfolding of_service is_of has_mark
-of_elsewhere i s mark x p at u k u_is same k_is apart =
-    sym (ap₂ (λ v w. one_if (v && w)) (eq-eqb (service_of i p) s (sym u_is ∙ same))
-    (ne_eqb (mark_of i mark at) x (λ here. apart (k_is ∙ here))))
+      pub conflict_none : n ≤ 1 → None ≡ conflict_test i b s m
+      unfolding conflict_test
+      conflict_none few =
+          held_if _ (le-ltb 1 (on_machine i b s m) (omega (arith, conflict_is)))
 
--- spread
+    module _ (has wants : ℕ) (has_is : has ≡ locations_of i b s) (wants_is : wants ≡ spread_of i s) where
+      -- spread
 
-pub spread_few : (i : Tables) (b : List Machine) (s has wants : ℕ) → has ≡ locations_of i b s → wants ≡ spread_of i s →
-    has < wants → Some (Spread (record { 0 = s }) has wants) ≡ spread_test i b s
-unfolding spread_test
-spread_few i b s has wants has_is wants_is fewer =
-    rw (has_is, wants_is) (failed_if _ _ (lt-ltb (locations_of i b s) (spread_of i s) (omega arith)))
+      pub spread_few : has < wants → Some (Spread (record { 0 = s }) has wants) ≡ spread_test i b s
+      unfolding spread_test
+      spread_few fewer =
+          rw (has_is, wants_is) (failed_if _ (lt-ltb (locations_of i b s) (spread_of i s) (omega arith)))
 
-pub spread_enough : (i : Tables) (b : List Machine) (s has wants : ℕ) → has ≡ locations_of i b s →
-    wants ≡ spread_of i s → wants ≤ has → None ≡ spread_test i b s
-unfolding spread_test
-spread_enough i b s has wants has_is wants_is enough =
-    held_if _ _ (le-ltb (locations_of i b s) (spread_of i s) (omega arith))
+      pub spread_enough : wants ≤ has → None ≡ spread_test i b s
+      unfolding spread_test
+      spread_enough enough =
+          held_if _ (le-ltb (locations_of i b s) (spread_of i s) (omega arith))
 
--- dependency
+    -- dependency
 
-pub near_is : (i : Tables) (b : List Machine) (s label n : ℕ) → n ≡ marked i InNeighbourhood b s label →
-    n ≡ in_neighbourhood i b s label
-unfolding marked in_neighbourhood has_mark mark_of
-near_is i b s label n count = count
+    pub near_is : (label : ℕ) {n : ℕ} → n ≡ marked i InNeighbourhood b s label → n ≡ in_neighbourhood i b s label
+    unfolding marked in_neighbourhood has_mark mark_of
+    near_is label count = count
 
-pub far_some : (i : Tables) (b : List Machine) (s k p need m label n : ℕ) → m ≡ machine_at b p →
-    label ≡ neighbourhood_of i m → need ≡ need_of i s k → n ≡ marked i InNeighbourhood b need label → n ≡ 0 →
-    Some (Dependency (record { 0 = s }) (record { 0 = need }) label) ≡ far_test i b s k p
-unfolding far_test near_of
-far_some i b s k p need m label n m_is label_is need_is count none =
-    let at : label ≡ neighbourhood_of i (machine_at b p) = label_is ∙ ap (neighbourhood_of i) m_is in
-    let zero_there : in_neighbourhood i b need label ≡ 0 = omega (arith, near_is i b need label n count) in
-    rw (← need_is, ← at) (failed_if _ _ (eq-eqb (in_neighbourhood i b need label) 0 zero_there))
+  module _ (s k p : ℕ) {need m label n : ℕ} (m_is : m ≡ machine_at b p) (label_is : label ≡ neighbourhood_of i m)
+      (need_is : need ≡ need_of i s k) (count : n ≡ marked i InNeighbourhood b need label) where
+    pub far_some : n ≡ 0 → Some (Dependency (record { 0 = s }) (record { 0 = need }) label) ≡ far_test i b s k p
+    unfolding far_test near_of
+    far_some none = grind (arith, failed_if, eq-eqb, near_is)
 
-pub far_none : (i : Tables) (b : List Machine) (s k p need m label n : ℕ) → m ≡ machine_at b p →
-    label ≡ neighbourhood_of i m → need ≡ need_of i s k → n ≡ marked i InNeighbourhood b need label → 0 < n →
-    None ≡ far_test i b s k p
-unfolding far_test near_of
-far_none i b s k p need m label n m_is label_is need_is count some =
-    let at : label ≡ neighbourhood_of i (machine_at b p) = label_is ∙ ap (neighbourhood_of i) m_is in
-    let some_there : 0 < in_neighbourhood i b need label = omega (arith, near_is i b need label n count) in
-    rw (← need_is, ← at)
-    (held_if _ _ (ne_eqb (in_neighbourhood i b need label) 0 (λ same. absurd (omega (arith, same)))))
+    pub far_none : 0 < n → None ≡ far_test i b s k p
+    unfolding far_test near_of
+    far_none some = grind (arith, near_is, held_if)
 
--- closed machines
+module _ (i : Tables) (a0 : List Machine) where
+  module _ (b : List Machine) (p : ℕ) where
+    -- closed machines
 
-pub closed_some : (i : Tables) (a0 b : List Machine) (p home m : ℕ) → home ≡ machine_at a0 p → m ≡ machine_at b p →
-    closed_at i m ≡ true → home ≢ m → Some (Closed (record { 0 = p }) (record { 0 = m })) ≡ closed_test i a0 b p
-unfolding closed_test
-closed_some i a0 b p home m home_is m_is shut away =
-    rw (← home_is, ← m_is) (failed_if _ _ (and_from _ _ shut (not_from_false _ (ne_eqb home m away))))
+    pub closed_some : (home m : ℕ) → home ≡ machine_at a0 p → m ≡ machine_at b p → closed_at i m ≡ true → home ≢ m →
+        Some (Closed (record { 0 = p }) (record { 0 = m })) ≡ closed_test i a0 b p
+    unfolding closed_test
+    closed_some home m home_is m_is shut away = grind (arith, failed_if, and_from, not_from_false)
 
-pub closed_open : (i : Tables) (a0 b : List Machine) (p m : ℕ) → m ≡ machine_at b p → closed_at i m ≡ false →
-    None ≡ closed_test i a0 b p
-unfolding closed_test
-closed_open i a0 b p m m_is free = rw (← m_is) (held_if _ _ (and_left _ _ free))
+    pub closed_open : (m : ℕ) → m ≡ machine_at b p → closed_at i m ≡ false → None ≡ closed_test i a0 b p
+    unfolding closed_test
+    closed_open m m_is free = rw (← m_is) (held_if _ (and_left _ _ free))
 
-pub closed_home : (i : Tables) (a0 b : List Machine) (p home m : ℕ) → home ≡ machine_at a0 p → m ≡ machine_at b p →
-    home ≡ m → None ≡ closed_test i a0 b p
-unfolding closed_test
-closed_home i a0 b p home m home_is m_is same =
-    rw (← home_is, ← m_is) (held_if _ _ (and_right _ _ (not_from_true _ (eq-eqb home m same))))
+    pub closed_home : (home m : ℕ) → home ≡ machine_at a0 p → m ≡ machine_at b p → home ≡ m →
+        None ≡ closed_test i a0 b p
+    unfolding closed_test
+    closed_home home m home_is m_is same = grind (arith, held_if, and_right, not_from_true, eq-eqb)
 
 pub ruleset owns = (of_other, of_here, of_elsewhere)
 

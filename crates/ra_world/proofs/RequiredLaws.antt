@@ -1,9 +1,8 @@
 -- The requirements of the processes of a move, read one after another.
-use Rattle.std.proofs.Common.{◌≡◌, ℕ, ◌+◌, ◌-◌, ◌*◌, ◌<◌, ◌≤◌, List, length, ap, ◌∙◌, ◌++◌, ⊎_elim, arith}
+use Rattle.std.proofs.Common.{◌≡◌, ℕ, ◌+◌, ◌-◌, ◌*◌, ◌<◌, ◌≤◌, List, length, ap, ◌∙◌, ◌++◌, arith}
 use Rattle.std.proofs.Common.{length-take, slice_index, slice_index_or}
 use Rattle.std.proofs.Math.ListN.{take, drop}
 use Rattle.std.proofs.lemmas.List.{get_or-append_right, get_or_append_left, get_or-take, get_or-drop}
-use Rattle.std.proofs.lemmas.Bool.{cases_lt}
 use Rattle.ra_base.specs.Tables.{cell}
 use Rattle.ra_model.specs.declared.raw.Tables.{Tables}
 use Rattle.ra_model.specs.Numbers.{resource_count, requirement_of}
@@ -17,18 +16,20 @@ pub process_read : (steps : List Step) (j : ℕ) (s : Step) → s ≡ step_at st
 unfolding process_in
 process_read steps j s is = ap (λ (x : Step). x.process.0) is
 
--- a list with other numbers in a part: within the part, before it and after it
+module _ (at n : ℕ) (old : List ℕ) where
+  -- a list with other numbers in a part: within the part, before it and after it
 
-within_part : (at n : ℕ) (old part rest : List ℕ) → at ≤ length old → n < length part →
-    slice_index_or (take at old ++ (part ++ rest)) (at + n) 0 ≡ slice_index_or part n 0
-within_part at n old part rest long within =
-    get_or-append_right (take at old) (part ++ rest) at (at + n) 0 (grind (arith, length-take, long)) (omega arith)
-    ∙ ap (λ k. slice_index_or (part ++ rest) k 0) (omega arith) ∙ get_or_append_left part rest 0 n within
+  within_part : (part rest : List ℕ) → at ≤ length old → n < length part →
+      slice_index_or (take at old ++ (part ++ rest)) (at + n) 0 ≡ slice_index_or part n 0
+  within_part part rest long within =
+      get_or-append_right (take at old) (part ++ rest) at (at + n) 0 (grind (arith, length-take, long)) (omega arith)
+      ∙ ap (λ k. slice_index_or (part ++ rest) k 0) (omega arith) ∙ get_or_append_left part rest 0 n within
 
-before_part : (at n : ℕ) (old rest : List ℕ) → at ≤ length old → n < at →
-    slice_index_or (take at old ++ rest) n 0 ≡ slice_index_or old n 0
-before_part at n old rest long before =
-    get_or_append_left (take at old) rest 0 n (grind (arith, length-take, long, before)) ∙ get_or-take at old n 0 before
+  before_part : (rest : List ℕ) → at ≤ length old → n < at →
+      slice_index_or (take at old ++ rest) n 0 ≡ slice_index_or old n 0
+  before_part rest long before =
+      get_or_append_left (take at old) rest 0 n (grind (arith, length-take, long, before))
+      ∙ get_or-take at old n 0 before
 
 after_part : (at width n : ℕ) (old part : List ℕ) → at ≤ length old → length part ≡ width → at + width ≤ n →
     slice_index_or (take at old ++ (part ++ drop width (drop at old))) n 0 ≡ slice_index_or old n 0
@@ -44,25 +45,10 @@ pub row_read : (i : Tables) (p j width : ℕ) (old part : List ℕ) → width �
     ReadTo i p j (resource_count i) old
     (take (j * 20) old ++ (part ++ drop (j * 20 + width - j * 20) (drop (j * 20) old)))
 unfolding cell
-row_read i p j width old part width_is few below long is each = record {
-  here = λ r inside. within_part (j * 20) r old part _ (omega arith) (omega (arith, inside, width_is))
-      ∙ each r (omega (arith, inside, width_is));
-  others = λ k r apart within. ⊎_elim
-      (λ (lower : k < j). before_part (j * 20) (k * 20 + r) old _ (omega arith) (omega (arith, lower, within)))
-      (λ (other : j ≤ k). after_part (j * 20) _ (k * 20 + r) old part (omega arith) (omega (arith, is))
-      (omega (arith, other, apart, few)))
-      (cases_lt k j);
-}
+row_read i p j width old part width_is few below long is each = grind (arith, within_part, before_part, after_part)
 
 -- the requirements of one more step are read
 pub required_next : (i : Tables) (steps : List Step) (j p : ℕ) (old new : List ℕ) → WellFormed i →
     AreRequiredRows i steps j old → p ≡ process_in steps j → ReadTo i p j (resource_count i) old new →
     AreRequiredRows i steps (j + 1) new
-required_next i steps j p old new limits before is read = record {
-  each = λ k r below inside. ⊎_elim
-      (λ (earlier : k < j). read.others k r (omega arith) (omega (arith, limits.few_resources))
-      ∙ before.each k r earlier inside)
-      (λ (now : j ≤ k). let same : k ≡ j = omega arith in
-      rw same (read.here r inside ∙ ap (λ q. requirement_of i q r) is))
-      (cases_lt k j);
-}
+required_next i steps j p old new limits before is read = grind arith

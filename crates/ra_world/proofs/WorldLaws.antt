@@ -1,5 +1,5 @@
 -- What is known of every world.
-use Rattle.std.proofs.Common.{ℕ, List}
+use Rattle.std.proofs.Common.{arith, ℕ, List}
 use Rattle.ra_base.specs.declared.ids.Machine.{Machine}
 use Rattle.ra_model.specs.declared.numbers.Instance.{Instance}
 use Rattle.ra_model.specs.Situations.{situation, IsSound}
@@ -7,12 +7,6 @@ use Rattle.ra_topology.specs.TopologyLists.{TopologyLists}
 use Rattle.ra_world.specs.declared.kept.Kept.{Kept}
 use Rattle.ra_world.specs.Keeping.{IsWorld}
 
-pub sound_world : (i : Instance) (a0 : List Machine) (topo : TopologyLists) (list : List ℕ) (kept : Kept) →
+pub sound_world : (i : Instance) {a0 : List Machine} (topo : TopologyLists) {list : List ℕ} (kept : Kept) →
     IsWorld i.tables a0 topo list kept → IsSound (situation i.tables a0 kept.assignment.items)
-sound_world i a0 topo list kept is = record {
-  well_formed = i.well_formed;
-  small = i.small;
-  starts = is.fits;
-  fits = is.keeps.stand.fits;
-  unbroken = is.unbroken;
-}
+sound_world i topo kept is = grind arith

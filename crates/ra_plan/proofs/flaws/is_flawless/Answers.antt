@@ -8,11 +8,11 @@ returns-then-count-eq1 c =
 
 pub returns-then-count-eq2 : goal.returns-then-count-eq2
 returns-then-count-eq2 c =
-    λ yes. flawless_two _ _ _ _ c.steps-count.ensures.value c.if-count-eq2.true c.step-one.ensures c.if-one.false
+    λ yes. flawless_two _ c.steps-count.ensures.value c.if-count-eq2.true c.step-one.ensures c.if-one.false
     c.step-two.ensures c.if-two.false c.if-one-two.false
 
 pub returns : goal.returns
 returns c =
-    λ yes. flawless_three _ _ _ _ _ c.steps-count.ensures.value c.steps-count.ensures.few c.if-count-eq1.false
+    λ yes. flawless_three _ _ c.steps-count.ensures.value c.steps-count.ensures.few c.if-count-eq1.false
     c.if-count-eq2.false c.steps-count.ensures.some c.step-one.ensures c.if-one.false c.step-two.ensures c.if-two.false
     c.if-one-two.false c.step-three.ensures c.if-three.false c.if-one-three.false (eqb-false _ _ (not-true _ yes))

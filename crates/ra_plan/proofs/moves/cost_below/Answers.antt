@@ -12,7 +12,7 @@ is_dear_by_ways-requires-clause-moves g c = flawless_move _ _ _ c.requires.offer
 
 pub requirements-requires : goal.requirements-requires
 requirements-requires g c =
-    rw c.instance.ensures.value (processes_known _ _ _ (flawless_move _ _ _ c.requires.offered c.in_default.ensures))
+    rw c.instance.ensures.value (processes_known _ _ (flawless_move _ _ _ c.requires.offered c.in_default.ensures))
 
 pub has_room-requires-clause-moves : goal.has_room-requires-clause-moves
 has_room-requires-clause-moves g c = flawless_move _ _ _ c.requires.offered c.in_default.ensures
@@ -42,12 +42,12 @@ returns-then-is_dear_by_ways-clause-below g c =
 
 pub returns-then-not-has_room-clause-below : goal.returns-then-not-has_room-clause-below
 returns-then-not-has_room-clause-below g c =
-    unfit_below c.args.world.now c.args.mv.now.steps c.args.bound c.has_room.result c.has_room.ensures
+    unfit_below c.args.world.now c.args.mv.now.steps c.args.bound c.has_room.ensures
     c.if-not-has_room.true (room_free _ _ (flawless_move _ _ _ c.requires.offered c.in_default.ensures))
 
 pub returns-then-not-is_unbroken-clause-below : goal.returns-then-not-is_unbroken-clause-below
 returns-then-not-is_unbroken-clause-below g c =
-    unfit_below c.args.world.now c.args.mv.now.steps c.args.bound c.is_unbroken.result c.is_unbroken.ensures
+    unfit_below c.args.world.now c.args.mv.now.steps c.args.bound c.is_unbroken.ensures
     c.if-not-is_unbroken.true (λ none. sym (flawless _ _ c.in_default.ensures) ∙ none)
 
 pub returns-clause-below : goal.returns-clause-below

@@ -1,6 +1,5 @@
 use Rattle.std.proofs.Common.{refl, sym, ap, ◌∙◌, arith}
 use Rattle.ra_model.specs.Numbers.{resource_count, machine_count}
-use Rattle.ra_moves.specs.Moving.{IsOffered}
 use Rattle.ra_moves.specs.Options.{option_at}
 use Rattle.ra_plan.proofs.OptionSizes.{rest_reads}
 use Rattle.ra_plan.proofs.Bests.{best_below, best_planned, best_free, option_in, option_offered, judged_in}
@@ -10,14 +9,14 @@ use Rattle.ra_plan.proofs.planning.fill_by_move.Goals as goal
 pub weigh-plan-requires : goal.weigh-plan-requires
 weigh-plan-requires g c =
     rw c.requires.first
-    (option_offered _ _ _ _ _ c.instance-known.ensures.sound.well_formed c.instance-known.ensures.sound.fits)
+    (option_offered _ _ _ c.instance-known.ensures.sound.well_formed c.instance-known.ensures.sound.fits)
 
 pub verdict-requires : goal.verdict-requires
 verdict-requires g c = record {
   some = record {
     steps = c.args.first.now.steps;
     offered = rw c.requires.first
-        (option_offered _ _ _ _ _ c.instance-known.ensures.sound.well_formed c.instance-known.ensures.sound.fits);
+        (option_offered _ _ _ c.instance-known.ensures.sound.well_formed c.instance-known.ensures.sound.fits);
     is = c.weigh-plan.ensures.value;
   };
 }
@@ -25,15 +24,13 @@ verdict-requires g c = record {
 pub best_move-best-requires : goal.best_move-best-requires
 best_move-best-requires g c =
     let world = c.args.world.now in
-    let offered : IsOffered world.tables world.here c.args.first.now.steps =
-    rw c.requires.first (option_offered _ _ _ _ _ c.instance-known.ensures.sound.well_formed
-    c.instance-known.ensures.sound.fits) in
-    let judged = c.verdict.ensures c.args.first.now.steps offered c.weigh-plan.ensures.value in
-    let same = option_in world _ _ _ 0 _ refl c.requires.first in
     record {
       first = c.consider-judged.ensures world c.args.words.now c.args.drawing c.args.allowed
           (c.none.ensures world c.args.words.now c.args.drawing c.args.allowed)
-          (judged_in world _ _ _ _ _ _ same judged);
+          (judged_in world _ _ _ _ _ _ (option_in world _ _ _ 0 _ refl c.requires.first)
+          (c.verdict.ensures c.args.first.now.steps
+          (rw c.requires.first (option_offered _ _ _ c.instance-known.ensures.sound.well_formed
+          c.instance-known.ensures.sound.fits)) c.weigh-plan.ensures.value));
     }
 
 pub move_of-mv-requires-clause-named : goal.move_of-mv-requires-clause-named
@@ -44,7 +41,7 @@ move_of-mv-requires-clause-named g c =
 pub weighing-plan-requires-clause-offered : goal.weighing-plan-requires-clause-offered
 weighing-plan-requires-clause-offered g c =
     rw c.move_of-mv.ensures
-    (option_offered _ _ _ _ _ c.instance-known.ensures.sound.well_formed c.instance-known.ensures.sound.fits)
+    (option_offered _ _ _ c.instance-known.ensures.sound.well_formed c.instance-known.ensures.sound.fits)
 
 pub weighing-plan-requires-clause-free : goal.weighing-plan-requires-clause-free
 weighing-plan-requires-clause-free g c =
@@ -60,9 +57,9 @@ returns g c =
       numbers_q = refl;
       numbers_k = refl;
       planned = record {
-        planned = best_planned world _ _ _ _ _ _ refl c.best_move-best.ensures.best c.move_of-mv.ensures;
+        planned = best_planned world _ _ _ _ _ refl c.best_move-best.ensures.best c.move_of-mv.ensures;
         weighing = c.weighing-plan.ensures.value;
-        offered = rw c.move_of-mv.ensures (option_offered _ _ _ _ _ c.instance-known.ensures.sound.well_formed
+        offered = rw c.move_of-mv.ensures (option_offered _ _ _ c.instance-known.ensures.sound.well_formed
             c.instance-known.ensures.sound.fits);
       };
       counted = omega (
@@ -83,12 +80,12 @@ returns-then-best-eq0 g c =
       numbers_q = refl;
       numbers_k = refl;
       planned = planned_same world _ _ _ _ _ _ c.requires.begun (record {
-        planned = best_planned world _ _ _ _ _ _ refl c.best_move-best.ensures.best
+        planned = best_planned world _ _ _ _ _ refl c.best_move-best.ensures.best
             (c.requires.first
             ∙ ap (λ o. option_at world.here c.args.words.now (machine_count world.tables)
             c.args.drawing o) (sym c.if-best-eq0.true));
         weighing = c.weigh-plan.ensures.value;
-        offered = rw c.requires.first (option_offered _ _ _ _ _ c.instance-known.ensures.sound.well_formed
+        offered = rw c.requires.first (option_offered _ _ _ c.instance-known.ensures.sound.well_formed
             c.instance-known.ensures.sound.fits);
       });
       counted = omega (arith, reads, c.weigh-plan.ensures.counted, c.best_move-best.ensures.counted);

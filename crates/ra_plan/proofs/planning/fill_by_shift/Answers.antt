@@ -32,7 +32,7 @@ move_of-plan-requires-clause-named g c =
 pub shift_weighing-plan-requires-clause-offered : goal.shift_weighing-plan-requires-clause-offered
 shift_weighing-plan-requires-clause-offered g c =
     rw c.move_of-plan.ensures
-    (option_offered _ _ _ _ _ c.instance-known.ensures.sound.well_formed c.instance-known.ensures.sound.fits)
+    (option_offered _ _ _ c.instance-known.ensures.sound.well_formed c.instance-known.ensures.sound.fits)
 
 pub shift_weighing-plan-requires-clause-alone : goal.shift_weighing-plan-requires-clause-alone
 shift_weighing-plan-requires-clause-alone g c =
@@ -47,8 +47,8 @@ shift_weighing-plan-requires-clause-best g c =
 
 pub returns-clause-planned : goal.returns-clause-planned
 returns-clause-planned g c = record {
-  planned = best_planned c.args.world.now _ _ _ _ _ _ refl c.best_shift-best.ensures c.move_of-plan.ensures;
+  planned = best_planned c.args.world.now _ _ _ _ _ refl c.best_shift-best.ensures c.move_of-plan.ensures;
   weighing = c.shift_weighing-plan.ensures.value;
   offered = rw c.move_of-plan.ensures
-      (option_offered _ _ _ _ _ c.instance-known.ensures.sound.well_formed c.instance-known.ensures.sound.fits);
+      (option_offered _ _ _ c.instance-known.ensures.sound.well_formed c.instance-known.ensures.sound.fits);
 }

@@ -13,7 +13,7 @@ pub find-requires : goal.find-requires
 find-requires g c =
     omega (
       arith,
-      one_reaches _ _ _ _ _ c.requires.offered c.requires.alone,
+      one_reaches _ _ _ _ c.requires.offered c.requires.alone,
       ap (λ (s : Step). s.to.0) c.step.ensures,
       ap (λ (w : Situation). machine_count w.tables) c.requires.world,
     )
@@ -22,7 +22,7 @@ pub weighed-requires-clause-machine : goal.weighed-requires-clause-machine
 weighed-requires-clause-machine g c =
     omega (
       arith,
-      one_reaches _ _ _ _ _ c.requires.offered c.requires.alone,
+      one_reaches _ _ _ _ c.requires.offered c.requires.alone,
       ap (λ (s : Step). s.to.0) c.step.ensures,
       ap (λ (w : Situation). machine_count w.tables) c.requires.world,
     )
@@ -31,22 +31,20 @@ pub weighed-requires-in-Unbroken-clause-machine : goal.weighed-requires-in-Unbro
 weighed-requires-in-Unbroken-clause-machine g c =
     omega (
       arith,
-      one_reaches _ _ _ _ _ c.requires.offered c.requires.alone,
+      one_reaches _ _ _ _ c.requires.offered c.requires.alone,
       ap (λ (s : Step). s.to.0) c.step.ensures,
       ap (λ (w : Situation). machine_count w.tables) c.requires.world,
     )
 
 pub weighed-requires-in-Unbroken-clause-unbroken : goal.weighed-requires-in-Unbroken-clause-unbroken
 weighed-requires-in-Unbroken-clause-unbroken g c =
-    let found = subst (IsFinding c.args.shift.now.world.now c.args.shift.now.process.0 c.step.result.to.0)
-    c.in-Unbroken.is c.find.ensures in
-    unbroken_found _ _ _ found
+    unbroken_found _ _ _ (subst (IsFinding c.args.shift.now.world.now c.args.shift.now.process.0 c.step.result.to.0)
+    c.in-Unbroken.is c.find.ensures)
 
 pub returns-in-Broken-clause-value : goal.returns-in-Broken-clause-value
 returns-in-Broken-clause-value g c =
-    let found = subst (IsFinding c.args.shift.now.world.now c.args.shift.now.process.0 c.step.result.to.0)
-    c.in-Broken.is c.find.ensures in
     c.bare.ensures ∙ sym (bare_is _ _ _ (sym (shift_same broken_by c.args.world.now c.args.shift.now.world.now
     c.args.shift.now.process.0 c.step.result.to.0 c.args.mv.now.steps c.requires.world c.requires.alone
     (ap (λ (s : Step). s.to.0) (sym c.step.ensures)))
-    ∙ cause_found _ _ _ _ found))
+    ∙ cause_found _ _ _ _ (subst (IsFinding c.args.shift.now.world.now c.args.shift.now.process.0 c.step.result.to.0)
+    c.in-Broken.is c.find.ensures)))

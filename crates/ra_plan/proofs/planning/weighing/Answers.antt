@@ -6,7 +6,7 @@ use Rattle.ra_plan.proofs.planning.weighing.Goals as goal
 pub requirements-requires : goal.requirements-requires
 requirements-requires g c =
     rw c.instance.ensures.value
-    (processes_known _ _ _ (move_of _ _ c.requires.offered (c.requires.free c.if-not-free.false)))
+    (processes_known _ _ (move_of _ _ c.requires.offered (c.requires.free c.if-not-free.false)))
 
 pub changed_by-requires-clause-moves : goal.changed_by-requires-clause-moves
 changed_by-requires-clause-moves g c = move_of _ _ c.requires.offered (c.requires.free c.if-not-free.false)
@@ -20,4 +20,4 @@ changed_by-requires-clause-unbroken g c = c.requires.free c.if-not-free.false
 pub returns-clause-counted : goal.returns-clause-counted
 returns-clause-counted g c =
     let read = rw c.instance.ensures.value at c.requirements.ensures.counted in
-    omega (arith, read, reads_few _ _ _ (move_of _ _ c.requires.offered (c.requires.free c.if-not-free.false)))
+    omega (arith, read, reads_few _ _ (move_of _ _ c.requires.offered (c.requires.free c.if-not-free.false)))

@@ -1,13 +1,10 @@
-use Rattle.std.proofs.Common.{◌≡◌, ◌+◌, arith, refl, ap, ◌∙◌}
+use Rattle.std.proofs.Common.{◌≡◌, arith, refl, ap, ◌∙◌}
 use Rattle.ra_model.specs.Numbers.{machine_count}
 use Rattle.ra_moves.specs.Options.{option_count}
 use Rattle.ra_moves.proofs.OptionLemmas.{shift_named}
-use Rattle.ra_base.specs.declared.costs.Parts.{Parts}
-use Rattle.ra_model.specs.Costs.{parts_of}
-use Rattle.ra_model.proofs.BoundLemmas.{objective_under}
 use Rattle.ra_plan.proofs.Bests.{shift_in, bound_fits}
 use Rattle.ra_plan.proofs.shifts.best_in_order.Goals as goal
-use Rattle.ra_model.specs.Situations.{cost_at}
+use Rattle.ra_plan.proofs.Bests.{total_is, total_few, machines_of}
 
 pub loop-option-init : goal.loop-option-init
 loop-option-init c = c.none-best.ensures _ _ _ _
@@ -18,24 +15,15 @@ target-to-requires-clause-named c =
 
 pub nonzero_rem-first : goal.nonzero_rem-first
 nonzero_rem-first c =
-    let world = c.args.world.now in
-    let machines : c.machines-machines.result ≡ machine_count world.tables =
-    rw c.instance.ensures.value at c.machines-machines.ensures in
-    omega (arith, machines, c.instance.ensures.sound.well_formed.some_machine)
+    omega (arith, machines_of c.machines-machines.ensures c.instance.ensures.value, c.instance.ensures.sound.well_formed.some_machine)
 
 pub target-to-requires-clause-some : goal.target-to-requires-clause-some
 target-to-requires-clause-some c =
-    let world = c.args.world.now in
-    let machines : c.machines-machines.result ≡ machine_count world.tables =
-    rw c.instance.ensures.value at c.machines-machines.ensures in
-    omega (arith, machines, c.instance.ensures.sound.well_formed.some_machine)
+    omega (arith, machines_of c.machines-machines.ensures c.instance.ensures.value, c.instance.ensures.sound.well_formed.some_machine)
 
 pub target-to-requires-clause-few : goal.target-to-requires-clause-few
 target-to-requires-clause-few c =
-    let world = c.args.world.now in
-    let machines : c.machines-machines.result ≡ machine_count world.tables =
-    rw c.instance.ensures.value at c.machines-machines.ensures in
-    omega (arith, machines, c.instance.ensures.sound.well_formed.few_machines)
+    omega (arith, machines_of c.machines-machines.ensures c.instance.ensures.value, c.instance.ensures.sound.well_formed.few_machines)
 
 pub target-to-requires-clause-first : goal.target-to-requires-clause-first
 target-to-requires-clause-first c = refl
@@ -45,65 +33,40 @@ with_shift-best-requires-clause-world c = c.requires.world
 
 pub with_shift-best-requires-clause-machine : goal.with_shift-best-requires-clause-machine
 with_shift-best-requires-clause-machine c =
-    let world = c.args.world.now in
-    let machines : c.machines-machines.result ≡ machine_count world.tables =
-    rw c.instance.ensures.value at c.machines-machines.ensures in
-    rw machines at c.target-to.ensures.within
+    rw (machines_of c.machines-machines.ensures c.instance.ensures.value) at c.target-to.ensures.within
 
 pub returns : goal.returns
 returns c =
     let world = c.args.world.now in
-    let machines : c.machines-machines.result ≡ machine_count world.tables =
-    rw c.instance.ensures.value at c.machines-machines.ensures in
     let end : c.loop-option.option ≡ c.options-count.result =
     omega (arith, c.loop-option-test.false, c.loop-option.auto.option-end) in
     let all : c.loop-option.option ≡ option_count c.args.words.now (machine_count world.tables)
     c.args.drawing =
-    end ∙ c.options-count.ensures.value ∙ ap (λ m. option_count c.args.words.now m c.args.drawing) machines in
+    end ∙ c.options-count.ensures.value
+    ∙ ap (λ m. option_count c.args.words.now m c.args.drawing)
+    (machines_of c.machines-machines.ensures c.instance.ensures.value) in
     rw all at c.loop-option.invariant
 
 pub overflow_add-most : goal.overflow_add-most
-unfolding parts_of
 overflow_add-most c =
-    let world = c.args.world.now in
-    let kept : c.parts.result.total ≡ cost_at world = ap (λ (x : Parts). x.total) c.parts.ensures.value in
-    omega (
-      arith,
-      kept,
-      c.from.ensures,
-      objective_under world.tables world.start
-          world.here c.instance.ensures.sound.well_formed c.instance.ensures.sound.small,
-    )
+    omega (arith, total_few c.instance.ensures.sound c.parts.ensures.value, c.from.ensures)
 
 pub overflow_add-most-2 : goal.overflow_add-most-2
-unfolding parts_of
 overflow_add-most-2 c =
-    let world = c.args.world.now in
-    let kept : c.parts.result.total ≡ cost_at world = ap (λ (x : Parts). x.total) c.parts.ensures.value in
-    omega (
-      arith,
-      kept,
-      c.from.ensures,
-      objective_under world.tables world.start
-          world.here c.instance.ensures.sound.well_formed c.instance.ensures.sound.small,
-    )
+    omega (arith, total_few c.instance.ensures.sound c.parts.ensures.value, c.from.ensures)
 
 pub with_shift-best-requires-clause-bound : goal.with_shift-best-requires-clause-bound
-unfolding parts_of
 with_shift-best-requires-clause-bound c =
     let world = c.args.world.now in
-    let kept : c.parts.result.total ≡ cost_at world = ap (λ (x : Parts). x.total) c.parts.ensures.value in
     bound_fits world c.args.words.now c.args.drawing c.args.allowed c.loop-option.option
-    (c.parts.result.total + c.from.result + 1) c.loop-option.best c.instance.ensures.sound
+    _ c.loop-option.best c.instance.ensures.sound
     c.loop-option.invariant
-    (omega (arith, kept, c.from.ensures)) c.ranges.allowed.fits
+    (omega (arith, total_is c.instance.ensures.sound c.parts.ensures.value, c.from.ensures)) c.ranges.allowed.fits
 
 pub loop-option-preserved : goal.loop-option-preserved
-unfolding parts_of
 loop-option-preserved c =
     let world = c.args.world.now in
-    let machines : c.machines-machines.result ≡ machine_count world.tables =
-    rw c.instance.ensures.value at c.machines-machines.ensures in
-    let kept : c.parts.result.total ≡ cost_at world = ap (λ (x : Parts). x.total) c.parts.ensures.value in
-    c.with_shift-best.ensures _ _ c.args.allowed (omega (arith, kept, c.from.ensures)) c.loop-option.invariant
-    (shift_in world _ _ _ _ _ _ machines c.requires.shift c.requires.named c.target-to.ensures.value)
+    c.with_shift-best.ensures _ _ c.args.allowed
+    (omega (arith, total_is c.instance.ensures.sound c.parts.ensures.value, c.from.ensures)) c.loop-option.invariant
+    (shift_in world _ _ _ _
+    (machines_of c.machines-machines.ensures c.instance.ensures.value) c.requires.shift c.requires.named c.target-to.ensures.value)

@@ -5,7 +5,7 @@ use Rattle.ra_plan.proofs.weighing.weigh.Goals as goal
 
 pub requirements-requires : goal.requirements-requires
 requirements-requires g c =
-    rw c.instance.ensures.value (processes_known _ _ _ (flawless_move _ _ _ c.requires c.in_default.ensures))
+    rw c.instance.ensures.value (processes_known _ _ (flawless_move _ _ _ c.requires c.in_default.ensures))
 
 pub first_broken-requires-clause-moves : goal.first_broken-requires-clause-moves
 first_broken-requires-clause-moves g c = flawless_move _ _ _ c.requires c.in_default.ensures
@@ -34,9 +34,9 @@ returns-in-Some-first_broken-clause-value g c = c.bare-in-Some-first_broken.ensu
 pub returns-in-Some-first_broken-clause-counted : goal.returns-in-Some-first_broken-clause-counted
 returns-in-Some-first_broken-clause-counted g c =
     let read = rw c.instance.ensures.value at c.requirements.ensures.counted in
-    omega (arith, read, reads_few _ _ _ (flawless_move _ _ _ c.requires c.in_default.ensures))
+    omega (arith, read, reads_few _ _ (flawless_move _ _ _ c.requires c.in_default.ensures))
 
 pub returns-in-None-clause-counted : goal.returns-in-None-clause-counted
 returns-in-None-clause-counted g c =
     let read = rw c.instance.ensures.value at c.requirements.ensures.counted in
-    omega (arith, read, reads_few _ _ _ (flawless_move _ _ _ c.requires c.in_default.ensures))
+    omega (arith, read, reads_few _ _ (flawless_move _ _ _ c.requires c.in_default.ensures))

@@ -9,7 +9,7 @@ pub returns-clause-value : goal.returns-clause-value
 returns-clause-value c =
     let i = c.args.world.now.tables in
     c.cost_of_row.ensures.value
-    ∙ ap (λ (j : Tables). row_cost_with j c.args.from.0 (slice_index c.fill_without.new.row))
+    ∙ ap (λ j. row_cost_with j c.args.from.0 (slice_index c.fill_without.new.row))
     c.instance.ensures.value
     ∙ row_cost_same i c.args.from.0 (slice_index c.fill_without.new.row)
     (use_without i c.args.world.now.here c.args.p.0) c.instance.ensures.sound.well_formed

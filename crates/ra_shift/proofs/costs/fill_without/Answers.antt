@@ -10,20 +10,26 @@ loop-r-init c = record { size = search rules; so_far = λ k before. absurd (omeg
 
 pub loop-r-preserved : goal.loop-r-preserved
 loop-r-preserved c =
-    let few = c.rows.ensures.sound.well_formed.few_resources in
-    let end = ap (λ (j : Tables). resource_count j) c.instance.ensures.value in
+    let end = ap (λ j. resource_count j) c.instance.ensures.value in
     record {
       size = length-set c.loop-r.row c.loop-r.r _ ∙ c.loop-r.invariant.size;
       so_far = filled_more c.loop-r.row
           (λ k. slice_index c.usage_row-used.result.now k - slice_index c.args.required.now k) c.loop-r.r _
           c.loop-r.invariant.so_far
-          (omega (arith, few, end, c.resources-r-end.ensures, c.loop-r-test.true, c.loop-r.invariant.size))
-          (ap (λ x. slice_index c.usage_row-used.result.now c.loop-r.r - x) c.from.ensures);
+          (omega (
+            arith,
+            c.rows.ensures.sound.well_formed.few_resources,
+            end,
+            c.resources-r-end.ensures,
+            c.loop-r-test.true,
+            c.loop-r.invariant.size,
+          ))
+          (rw c.from.ensures);
     }
 
 pub returns : goal.returns
 returns c = λ r within.
-    let end = ap (λ (j : Tables). resource_count j) c.instance.ensures.value in
+    let end = ap (λ j. resource_count j) c.instance.ensures.value in
     c.loop-r.invariant.so_far r (omega (arith, within, end, c.resources-r-end.ensures, c.loop-r-test.false))
     ∙ used_without c.args.world.now.tables c.rows.result.now.tables c.args.world.now.here
     c.args.p.0 c.args.from.0 r c.usage_row-used.result.now c.args.required.now c.rows.ensures.instance
@@ -31,7 +37,7 @@ returns c = λ r within.
 
 pub overflow_sub-row : goal.overflow_sub-row
 overflow_sub-row c =
-    let end = ap (λ (j : Tables). resource_count j) c.instance.ensures.value in
+    let end = ap (λ j. resource_count j) c.instance.ensures.value in
     let covers = used_covers c.args.world.now.tables c.rows.result.now.tables
     c.args.world.now.here c.args.p.0 c.args.from.0 c.loop-r.r c.usage_row-used.result.now
     c.args.required.now c.rows.ensures.instance (c.usage_row-used.ensures.values _ c.rows.ensures.stand)

@@ -27,10 +27,9 @@ bounds-required-objective-2 c =
 pub returns : goal.returns
 returns c = λ p are.
     let i = c.args.inst.now.tables in
-    let limits = c.args.inst.now.well_formed in
     let is = c.balance-objective.ensures in
     record {
       wanted = ap₂ (λ x y. x * y) (c.from.ensures ∙ target_read i c.args.b _ is)
-          (c.from-2.ensures ∙ required_first i p c.args.b _ _ limits c.requires is are);
-      taken = c.from-3.ensures ∙ required_second i p c.args.b _ _ limits c.requires is are;
+          (c.from-2.ensures ∙ required_first i p c.args.b _ _ c.args.inst.now.well_formed c.requires is are);
+      taken = c.from-3.ensures ∙ required_second i p c.args.b _ _ c.args.inst.now.well_formed c.requires is are;
     }

@@ -9,12 +9,9 @@ use Rattle.ra_model.specs.Situations.{moved_at}
 pub service_with-requires-clause-few : goal.service_with-requires-clause-few
 service_with-requires-clause-few c =
     let w = c.args.world.now in
-    let i = w.tables in
-    let a0 = w.start in
-    let a = w.here in
     let after = away_mine w c.args.p.0 (c.moved.result + 1 - c.is_away.result) c.args.s.0
     c.requires.service
-    (ap₂ (λ x y. x + 1 - y) (c.moved.ensures.count i a0 a c.cells.ensures.stand
+    (ap₂ (λ x y. x + 1 - y) (c.moved.ensures.count w.tables w.start w.here c.cells.ensures.stand
     ∙ ap (moved_at w) c.requires.service)
     (c.is_away.ensures.value ∙ ap₂ away c.requires.home c.requires.from)) in
     omega (arith, after, moved_away_few w c.args.p.0 c.args.s.0 c.cells.ensures.sound.fits c.requires.process)
@@ -23,12 +20,9 @@ pub returns-clause-value : goal.returns-clause-value
 unfolding service_away
 returns-clause-value c =
     let w = c.args.world.now in
-    let i = w.tables in
-    let a0 = w.start in
-    let a = w.here in
     let after = away_mine w c.args.p.0 (c.moved.result + 1 - c.is_away.result) c.args.s.0
     c.requires.service
-    (ap₂ (λ x y. x + 1 - y) (c.moved.ensures.count i a0 a c.cells.ensures.stand
+    (ap₂ (λ x y. x + 1 - y) (c.moved.ensures.count w.tables w.start w.here c.cells.ensures.stand
     ∙ ap (moved_at w) c.requires.service)
     (c.is_away.ensures.value ∙ ap₂ away c.requires.home c.requires.from)) in
     c.service_with.ensures.value (moved_away w c.args.p.0)

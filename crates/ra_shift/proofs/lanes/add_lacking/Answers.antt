@@ -7,4 +7,4 @@ returns c =
     let lacks = HasLanes-lacking c.args.amount c.args.row (omega (arith, c.ranges.amount.fits)) c.fits-row.0
     c.fits-row.1 in
     HasLanes-zip2 (λ a b. (a + b) % 2 ^ 32) c.args.sums _ _ c.fits-sums.0 lacks.many
-    (λ k l. ap (λ n. (get_or c.args.sums k 0 + n) % 2 ^ 32) (lacks.each k l))
+    (λ k l. rw (lacks.each k l))

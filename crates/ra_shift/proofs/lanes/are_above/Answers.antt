@@ -8,8 +8,7 @@ pub returns : goal.returns
 returns c =
     let v = c.args.numbers in
     let long = c.fits-numbers.0 in
-    subst (λ m. IsTrue (eqb m 0) ↔ ((k : ℕ) → k < 8 → c.args.limit < get_or v k 0))
-    (sym (bitmask_splat w32 leb v 8 c.args.limit long (omega arith))) (
+    rw (bitmask_splat w32 leb v 8 c.args.limit long (omega arith)) (
       λ t k l. above_from_none v c.args.limit (eqb-true _ _ t) k (omega (arith, long)),
       λ above. eq-eqb _ _ (none_from_above v c.args.limit (λ k l. above k (omega (arith, long)))),
     )

@@ -6,12 +6,9 @@ use Rattle.ra_shift.proofs.lanes.small_lanes.Goals as goal
 
 pub returns-clause-below : goal.returns-clause-below
 returns-clause-below c =
-    subst (λ m. m < 2 ^ 16) (sym (bitmask_splat w32 leb c.args.sums 16 c.args.limit c.fits-sums.0 (omega arith)))
-    (mask_below c.args.sums c.args.limit c.fits-sums.0)
+    rw (bitmask_splat w32 leb c.args.sums 16 c.args.limit c.fits-sums.0 (omega arith)) (mask_below c.args.sums c.args.limit c.fits-sums.0)
 
 pub returns-clause-bits : goal.returns-clause-bits
 returns-clause-bits c k l =
-    let long = c.fits-sums.0 in
-    subst (λ m. (bit_at m k ≡ 1) ↔ (get_or c.args.sums k 0 ≤ c.args.limit))
-    (sym (bitmask_splat w32 leb c.args.sums 16 c.args.limit c.fits-sums.0 (omega arith)))
-    (bit_at-mask_l c.args.sums c.args.limit k (omega (arith, long)))
+    rw (bitmask_splat w32 leb c.args.sums 16 c.args.limit c.fits-sums.0 (omega arith))
+    (bit_at-mask_l c.args.sums c.args.limit k (omega (arith, c.fits-sums.0)))

@@ -4,13 +4,12 @@ use Rattle.ra_shift.proofs.lanes.store.Goals as goal
 
 pub returns-clause-there : goal.returns-clause-there
 returns-clause-there c k l =
-    let long = c.fits-sums.0 in
-    get_or-put_chunk_at c.args.at c.args.list.now c.args.sums k 0 (omega (arith, long)) (omega (arith, long))
+    get_or-put_chunk_at c.args.at c.args.list.now c.args.sums k 0 (omega (arith, c.fits-sums.0)) (omega
+    (arith, c.fits-sums.0))
 
 pub returns-clause-before : goal.returns-clause-before
 returns-clause-before c k l = get_or-put_chunk_below c.args.at c.args.list.now c.args.sums k 0 l
 
 pub returns-clause-after : goal.returns-clause-after
 returns-clause-after c k l =
-    let long = c.fits-sums.0 in
-    get_or-put_chunk_above c.args.at c.args.list.now c.args.sums k 0 (omega (arith, long, l))
+    get_or-put_chunk_above c.args.at c.args.list.now c.args.sums k 0 (omega (arith, c.fits-sums.0, l))

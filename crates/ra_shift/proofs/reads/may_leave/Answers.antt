@@ -15,13 +15,12 @@ returns-then-in_neighbourhood-gt1-clause-may c _ =
 pub is_other_there-requires : goal.is_other_there-requires
 unfolding service_at
 is_other_there-requires c =
-    let w = c.args.world.now in
-    let i = w.tables in
+    let i = c.args.world.now.tables in
     let s_in : c.args.s.0 < service_count i =
     omega (arith, c.requires.service, c.topology.ensures.sound.well_formed.services c.args.p.0 c.requires.process) in
-    let are = dependants_there i c.topology.result.now.dependants c.args.s.0 c.dependants-dependants.result.now
-    c.topology.ensures.fits.dependants s_in c.dependants-dependants.ensures in
-    (dependant_at i c.args.s.0 c.loop-d.d-index c.dependants-dependants.result.now are c.loop-d-test.true).0
+    (dependant_at i c.args.s.0 c.loop-d.d-index c.dependants-dependants.result.now
+    (dependants_there i c.topology.result.now.dependants c.args.s.0 c.dependants-dependants.result.now
+    c.topology.ensures.fits.dependants s_in c.dependants-dependants.ensures) c.loop-d-test.true).0
 
 pub returns-then-is_other_there-clause-may_not : goal.returns-then-is_other_there-clause-may_not
 unfolding service_at
@@ -30,10 +29,10 @@ returns-then-is_other_there-clause-may_not c _ may =
     let i = w.tables in
     let s_in : c.args.s.0 < service_count i =
     omega (arith, c.requires.service, c.topology.ensures.sound.well_formed.services c.args.p.0 c.requires.process) in
-    let are = dependants_there i c.topology.result.now.dependants c.args.s.0 c.dependants-dependants.result.now
-    c.topology.ensures.fits.dependants s_in c.dependants-dependants.ensures in
     may_not_from i w.here c.args.p.0 c.args.s.0 c.args.neighbourhood c.loop-d.d-index
-    c.in_neighbourhood.result c.dependants-dependants.result.now c.requires.service c.requires.neighbourhood are
+    c.in_neighbourhood.result c.dependants-dependants.result.now c.requires.service c.requires.neighbourhood
+    (dependants_there i c.topology.result.now.dependants c.args.s.0 c.dependants-dependants.result.now
+    c.topology.ensures.fits.dependants s_in c.dependants-dependants.ensures)
     (c.in_neighbourhood.ensures.count _ _ _ c.cells.ensures.stand) c.if-in_neighbourhood-gt1.false
     c.loop-d-test.true (c.if-is_other_there.ensures.other refl) (c.if-is_other_there.ensures.there refl) may
 
@@ -51,8 +50,8 @@ returns-clause-may c _ =
     let i = w.tables in
     let s_in : c.args.s.0 < service_count i =
     omega (arith, c.requires.service, c.topology.ensures.sound.well_formed.services c.args.p.0 c.requires.process) in
-    let are = dependants_there i c.topology.result.now.dependants c.args.s.0 c.dependants-dependants.result.now
-    c.topology.ensures.fits.dependants s_in c.dependants-dependants.ensures in
     may_from_none i w.here c.args.p.0 c.args.s.0 c.args.neighbourhood
-    c.dependants-dependants.result.now c.requires.service c.requires.neighbourhood are
+    c.dependants-dependants.result.now c.requires.service c.requires.neighbourhood
+    (dependants_there i c.topology.result.now.dependants c.args.s.0 c.dependants-dependants.result.now
+    c.topology.ensures.fits.dependants s_in c.dependants-dependants.ensures)
     (λ k within. c.loop-d.invariant k (omega (arith, within, c.loop-d-test.false)))

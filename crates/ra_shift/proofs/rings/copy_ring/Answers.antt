@@ -6,19 +6,18 @@ use Rattle.ra_shift.proofs.rings.copy_ring.Goals as goal
 pub loop-done-preserved : goal.loop-done-preserved
 loop-done-preserved c =
     let ring = c.args.ring.now in
-    let before = c.loop-done.invariant in
-    let done : ℕ = c.loop-done.done in
-    let many : ℕ = c.copy_part-done.result in
-    let next : (c.args.start + done) % length ring ≡ c.loop-done.from = before.next c.loop-done-test.true in
+    let done = c.loop-done.done in
+    let next = c.loop-done.invariant.next c.loop-done-test.true in
     record {
       within = omega arith;
       place = omega arith;
-      next = λ more. ap (λ x. x % length ring) (omega arith) ∙ place_at_end (c.args.start + done) many c.loop-done.from
+      next = λ more. ap (λ x. x % length ring) (omega arith)
+          ∙ place_at_end (c.args.start + done) c.copy_part-done.result c.loop-done.from
           (length ring) next (omega arith) (omega arith);
       each = λ k l. ⊎_elim
-          (λ (old : k < done). c.copy_part-done.ensures.before k old ∙ before.each k old)
-          (λ (new : done ≤ k).
-          let j : ℕ = k - done in
+          (λ old. c.copy_part-done.ensures.before k old ∙ c.loop-done.invariant.each k old)
+          (λ new.
+          let j = k - done in
           let at : done + j ≡ k = omega arith in
           let place : (c.args.start + k) % length ring ≡ c.loop-done.from + j =
           ap (λ x. x % length ring) (omega arith) ∙ place_on (c.args.start + done) j c.loop-done.from (length ring) next

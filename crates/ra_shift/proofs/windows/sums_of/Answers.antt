@@ -9,21 +9,20 @@ pub returns-then-marks_of-eq0 : goal.returns-then-marks_of-eq0
 returns-then-marks_of-eq0 c = λ p are home.
     let w = c.args.world.now in
     let terms = c.find_terms.new.terms.items in
-    let table = c.filter_rows.result.now in
     let small = c.find_terms.ensures.small c.if-not-find_terms.false in
     let these = (rw c.instance-inst.ensures.value at c.find_terms.ensures.terms) p are c.if-not-find_terms.false in
-    far_sums w p c.args.first c.args.limit table c.add_up.new.sums c.add_up.new.sums terms small
-    (window_lacks w p c.args.first table terms c.filter_rows.ensures.rows these small c.requires.first)
+    far_sums w p c.args.first c.args.limit c.filter_rows.result.now c.add_up.new.sums c.add_up.new.sums terms small
+    (window_lacks w p c.args.first c.filter_rows.result.now terms c.filter_rows.ensures.rows these small
+    c.requires.first)
     (rw c.as_slice.ensures.value at c.add_up.ensures) (rw c.if-marks_of-eq0.true at c.marks_of.ensures)
 
 pub with_ways-requires-clause-small : goal.with_ways-requires-clause-small
 with_ways-requires-clause-small c = λ k below.
-    let terms = c.find_terms.new.terms.items in
     let said = rw c.as_slice.ensures.value at c.add_up.ensures in
     omega (
       arith,
       at_most c.args.limit (get_or c.add_up.new.sums k 0) _ (said k below),
-      lacking_within c.filter_rows.result.now terms (c.args.first + k),
+      lacking_within c.filter_rows.result.now c.find_terms.new.terms.items (c.args.first + k),
       c.find_terms.ensures.small c.if-not-find_terms.false,
     )
 
@@ -31,11 +30,12 @@ pub returns : goal.returns
 returns c = λ p are home.
     let w = c.args.world.now in
     let terms = c.find_terms.new.terms.items in
-    let table = c.filter_rows.result.now in
     let small = c.find_terms.ensures.small c.if-not-find_terms.false in
     let these = (rw c.instance-inst.ensures.value at c.find_terms.ensures.terms) p are c.if-not-find_terms.false in
     let have = rw c.instance-inst.ensures.value at c.with_ways.ensures in
     IfSome_then c.with_ways.result (rw home at have)
-    (λ marks with. near_sums w p c.args.first c.args.limit marks table c.add_up.new.sums c.with_ways.new.sums terms
-    small (window_lacks w p c.args.first table terms c.filter_rows.ensures.rows these small c.requires.first)
+    (λ marks with.
+    near_sums w p c.args.first c.args.limit marks c.filter_rows.result.now c.add_up.new.sums c.with_ways.new.sums terms
+    small (window_lacks w p c.args.first c.filter_rows.result.now terms c.filter_rows.ensures.rows these small
+    c.requires.first)
     (rw c.as_slice.ensures.value at c.add_up.ensures) with)

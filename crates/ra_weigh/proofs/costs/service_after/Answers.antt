@@ -1,45 +1,42 @@
 use Rattle.std.proofs.Common.{arith, ◌∙◌, refl}
 use Rattle.ra_weigh.proofs.CostLaws.{counts_of_cells, count_change, count_apart, greatest_then, service_is}
 use Rattle.ra_weigh.proofs.costs.service_after.Goals as goal
-use Rattle.ra_moves.specs.Replacing.{after_move}
 
 pub greatest_after-after-requires-clause-first : goal.greatest_after-after-requires-clause-first
 greatest_after-after-requires-clause-first c =
-    count_change _ _ _ _ 0 c.cells.ensures.sound.well_formed c.requires
-    (counts_of_cells _ c.cells.result.now _ c.cells.ensures.stand c.greatest-greatest.ensures)
+    count_change _ _ 0 c.cells.ensures.sound.well_formed c.requires
+    (counts_of_cells _ _ c.cells.ensures.stand c.greatest-greatest.ensures)
     c.counts_of-counts.ensures (omega arith)
 
 pub greatest_after-after-requires-clause-second : goal.greatest_after-after-requires-clause-second
 greatest_after-after-requires-clause-second c =
-    count_change _ _ _ _ 1 c.cells.ensures.sound.well_formed c.requires
-    (counts_of_cells _ c.cells.result.now _ c.cells.ensures.stand c.greatest-greatest.ensures)
+    count_change _ _ 1 c.cells.ensures.sound.well_formed c.requires
+    (counts_of_cells _ _ c.cells.ensures.stand c.greatest-greatest.ensures)
     c.counts_of-counts.ensures (omega arith)
 
 pub greatest_after-after-requires-clause-third : goal.greatest_after-after-requires-clause-third
 greatest_after-after-requires-clause-third c =
-    count_change _ _ _ _ 2 c.cells.ensures.sound.well_formed c.requires
-    (counts_of_cells _ c.cells.result.now _ c.cells.ensures.stand c.greatest-greatest.ensures)
+    count_change _ _ 2 c.cells.ensures.sound.well_formed c.requires
+    (counts_of_cells _ _ c.cells.ensures.stand c.greatest-greatest.ensures)
     c.counts_of-counts.ensures (omega arith)
 
 pub greatest_after-after-requires-clause-first_second : goal.greatest_after-after-requires-clause-first_second
 greatest_after-after-requires-clause-first_second c =
-    count_apart _ _ _ 0 1 c.counts_of-counts.ensures (omega arith) (omega arith)
+    count_apart _ 0 1 c.counts_of-counts.ensures (omega arith) (omega arith)
 
 pub greatest_after-after-requires-clause-first_third : goal.greatest_after-after-requires-clause-first_third
 greatest_after-after-requires-clause-first_third c =
-    count_apart _ _ _ 0 2 c.counts_of-counts.ensures (omega arith) (omega arith)
+    count_apart _ 0 2 c.counts_of-counts.ensures (omega arith) (omega arith)
 
 pub greatest_after-after-requires-clause-second_third : goal.greatest_after-after-requires-clause-second_third
 greatest_after-after-requires-clause-second_third c =
-    count_apart _ _ _ 1 2 c.counts_of-counts.ensures (omega arith) (omega arith)
+    count_apart _ 1 2 c.counts_of-counts.ensures (omega arith) (omega arith)
 
 pub returns-clause-value : goal.returns-clause-value
 returns-clause-value c =
-    let world = c.args.world.now in
-    let counts = counts_of_cells _ c.cells.result.now _ c.cells.ensures.stand
-    c.greatest-greatest.ensures in
-    service_is (after_move world c.args.mv.now.steps)
+    service_is _
     c.from.result c.from-2.result _ refl
     (c.from.ensures ∙ (rw c.instance.ensures.value at c.service_weight.ensures))
     (c.from-2.ensures ∙ c.greatest_after-after.ensures.value
-    ∙ greatest_then _ _ _ _ c.requires counts c.counts_of-counts.ensures)
+    ∙ greatest_then _ _ _ c.requires (counts_of_cells _ _ c.cells.ensures.stand
+    c.greatest-greatest.ensures) c.counts_of-counts.ensures)

@@ -36,17 +36,17 @@ overflow_sub-result c =
     let start = c.args.world.now.start in
     let step = c.step-step.result in
     let known = process_known _ _ _ c.args.j step c.requires.moves c.requires.step c.step-step.ensures in
-    let home = machine_at_read start step.process.0 c.get-home.result
-    (omega (arith, known, c.initial.ensures.sound.starts.one_each)) (rw c.initial.ensures.value at c.get-home.ensures)
-    in
     omega (
       arith,
       c.requires.before,
       c.away.ensures,
       c.away-2.ensures,
-      moved_step c.args.world.now _ c.args.j c.args.s.0 c.get-home.result.0 step.from.0 step.to.0 c.requires.moves
+      moved_step c.args.world.now _ c.args.j c.args.s.0 c.get-home.result.0 c.requires.moves
           c.requires.step (sym c.service_in.ensures.value ∙ c.if-service_in-s.false)
-          (home ∙ ap (machine_at start) (process_read _ c.args.j step c.step-step.ensures))
+          ((machine_at_read start step.process.0 c.get-home.result
+          (omega (arith, known, c.initial.ensures.sound.starts.one_each))
+          (rw c.initial.ensures.value at c.get-home.ensures))
+          ∙ ap (machine_at start) (process_read _ c.args.j step c.step-step.ensures))
           (from_read _ c.args.j step c.step-step.ensures) (to_read _ c.args.j step c.step-step.ensures),
     )
 
@@ -55,16 +55,16 @@ returns c =
     let start = c.args.world.now.start in
     let step = c.step-step.result in
     let known = process_known _ _ _ c.args.j step c.requires.moves c.requires.step c.step-step.ensures in
-    let home = machine_at_read start step.process.0 c.get-home.result
-    (omega (arith, known, c.initial.ensures.sound.starts.one_each)) (rw c.initial.ensures.value at c.get-home.ensures)
-    in
     omega (
       arith,
       c.requires.before,
       c.away.ensures,
       c.away-2.ensures,
-      moved_step c.args.world.now _ c.args.j c.args.s.0 c.get-home.result.0 step.from.0 step.to.0 c.requires.moves
+      moved_step c.args.world.now _ c.args.j c.args.s.0 c.get-home.result.0 c.requires.moves
           c.requires.step (sym c.service_in.ensures.value ∙ c.if-service_in-s.false)
-          (home ∙ ap (machine_at start) (process_read _ c.args.j step c.step-step.ensures))
+          ((machine_at_read start step.process.0 c.get-home.result
+          (omega (arith, known, c.initial.ensures.sound.starts.one_each))
+          (rw c.initial.ensures.value at c.get-home.ensures))
+          ∙ ap (machine_at start) (process_read _ c.args.j step c.step-step.ensures))
           (from_read _ c.args.j step c.step-step.ensures) (to_read _ c.args.j step c.step-step.ensures),
     )

@@ -24,33 +24,32 @@ cost_now-requires c = record {
 pub returns-then-is_named_before-clause-added : goal.returns-then-is_named_before-clause-added
 returns-then-is_named_before-clause-added c =
     let e = end_in c.args.mv.now.steps in
-    let before = ap (is_named c.args.j e) (sym c.end_of-m.ensures) ∙ sym c.is_named_before.ensures
-    ∙ c.if-is_named_before.true in
     sym (fresh_again e
     (row_cost c.args.world.now.tables
-    (applied c.args.world.now.here c.args.mv.now.steps)) c.args.j before)
+    (applied c.args.world.now.here c.args.mv.now.steps)) c.args.j
+    (ap (is_named c.args.j e) (sym c.end_of-m.ensures) ∙ sym c.is_named_before.ensures
+    ∙ c.if-is_named_before.true))
 
 pub returns-then-is_named_before-clause-taken : goal.returns-then-is_named_before-clause-taken
 returns-then-is_named_before-clause-taken c =
     let e = end_in c.args.mv.now.steps in
-    let before = ap (is_named c.args.j e) (sym c.end_of-m.ensures) ∙ sym c.is_named_before.ensures
-    ∙ c.if-is_named_before.true in
     sym (fresh_again e (row_cost c.args.world.now.tables c.args.world.now.here) c.args.j
-    before)
+    (ap (is_named c.args.j e) (sym c.end_of-m.ensures) ∙ sym c.is_named_before.ensures
+    ∙ c.if-is_named_before.true))
 
 pub returns-clause-added : goal.returns-clause-added
 returns-clause-added c =
     let e = end_in c.args.mv.now.steps in
     let f = row_cost c.args.world.now.tables
     (applied c.args.world.now.here c.args.mv.now.steps) in
-    let new = ap (is_named c.args.j e) (sym c.end_of-m.ensures) ∙ sym c.is_named_before.ensures
-    ∙ c.if-is_named_before.false in
-    c.cost_after.ensures.value ∙ ap f c.end_of-m.ensures ∙ sym (fresh_new e f c.args.j new)
+    c.cost_after.ensures.value ∙ ap f c.end_of-m.ensures
+    ∙ sym (fresh_new e f c.args.j (ap (is_named c.args.j e) (sym c.end_of-m.ensures) ∙ sym c.is_named_before.ensures
+    ∙ c.if-is_named_before.false))
 
 pub returns-clause-taken : goal.returns-clause-taken
 returns-clause-taken c =
     let e = end_in c.args.mv.now.steps in
     let f = row_cost c.args.world.now.tables c.args.world.now.here in
-    let new = ap (is_named c.args.j e) (sym c.end_of-m.ensures) ∙ sym c.is_named_before.ensures
-    ∙ c.if-is_named_before.false in
-    c.cost_now.ensures.value ∙ ap f c.end_of-m.ensures ∙ sym (fresh_new e f c.args.j new)
+    c.cost_now.ensures.value ∙ ap f c.end_of-m.ensures
+    ∙ sym (fresh_new e f c.args.j (ap (is_named c.args.j e) (sym c.end_of-m.ensures) ∙ sym c.is_named_before.ensures
+    ∙ c.if-is_named_before.false))

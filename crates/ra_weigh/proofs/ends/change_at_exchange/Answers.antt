@@ -1,7 +1,5 @@
 -- The two machines are all ends.
 use Rattle.std.proofs.Common.{arith}
-use Rattle.ra_moves.specs.Replacing.{applied}
-use Rattle.ra_weigh.specs.PlaceCosts.{row_cost}
 use Rattle.ra_weigh.proofs.MoveLemmas.{from_known, to_known}
 use Rattle.ra_weigh.proofs.ExchangeLaws.{first_read, second_read, cost_exchanged}
 use Rattle.ra_weigh.proofs.ends.change_at_exchange.Goals as goal
@@ -36,11 +34,10 @@ pub returns : goal.returns
 returns c =
     let i = c.args.world.now.tables in
     let a = c.args.world.now.here in
-    let steps = c.args.mv.now.steps in
     record {
-      added = cost_exchanged steps (row_cost i (applied a steps)) c.step-step.result _ _ c.requires.exchange
+      added = cost_exchanged _ c.requires.exchange
           c.step-step.ensures c.cost_exchanged-first.ensures.value c.cost_exchanged-second.ensures.value;
-      taken = cost_exchanged steps (row_cost i a) c.step-step.result _ _ c.requires.exchange c.step-step.ensures
+      taken = cost_exchanged _ c.requires.exchange c.step-step.ensures
           c.cost_now.ensures.value c.cost_now-2.ensures.value;
       added_few = omega (arith, c.cost_exchanged-first.ensures.few, c.cost_exchanged-second.ensures.few);
       taken_few = omega (arith, c.cost_now.ensures.few, c.cost_now-2.ensures.few);

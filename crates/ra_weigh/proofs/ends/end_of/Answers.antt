@@ -6,9 +6,9 @@ step-requires-else-j-n c =
     end_within c.args.mv.now.steps c.args.j c.steps-n.result c.requires c.steps-n.ensures.value c.if-j-n.false
 
 pub returns-then-j-n : goal.returns-then-j-n
-returns-then-j-n c = end_left_read c.args.mv.now.steps c.args.j c.steps-n.result c.step.result c.steps-n.ensures.value
+returns-then-j-n c = end_left_read c.args.mv.now.steps c.args.j c.steps-n.ensures.value
     c.if-j-n.true c.step.ensures
 
 pub returns-else-j-n : goal.returns-else-j-n
-returns-else-j-n c = end_entered_read c.args.mv.now.steps c.args.j c.steps-n.result c.step-else-j-n.result
+returns-else-j-n c = end_entered_read c.args.mv.now.steps c.args.j
     c.steps-n.ensures.value c.if-j-n.false c.step-else-j-n.ensures

@@ -18,7 +18,7 @@ has_room_exchanged-requires-clause-exchanged c =
 pub returns-then-not-has_room_exchanged : goal.returns-then-not-has_room_exchanged
 returns-then-not-has_room_exchanged c =
     told_false (no_room_exchanged c.args.world.now.tables
-    (applied c.args.world.now.here c.args.mv.now.steps) c.args.mv.now.steps c.step-step.result
+    (applied c.args.world.now.here c.args.mv.now.steps)
     c.requires.exchange c.step-step.ensures
     (λ fits. both_ways c.has_room_exchanged.result c.if-not-has_room_exchanged.true
     (c.has_room_exchanged.ensures.1 fits)))
@@ -34,6 +34,6 @@ has_room_exchanged-requires-2-clause-exchanged c =
 pub returns : goal.returns
 returns c =
     room_exchanged c.args.world.now.tables
-    (applied c.args.world.now.here c.args.mv.now.steps) c.args.mv.now.steps c.step-step.result _
+    _ _
     c.requires.exchange c.step-step.ensures (c.has_room_exchanged.ensures.0 c.if-not-has_room_exchanged.false)
     c.has_room_exchanged-2.ensures

@@ -1,13 +1,12 @@
 use Rattle.std.proofs.Common.{◌≡◌, length, arith}
 use Rattle.std.proofs.lemmas.Bool.{both_ways}
-use Rattle.ra_moves.specs.Replacing.{applied}
 use Rattle.ra_weigh.proofs.MoveLemmas.{to_known, to_read}
 use Rattle.ra_weigh.proofs.RoomLemmas.{told_true, told_false, room_none, room_more, no_room}
 use Rattle.ra_weigh.proofs.room.has_room.Goals as goal
 
 pub loop-j-init : goal.loop-j-init
 loop-j-init c =
-    room_none c.args.world.now.tables (applied c.args.world.now.here c.args.mv.now.steps)
+    room_none c.args.world.now.tables _
     c.args.mv.now.steps
 
 pub machine_has_room-requires-clause-machine : goal.machine_has_room-requires-clause-machine

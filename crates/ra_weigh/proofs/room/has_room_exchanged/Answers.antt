@@ -12,11 +12,10 @@ overflow_sub-row c =
     let i = c.args.world.now in
     let below : c.loop-r.r < resource_count i.tables =
     omega (arith, c.loop-r-test.true, rw c.instance-inst.ensures.value at c.resources-width.ensures) in
-    let flow = exchanged_now i.tables c.args.world.now.here c.args.mv.now.steps c.args.m.0 c.args.comes
-    c.args.goes c.loop-r.r c.resources-width.result c.args.required.now c.usage_row-row.result.now
+    let flow = exchanged_now c.loop-r.r c.resources-width.result c.usage_row-row.result.now
     c.required_row-come.result.now c.required_row-gone.result.now c.requires.moves c.requires.exchanged
     c.requires.required (rw c.instance-inst.ensures.value at c.resources-width.ensures) below
-    (used_now i.tables _ _ _ c.loop-r.r _ c.rows.ensures.instance
+    (used_now i.tables c.loop-r.r c.rows.ensures.instance
     (c.usage_row-row.ensures.values _ c.rows.ensures.stand) below)
     c.required_row-come.ensures.each c.required_row-gone.ensures.each in
     omega (arith, flow, c.from-came.ensures, c.from-went.ensures)
@@ -26,11 +25,10 @@ returns-then-most-row c =
     let i = c.args.world.now in
     let below : c.loop-r.r < resource_count i.tables =
     omega (arith, c.loop-r-test.true, rw c.instance-inst.ensures.value at c.resources-width.ensures) in
-    let flow = exchanged_now i.tables c.args.world.now.here c.args.mv.now.steps c.args.m.0 c.args.comes
-    c.args.goes c.loop-r.r c.resources-width.result c.args.required.now c.usage_row-row.result.now
+    let flow = exchanged_now c.loop-r.r c.resources-width.result c.usage_row-row.result.now
     c.required_row-come.result.now c.required_row-gone.result.now c.requires.moves c.requires.exchanged
     c.requires.required (rw c.instance-inst.ensures.value at c.resources-width.ensures) below
-    (used_now i.tables _ _ _ c.loop-r.r _ c.rows.ensures.instance
+    (used_now i.tables c.loop-r.r c.rows.ensures.instance
     (c.usage_row-row.ensures.values _ c.rows.ensures.stand) below)
     c.required_row-come.ensures.each c.required_row-gone.ensures.each in
     told_false (not_within i.tables c.args.m.0 (resource_count i.tables) c.loop-r.r c.from-most.result _ below
@@ -42,21 +40,20 @@ loop-r-preserved c =
     let i = c.args.world.now in
     let below : c.loop-r.r < resource_count i.tables =
     omega (arith, c.loop-r-test.true, rw c.instance-inst.ensures.value at c.resources-width.ensures) in
-    let flow = exchanged_now i.tables c.args.world.now.here c.args.mv.now.steps c.args.m.0 c.args.comes
-    c.args.goes c.loop-r.r c.resources-width.result c.args.required.now c.usage_row-row.result.now
+    let flow = exchanged_now c.loop-r.r c.resources-width.result c.usage_row-row.result.now
     c.required_row-come.result.now c.required_row-gone.result.now c.requires.moves c.requires.exchanged
     c.requires.required (rw c.instance-inst.ensures.value at c.resources-width.ensures) below
-    (used_now i.tables _ _ _ c.loop-r.r _ c.rows.ensures.instance
+    (used_now i.tables c.loop-r.r c.rows.ensures.instance
     (c.usage_row-row.ensures.values _ c.rows.ensures.stand) below)
     c.required_row-come.ensures.each c.required_row-gone.ensures.each in
-    within_more i.tables c.args.m.0 c.loop-r.r c.from-most.result _ c.loop-r.invariant
+    within_more i.tables c.args.m.0 c.loop-r.r c.from-most.result c.loop-r.invariant
     (c.from-most.ensures ∙ rw c.instance-inst.ensures.value at c.capacity.ensures)
     (omega (arith, flow, c.from-came.ensures, c.from-went.ensures, c.if-most-row.false))
 
 pub returns : goal.returns
 returns c =
     let tables = c.args.world.now.tables in
-    told_true (within_all tables c.args.m.0 (resource_count tables) c.loop-r.r _
+    told_true (within_all tables c.args.m.0 (resource_count tables)
     (omega (
       arith,
       c.loop-r-test.false,

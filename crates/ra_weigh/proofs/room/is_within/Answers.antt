@@ -15,11 +15,11 @@ returns-then-most-row c =
 
 pub loop-r-preserved : goal.loop-r-preserved
 loop-r-preserved c =
-    within_more c.args.inst.now.tables c.args.m.0 c.loop-r.r c.from-most.result _ c.loop-r.invariant
+    within_more c.args.inst.now.tables c.args.m.0 c.loop-r.r c.from-most.result c.loop-r.invariant
     (c.from-most.ensures ∙ c.capacity.ensures) (omega (arith, c.if-most-row.false))
 
 pub returns : goal.returns
 returns c =
     let tables = c.args.inst.now.tables in
-    told_true (within_all tables c.args.m.0 (resource_count tables) c.loop-r.r _
+    told_true (within_all tables c.args.m.0 (resource_count tables)
     (omega (arith, c.loop-r-test.false, c.loop-r.auto.r-end, c.resources-r-end.ensures)) c.loop-r.invariant)

@@ -14,7 +14,7 @@ follow_step-requires-clause-able c =
     let within : c.loop-j.j < length c.args.mv.now.steps = omega arith in
     can_follow i.tables _ _ c.loop-j.j _ _ _ _ c.instance.ensures.sound.well_formed c.instance.ensures.sound.small
     c.requires.moves within c.step.ensures
-    (required_from i.tables _ _ _ _ _ _ c.requires.required within
+    (required_from i.tables _ _ _ c.requires.required within
     (rw c.instance.ensures.value at c.resources-width.ensures)
     c.required_row.ensures.each) c.loop-j.invariant.width c.loop-j.invariant.now
 
@@ -25,7 +25,7 @@ loop-j-preserved c =
     record {
       width = omega (arith, c.follow_step.ensures.same_length, c.loop-j.invariant.width);
       now = row_next i.tables _ _ c.loop-j.j _ _ _ _ _ c.requires.moves within c.step.ensures
-          (required_from i.tables _ _ _ _ _ _ c.requires.required within
+          (required_from i.tables _ _ _ c.requires.required within
           (rw c.instance.ensures.value at c.resources-width.ensures) c.required_row.ensures.each)
           c.loop-j.invariant.width c.loop-j.invariant.now c.follow_step.ensures;
     }

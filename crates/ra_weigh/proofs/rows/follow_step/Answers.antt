@@ -3,9 +3,8 @@ use Rattle.ra_weigh.proofs.RowLemmas.{enough_left, followed}
 use Rattle.ra_weigh.proofs.rows.follow_step.Goals as goal
 
 pub leave_row-requires-clause-enough : goal.leave_row-requires-clause-enough
-leave_row-requires-clause-enough c = enough_left c.args.step.from.0 c.args.step.to.0 c.args.m.0 c.args.row.now
-    c.enter_row.new.row c.args.amounts.now c.requires.able c.enter_row.ensures
+leave_row-requires-clause-enough c = enough_left c.args.amounts.now c.requires.able c.enter_row.ensures
 
 pub returns : goal.returns
-returns c = followed c.args.step.from.0 c.args.step.to.0 c.args.m.0 c.args.row.now c.enter_row.new.row
+returns c = followed
     c.leave_row.new.row c.args.amounts.now c.enter_row.ensures c.leave_row.ensures

@@ -6,7 +6,7 @@ take_row-requires-clause-enough c r within =
     enough_here c.args.at.0 c.args.m.0 r c.args.row.now c.args.amounts.now c.if-at-m.true (c.requires.enough r within)
 
 pub returns-then-at-m : goal.returns-then-at-m
-returns-then-at-m c = more_here _ _ _ _ _ c.if-at-m.true c.take_row.ensures
+returns-then-at-m c = more_here _ _ c.if-at-m.true c.take_row.ensures
 
 pub returns-else-at-m : goal.returns-else-at-m
 returns-else-at-m c = more_elsewhere _ _ _ _ c.if-at-m.false

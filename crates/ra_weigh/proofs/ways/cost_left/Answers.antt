@@ -16,7 +16,7 @@ pub loop-j-preserved : goal.loop-j-preserved
 loop-j-preserved c =
     let step = c.step-step.result in
     record {
-      value = place_gone _ _ _ c.loop-j.j _ _ _ _ c.loop-j.invariant.value
+      value = place_gone _ _ _ c.loop-j.j _ _ _ c.loop-j.invariant.value
           c.place_cost-cost.ensures.value
           (process_read _ _ step c.step-step.ensures) (from_read _ _ step c.step-step.ensures);
       few = omega (arith, c.loop-j.invariant.few, c.place_cost-cost.ensures.few);

@@ -1,5 +1,5 @@
 -- The two resources, the target and the weight are those of the objective.
-use Rattle.std.proofs.Common.{◌∙◌, ◌*◌, ℕ, ap, slice_index}
+use Rattle.std.proofs.Common.{◌∙◌, ◌*◌, ℕ, ap}
 use Rattle.ra_world.proofs.CostLaws.{balance_share_from, first_within, second_within}
 use Rattle.ra_world.proofs.costs.balance_share.Goals as goal
 
@@ -13,8 +13,8 @@ row_left-second-requires-clause-resource c = second_within c.args.inst.now.table
 
 pub returns-clause-value : goal.returns-clause-value
 returns-clause-value c =
-    let share = balance_share_from c.args.inst.now.tables c.args.m.0 (slice_index c.args.row.now) c.args.b
+    ap (λ (x : ℕ). c.from-2.result * x) (c.from-3.ensures ∙ c.saturating_sub-lack.ensures)
+    ∙ (balance_share_from c.args.inst.now.tables c.args.m.0 _ c.args.b
     c.balance-objective.result c.row_left-first.result c.row_left-second.result c.from.result c.from-2.result
     c.balance-objective.ensures c.row_left-first.ensures.value c.row_left-second.ensures.value c.from.ensures
-    c.from-2.ensures in
-    ap (λ (x : ℕ). c.from-2.result * x) (c.from-3.ensures ∙ c.saturating_sub-lack.ensures) ∙ share
+    c.from-2.ensures)

@@ -16,7 +16,6 @@ row_left-second-requires-clause-resource c = second_within c.args.inst.now.table
 pub returns : goal.returns
 returns c = λ (a : List Machine) usage.
     c.capped_excess.ensures ∙ ap (λ x. min x (2 ^ 30))
-    (second_from c.args.inst.now.tables a c.args.m.0 c.args.b c.args.row.now c.balance-objective.result
-    c.row_left-first.result c.row_left-second.result c.from.result c.args.inst.now.well_formed
+    (second_from c.args.inst.now.tables a c.args.b c.args.inst.now.well_formed
     c.requires.objective usage c.balance-objective.ensures c.row_left-first.ensures.value
     c.row_left-second.ensures.value c.from.ensures)

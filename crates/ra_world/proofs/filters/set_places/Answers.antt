@@ -17,7 +17,6 @@ loop-place-init c = record {
 pub set-requires : goal.set-requires
 set-requires c =
     let i = c.args.inst.now.tables in
-    let many : c.machines-machines.result ≡ machine_count i = c.machines-machines.ensures in
     let within : c.args.j * (c.machines-machines.result + 63) + c.loop-place.place < filter_row_count i
     * (c.machines-machines.result + 63) =
     place_within c.args.j c.loop-place.place (filter_row_count i) (c.machines-machines.result + 63) c.requires.row
@@ -25,7 +24,7 @@ set-requires c =
     let grid : length c.loop-place.table.items ≡ filter_row_count i * filter_width i = c.loop-place.invariant.set.many
     ∙ c.requires.grid in
     let wide : filter_row_count i * filter_width i ≡ filter_row_count i * (c.machines-machines.result + 63) =
-    ap (λ n. filter_row_count i * (n + 63)) (sym many) in
+    ap (λ n. filter_row_count i * (n + 63)) (sym c.machines-machines.ensures) in
     omega (arith, within, grid, wide)
 
 pub loop-place-preserved : goal.loop-place-preserved
@@ -35,17 +34,16 @@ loop-place-preserved c =
     let place : ℕ = c.loop-place.place in
     let old : List ℕ = c.args.table.now.items in
     let mid : List ℕ = c.loop-place.table.items in
-    let next = next_place i c.args.m.0 c.args.j place c.args.number old mid c.requires.machine c.requires.row
-    (omega (arith, c.loop-place-test.true)) c.loop-place.invariant.at
-    (c.loop-place.invariant.set.many ∙ c.requires.grid) c.loop-place.invariant.set in
-    let is : c.set.new.self.items ≡ set mid (c.args.j * filter_width i + place) c.args.number =
-    c.set.ensures.items ∙ ap (λ n. set mid (c.args.j * (n + 63) + place) c.args.number) many in
     record {
       at = ap (λ n. (place + n) % machine_count i) many ∙ add-mod_right place (machine_count i)
           ∙ c.loop-place.invariant.at;
       set = subst (λ n. ArePlacesSet i c.args.m.0 c.args.j (place + n) c.args.number old c.set.new.self.items)
           (sym many)
-          (subst (ArePlacesSet i c.args.m.0 c.args.j (place + machine_count i) c.args.number old) (sym is) next);
+          (subst (ArePlacesSet i c.args.m.0 c.args.j (place + machine_count i) c.args.number old)
+          (sym (c.set.ensures.items ∙ ap (λ n. set mid (c.args.j * (n + 63) + place) c.args.number) many))
+          (next_place i c.args.m.0 c.args.j place c.args.number old mid c.requires.machine c.requires.row
+          (omega (arith, c.loop-place-test.true)) c.loop-place.invariant.at
+          (c.loop-place.invariant.set.many ∙ c.requires.grid) c.loop-place.invariant.set));
     }
 
 pub returns : goal.returns

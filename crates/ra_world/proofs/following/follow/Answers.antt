@@ -10,33 +10,33 @@ loop-j-init g c = record { keeps = c.requires.keeps; made = sym (after_none _ _)
 
 pub follow_step-requires-clause-process : goal.follow_step-requires-clause-process
 follow_step-requires-clause-process g c =
-    (step_of c.args.inst.now.tables c.args.kept.now.assignment.items c.loop-j.kept.assignment.items c.args.mv.now.steps
-    c.loop-j.j c.step.result c.requires.keeps.stand.fits c.requires.moves
+    (step_of
+    c.loop-j.j c.requires.keeps.stand.fits c.requires.moves
     (omega (arith, c.steps-j-end.ensures.value)) c.loop-j.invariant.made c.step.ensures).known
 
 pub follow_step-requires-clause-to : goal.follow_step-requires-clause-to
 follow_step-requires-clause-to g c =
-    (step_of c.args.inst.now.tables c.args.kept.now.assignment.items c.loop-j.kept.assignment.items c.args.mv.now.steps
-    c.loop-j.j c.step.result c.requires.keeps.stand.fits c.requires.moves
+    (step_of
+    c.loop-j.j c.requires.keeps.stand.fits c.requires.moves
     (omega (arith, c.steps-j-end.ensures.value)) c.loop-j.invariant.made c.step.ensures).reach
 
 pub follow_step-requires-clause-apart : goal.follow_step-requires-clause-apart
 follow_step-requires-clause-apart g c =
-    (step_of c.args.inst.now.tables c.args.kept.now.assignment.items c.loop-j.kept.assignment.items c.args.mv.now.steps
-    c.loop-j.j c.step.result c.requires.keeps.stand.fits c.requires.moves
+    (step_of
+    c.loop-j.j c.requires.keeps.stand.fits c.requires.moves
     (omega (arith, c.steps-j-end.ensures.value)) c.loop-j.invariant.made c.step.ensures).apart
 
 pub follow_step-requires-clause-at_from : goal.follow_step-requires-clause-at_from
 follow_step-requires-clause-at_from g c =
-    (step_of c.args.inst.now.tables c.args.kept.now.assignment.items c.loop-j.kept.assignment.items c.args.mv.now.steps
-    c.loop-j.j c.step.result c.requires.keeps.stand.fits c.requires.moves
+    (step_of
+    c.loop-j.j c.requires.keeps.stand.fits c.requires.moves
     (omega (arith, c.steps-j-end.ensures.value)) c.loop-j.invariant.made c.step.ensures).at_from
 
 pub loop-j-preserved : goal.loop-j-preserved
 loop-j-preserved g c = record {
   keeps = c.follow_step.ensures.keeps;
   made = c.follow_step.ensures.assignment ∙ applied_more _ _ _ _ _ c.step.ensures c.loop-j.invariant.made;
-  counted = counted_more _ c.loop-j.j _ _ _ c.loop-j.invariant.counted c.follow_step.ensures.counted;
+  counted = counted_more _ c.loop-j.j _ c.loop-j.invariant.counted c.follow_step.ensures.counted;
 }
 
 pub returns-clause-assignment : goal.returns-clause-assignment

@@ -74,39 +74,38 @@ machine_after-machine-requires-clause-from g c =
 
 pub renew_loads-load-requires-clause-sum : goal.renew_loads-load-requires-clause-sum
 renew_loads-load-requires-clause-sum g c =
-    load_sum c.args.kept.now c.args.inst.now.tables c.args.start.now.items c.requires.keeps
+    load_sum c.requires.keeps
 
 pub renew_loads-load-requires-clause-fits : goal.renew_loads-load-requires-clause-fits
-renew_loads-load-requires-clause-fits g c = load_fits c.args.kept.now c.args.inst.now.tables c.args.start.now.items
-    c.args.inst.now.well_formed c.args.inst.now.small c.requires.keeps
+renew_loads-load-requires-clause-fits g c = load_fits c.args.inst.now.well_formed c.args.inst.now.small c.requires.keeps
 
 pub renew_balances-balance-requires-clause-sum : goal.renew_balances-balance-requires-clause-sum
 renew_balances-balance-requires-clause-sum g c =
-    balance_sum c.args.kept.now c.args.inst.now.tables c.args.start.now.items c.requires.keeps
+    balance_sum c.requires.keeps
 
 pub renew_balances-balance-requires-clause-fits : goal.renew_balances-balance-requires-clause-fits
 renew_balances-balance-requires-clause-fits g c =
-    balance_fits c.args.kept.now c.args.inst.now.tables c.args.start.now.items c.args.inst.now.well_formed
+    balance_fits c.args.inst.now.well_formed
     c.args.inst.now.small c.requires.keeps
 
 pub process_after-process-requires-clause-fits : goal.process_after-process-requires-clause-fits
 process_after-process-requires-clause-fits g c =
-    process_fits c.args.kept.now c.args.inst.now.tables c.args.start.now.items c.args.inst.now.well_formed
+    process_fits c.args.inst.now.well_formed
     c.args.inst.now.small c.requires.keeps
 
 pub process_after-process-requires-clause-counted : goal.process_after-process-requires-clause-counted
 process_after-process-requires-clause-counted g c =
-    process_part c.args.kept.now c.args.inst.now.tables c.args.start.now.items c.args.step.process.0 c.args.step.from
+    process_part c.args.step.process.0 c.args.step.from
     c.requires.keeps c.requires.process c.requires.at_from
 
 pub machine_after-machine-requires-clause-fits : goal.machine_after-machine-requires-clause-fits
 machine_after-machine-requires-clause-fits g c =
-    machine_fits c.args.kept.now c.args.inst.now.tables c.args.start.now.items c.args.inst.now.well_formed
+    machine_fits c.args.inst.now.well_formed
     c.args.inst.now.small c.requires.keeps
 
 pub machine_after-machine-requires-clause-counted : goal.machine_after-machine-requires-clause-counted
 machine_after-machine-requires-clause-counted g c =
-    machine_part c.args.kept.now c.args.inst.now.tables c.args.start.now.items c.args.step.process.0 c.args.step.from
+    machine_part c.args.step.process.0 c.args.step.from
     c.requires.keeps c.requires.process c.requires.at_from
 
 pub summed-kept-requires : goal.summed-kept-requires
@@ -117,18 +116,16 @@ summed-kept-requires g c =
     let a = kept.assignment.items in
     let keeps = c.requires.keeps in
     let p = c.args.step.process.0 in
-    let from = c.args.step.from in
     let to = c.args.step.to in
     let b = set a p to in
     let rows_stand = c.shift.ensures.stands a keeps.stand.rows c.requires.at_from in
-    let cells_stand = c.change.ensures.stand i a0 a keeps.stand.cells c.requires.at_from in
-    let loads_are = c.renew_loads-load.ensures.costs b rows_stand in
-    let balances_are = c.renew_balances-balance.ensures.costs b rows_stand in
-    let parts = all_parts kept i a0 p from to _ _ _ _ _ _ _ c.args.inst.now.well_formed keeps c.requires.process
-    c.requires.at_from c.requires.to loads_are c.renew_loads-load.ensures.sum balances_are
+    let parts = all_parts p c.args.step.from to _ _ c.args.inst.now.well_formed keeps c.requires.process
+    c.requires.at_from c.requires.to (c.renew_loads-load.ensures.costs b rows_stand) c.renew_loads-load.ensures.sum
+    (c.renew_balances-balance.ensures.costs b rows_stand)
     c.renew_balances-balance.ensures.sum c.process_after-process.ensures
-    (c.service_cost-service.ensures a0 b cells_stand) c.machine_after-machine.ensures in
-    parts_small i a0 b _ _ _ _ _ c.args.inst.now.well_formed c.args.inst.now.small parts
+    (c.service_cost-service.ensures a0 b
+    (c.change.ensures.stand i a0 a keeps.stand.cells c.requires.at_from)) c.machine_after-machine.ensures in
+    parts_small c.args.inst.now.well_formed c.args.inst.now.small parts
 
 pub returns-clause-keeps : goal.returns-clause-keeps
 returns-clause-keeps g c =
@@ -145,15 +142,15 @@ returns-clause-keeps g c =
     let cells_stand = c.change.ensures.stand i a0 a keeps.stand.cells c.requires.at_from in
     let loads_are = c.renew_loads-load.ensures.costs b rows_stand in
     let balances_are = c.renew_balances-balance.ensures.costs b rows_stand in
-    let parts = all_parts kept i a0 p from to _ _ _ _ _ _ _ c.args.inst.now.well_formed keeps c.requires.process
+    let parts = all_parts p from to _ _ c.args.inst.now.well_formed keeps c.requires.process
     c.requires.at_from c.requires.to loads_are c.renew_loads-load.ensures.sum balances_are
     c.renew_balances-balance.ensures.sum c.process_after-process.ensures
     (c.service_cost-service.ensures a0 b cells_stand) c.machine_after-machine.ensures in
-    keeps_on _ i a0 b c.set.ensures.items (fits_set i a p to keeps.stand.fits c.requires.process c.requires.to)
+    keeps_on c.set.ensures.items (fits_set i a p to keeps.stand.fits c.requires.process c.requires.to)
     (c.shift.ensures.tables ∙ keeps.stand.instance) (c.shift.ensures.start ∙ keeps.stand.start) rows_stand cells_stand
-    (loads_renewed kept i a0 p from to _ keeps c.requires.process c.requires.at_from c.requires.to loads_are)
-    (balances_renewed kept i a0 p from to _ c.args.inst.now.well_formed keeps c.requires.process c.requires.at_from
+    (loads_renewed p from to keeps c.requires.process c.requires.at_from c.requires.to loads_are)
+    (balances_renewed p from to c.args.inst.now.well_formed keeps c.requires.process c.requires.at_from
     c.requires.to balances_are)
     (c.renew_filters.ensures a b rows_stand
     (alike_elsewhere i a p from.0 to keeps.stand.fits c.requires.process c.requires.at_from) keeps.filters)
-    (parts_summed i a0 b _ _ _ _ _ _ parts c.summed-kept.ensures)
+    (parts_summed _ parts c.summed-kept.ensures)

@@ -5,5 +5,5 @@ use Rattle.ra_world.proofs.RenewalLaws.{balance_here}
 use Rattle.ra_world.proofs.renewal.balance_of.Goals as goal
 
 pub returns-clause-value : goal.returns-clause-value
-returns-clause-value c = λ (a : List Machine) stand. balance_here c.args.inst.now.tables _ a c.args.m.0 _ _
+returns-clause-value c = λ (a : List Machine) stand. balance_here
     c.args.inst.now.well_formed c.requires.instance (c.usage_row.ensures.values a stand) c.row_balance.ensures.value

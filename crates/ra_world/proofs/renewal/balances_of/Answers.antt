@@ -1,7 +1,6 @@
 -- Each machine adds its cost.
 use Rattle.std.proofs.Common.{List, ℕ, arith, ◌≡◌, ◌∙◌, ap, length}
 use Rattle.ra_base.specs.declared.ids.Machine.{Machine}
-use Rattle.ra_model.specs.MachineCosts.{machine_balance}
 use Rattle.ra_world.proofs.RenewalLaws.{one_longer, pushed, no_costs}
 use Rattle.ra_model.specs.Numbers.{machine_count}
 use Rattle.ra_world.proofs.renewal.balances_of.Goals as goal
@@ -10,15 +9,15 @@ pub loop-m-init : goal.loop-m-init
 loop-m-init c = record {
   room = omega (arith, c.in_ok-costs.ensures.room, c.machines.ensures);
   so_far = ap (length {A = ℕ}) c.in_ok-costs.ensures.items;
-  value = λ (a : List Machine) stand. no_costs _ (machine_balance c.args.inst.now.tables a) c.in_ok-costs.ensures.items;
+  value = λ (a : List Machine) stand. no_costs _ c.in_ok-costs.ensures.items;
 }
 
 pub loop-m-preserved : goal.loop-m-preserved
 loop-m-preserved c = record {
   room = c.push.ensures.room ∙ c.loop-m.invariant.room;
-  so_far = one_longer _ _ _ _ c.push.ensures.items c.loop-m.invariant.so_far;
+  so_far = one_longer _ _ c.push.ensures.items c.loop-m.invariant.so_far;
   value = λ (a : List Machine) stand.
-      pushed _ _ _ _ _ c.push.ensures.items (c.loop-m.invariant.value a stand) (c.balance_of.ensures.value a stand);
+      pushed c.push.ensures.items (c.loop-m.invariant.value a stand) (c.balance_of.ensures.value a stand);
 }
 
 pub push-requires : goal.push-requires

@@ -8,14 +8,14 @@ pub loop-m-init : goal.loop-m-init
 loop-m-init c = record {
   room = omega (arith, c.in_ok-stays.ensures.room, c.machines.ensures);
   so_far = ap (length {A = ℕ}) c.in_ok-stays.ensures.items;
-  value = no_costs _ (λ m. way_cost_of c.args.inst.now.tables m m) c.in_ok-stays.ensures.items;
+  value = no_costs (λ m. way_cost_of c.args.inst.now.tables m m) c.in_ok-stays.ensures.items;
 }
 
 pub loop-m-preserved : goal.loop-m-preserved
 loop-m-preserved c = record {
   room = c.push.ensures.room ∙ c.loop-m.invariant.room;
-  so_far = one_longer _ _ _ _ c.push.ensures.items c.loop-m.invariant.so_far;
-  value = pushed _ _ _ _ _ c.push.ensures.items c.loop-m.invariant.value c.move_cost.ensures;
+  so_far = one_longer _ _ c.push.ensures.items c.loop-m.invariant.so_far;
+  value = pushed c.push.ensures.items c.loop-m.invariant.value c.move_cost.ensures;
 }
 
 pub push-requires : goal.push-requires

@@ -16,5 +16,5 @@ loop-j-preserved g c = record {
   required = required_next c.args.inst.now.tables c.args.mv.now.steps c.loop-j.j _ _ _ c.args.inst.now.well_formed
       c.loop-j.invariant.required (process_read c.args.mv.now.steps c.loop-j.j c.step.result c.step.ensures)
       c.read_row.ensures.row;
-  counted = counted_more _ _ _ _ _ c.loop-j.invariant.counted c.read_row.ensures.counted;
+  counted = counted_more _ _ _ c.loop-j.invariant.counted c.read_row.ensures.counted;
 }

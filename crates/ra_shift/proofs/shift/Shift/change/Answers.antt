@@ -47,10 +47,10 @@ unfolding cost_of
 returns c =
     let shift = c.args.self.now in
     let w = shift.world.now in
-    let start = start_of w shift.process.0 c.args.to.0
-    (at_of w shift.process.0 c.args.to.0 shift.sound shift.process_known c.requires.machine) c.requires.apart in
     let change = change_is w shift.process.0 c.args.to.0
-    shift.without shift.before c.cost_with-with.result c.way_cost-way.result _ start shift.without_is shift.before_is
+    shift.without shift.before c.cost_with-with.result c.way_cost-way.result _ (start_of w shift.process.0 c.args.to.0
+    (at_of w shift.process.0 c.args.to.0 shift.sound shift.process_known c.requires.machine) c.requires.apart)
+    shift.without_is shift.before_is
     c.cost_with-with.ensures.value c.way_cost-way.ensures.value
     (ap₂ (λ x y. x + y) c.machine_load.ensures.value c.machine_balance.ensures.value) in
     to_z-of_z w128 c.difference.result c.difference.ensures.fits ∙ c.difference.ensures.value ∙ change

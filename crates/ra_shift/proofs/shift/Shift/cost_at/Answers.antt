@@ -23,7 +23,6 @@ overflow_add-here c =
 pub service_with-service-requires-clause-service : goal.service_with-service-requires-clause-service
 service_with-service-requires-clause-service c =
     let shift = c.args.self.now in
-    let w = shift.world.now in
     omega (arith, shift.service_is, shift.sound.well_formed.services shift.process.0 shift.process_known)
 
 pub overflow_add-result-5 : goal.overflow_add-result-5
@@ -57,12 +56,9 @@ unfolding cost_of service_cost
 overflow_sub-result c =
     let shift = c.args.self.now in
     let w = shift.world.now in
-    let i = w.tables in
-    let a0 = w.start in
-    let a = w.here in
     let p = shift.process.0 in
-    let b = shifted a p c.args.to.0 in
-    let others = λ (k : ℕ) (within : k < service_count i) (apart : k ≢ shift.service.0).
+    let b = shifted w.here p c.args.to.0 in
+    let others = λ (k : ℕ) (within : k < service_count w.tables) (apart : k ≢ shift.service.0).
     count_stays w p c.args.to.0 k shift.sound.fits shift.process_known
     (λ same. apart (same ∙ sym shift.service_is)) in
     let service = c.service_with-service.ensures.value (moved_at (record w { here = b })) others
@@ -80,12 +76,9 @@ unfolding cost_of service_cost
 returns c =
     let shift = c.args.self.now in
     let w = shift.world.now in
-    let i = w.tables in
-    let a0 = w.start in
-    let a = w.here in
     let p = shift.process.0 in
-    let b = shifted a p c.args.to.0 in
-    let others = λ (k : ℕ) (within : k < service_count i) (apart : k ≢ shift.service.0).
+    let b = shifted w.here p c.args.to.0 in
+    let others = λ (k : ℕ) (within : k < service_count w.tables) (apart : k ≢ shift.service.0).
     count_stays w p c.args.to.0 k shift.sound.fits shift.process_known
     (λ same. apart (same ∙ sym shift.service_is)) in
     let service = c.service_with-service.ensures.value (moved_at (record w { here = b })) others

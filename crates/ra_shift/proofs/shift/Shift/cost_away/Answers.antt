@@ -6,10 +6,8 @@ use Rattle.ra_shift.proofs.shift.Shift.cost_away.Goals as goal
 pub returns-in_err-sum : goal.returns-in_err-sum
 returns-in_err-sum c =
     let shift = c.args.self.now in
-    let w = shift.world.now in
-    let p = shift.process.0 in
-    let to = c.args.to.0 in
-    dear_cost w p to c.args.bound shift.taken shift.added c.room_below.result c.sum_below.result _
+    dear_cost shift.world.now shift.process.0 c.args.to.0 c.args.bound shift.taken shift.added c.room_below.result
+    c.sum_below.result _
     shift.sound shift.process_known c.requires.machine (λ same. c.requires.apart (sym (shift.home_is ∙ same)))
     shift.taken_is
     shift.added_is (omega (arith, c.room_below.ensures, shift.taken_is, shift.added_is)) c.sum_below.ensures c.in_err-sum.was c.from_residual.ensures
@@ -17,10 +15,8 @@ returns-in_err-sum c =
 pub overflow_sub-result : goal.overflow_sub-result
 overflow_sub-result c =
     let shift = c.args.self.now in
-    let w = shift.world.now in
-    let p = shift.process.0 in
-    let to = c.args.to.0 in
-    (summed_cost w p to c.args.bound shift.taken shift.added c.room_below.result c.in_ok-sum.sum c.sum_below.result
+    (summed_cost shift.world.now shift.process.0 c.args.to.0 c.args.bound shift.taken shift.added c.room_below.result
+    c.in_ok-sum.sum c.sum_below.result
     shift.sound shift.process_known c.requires.machine (λ same. c.requires.apart (sym (shift.home_is ∙ same)))
     shift.taken_is shift.added_is
     (omega (arith, c.room_below.ensures, shift.taken_is, shift.added_is)) c.sum_below.ensures c.in_ok-sum.was
@@ -29,10 +25,8 @@ overflow_sub-result c =
 pub returns : goal.returns
 returns c =
     let shift = c.args.self.now in
-    let w = shift.world.now in
-    let p = shift.process.0 in
-    let to = c.args.to.0 in
-    (summed_cost w p to c.args.bound shift.taken shift.added c.room_below.result c.in_ok-sum.sum c.sum_below.result
+    (summed_cost shift.world.now shift.process.0 c.args.to.0 c.args.bound shift.taken shift.added c.room_below.result
+    c.in_ok-sum.sum c.sum_below.result
     shift.sound shift.process_known c.requires.machine (λ same. c.requires.apart (sym (shift.home_is ∙ same)))
     shift.taken_is shift.added_is
     (omega (arith, c.room_below.ensures, shift.taken_is, shift.added_is)) c.sum_below.ensures c.in_ok-sum.was

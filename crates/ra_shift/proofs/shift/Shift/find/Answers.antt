@@ -14,8 +14,7 @@ pub returns-then-to-self : goal.returns-then-to-self
 unfolding IsFinding
 returns-then-to-self c =
     let shift = c.args.self.now in
-    let w = shift.world.now in
-    broken_same w shift.process.0 c.args.to.0
+    broken_same shift.world.now shift.process.0 c.args.to.0
     (sym shift.from_is ∙ sym c.if-to-self.true)
 
 pub returns-in-Some : goal.returns-in-Some
@@ -23,9 +22,6 @@ unfolding IsFinding
 returns-in-Some c =
     let shift = c.args.self.now in
     let w = shift.world.now in
-    let i = w.tables in
-    let a0 = w.start in
-    let a = w.here in
     let p = shift.process.0 in
     let to = c.args.to.0 in
     let start = start_of w p to (at_of w p to shift.sound shift.process_known c.requires)
@@ -38,9 +34,6 @@ unfolding IsFinding
 returns-in-Some-over_between c =
     let shift = c.args.self.now in
     let w = shift.world.now in
-    let i = w.tables in
-    let a0 = w.start in
-    let a = w.here in
     let p = shift.process.0 in
     let to = c.args.to.0 in
     let start = start_of w p to (at_of w p to shift.sound shift.process_known c.requires)
@@ -56,17 +49,15 @@ returns-then-not-is_alone c =
     let shift = c.args.self.now in
     let w = shift.world.now in
     let i = w.tables in
-    let a0 = w.start in
-    let a = w.here in
     let p = shift.process.0 in
     let to = c.args.to.0 in
     let start = start_of w p to (at_of w p to shift.sound shift.process_known c.requires)
     (λ same. c.if-to-self.false (sym same ∙ sym shift.from_is)) in
-    let none : on_machine i a (service_of i p) to ≢ 0 =
+    let none : on_machine i w.here (service_of i p) to ≢ 0 =
     λ alone. both_ways c.is_alone.result c.if-not-is_alone.true (c.is_alone.ensures.1 alone) in
-    let some : 0 < on_machine i a (service_of i p) to = omega (arith, none) in
+    let some : 0 < on_machine i w.here (service_of i p) to = omega (arith, none) in
     broken_twice w p to start c.in_default.ensures.none c.in_default-over_between.ensures.none some
-    ∙ ap (λ (s : ℕ). Some (Conflict (record { 0 = s }) (record { 0 = to }))) (sym shift.service_is)
+    ∙ ap (λ s. Some (Conflict (record { 0 = s }) (record { 0 = to }))) (sym shift.service_is)
 
 pub returns-then-not-keeps_spread : goal.returns-then-not-keeps_spread
 unfolding IsFinding
@@ -74,20 +65,17 @@ returns-then-not-keeps_spread c =
     let shift = c.args.self.now in
     let w = shift.world.now in
     let i = w.tables in
-    let a0 = w.start in
-    let a = w.here in
     let p = shift.process.0 in
     let to = c.args.to.0 in
     let start = start_of w p to (at_of w p to shift.sound shift.process_known c.requires)
     (λ same. c.if-to-self.false (sym same ∙ sym shift.from_is)) in
-    let alone = c.is_alone.ensures.0 c.if-not-is_alone.false in
-    let enough : spread_of i (service_of i p) ≤ locations_of i (shifted a p to) (service_of i p) → ⊥ =
+    let enough : spread_of i (service_of i p) ≤ locations_of i (shifted w.here p to) (service_of i p) → ⊥ =
     λ many. both_ways c.keeps_spread.result c.if-not-keeps_spread.true (c.keeps_spread.ensures.1 many) in
     let few : c.locations_with.result < spread_of i (service_of i p) =
     omega (arith, c.locations_with.ensures, enough) in
     broken_apart w p to c.locations_with.result start c.in_default.ensures.none
-    c.in_default-over_between.ensures.none alone c.locations_with.ensures few
-    ∙ ap₂ (λ (s n : ℕ). Some (Spread (record { 0 = s }) c.locations_with.result n)) (sym shift.service_is)
+    c.in_default-over_between.ensures.none (c.is_alone.ensures.0 c.if-not-is_alone.false) c.locations_with.ensures few
+    ∙ ap₂ (λ s n. Some (Spread (record { 0 = s }) c.locations_with.result n)) (sym shift.service_is)
     (sym shift.wants_is)
 
 pub returns-then-not-keeps_dependants : goal.returns-then-not-keeps_dependants
@@ -95,7 +83,6 @@ unfolding IsFinding
 returns-then-not-keeps_dependants c =
     let shift = c.args.self.now in
     let w = shift.world.now in
-    let at = at_of w shift.process.0 c.args.to.0 shift.sound shift.process_known c.requires in
     record {
       apart = λ same. c.if-to-self.false (sym same ∙ sym shift.from_is);
       room = c.in_default.ensures.none;
@@ -105,7 +92,7 @@ returns-then-not-keeps_dependants c =
       broken = λ none. both_ways c.keeps_dependants.result c.if-not-keeps_dependants.true
           (c.keeps_dependants.ensures.1
           (allowed w shift.process.0 c.args.to.0
-          at none).leaves);
+          (at_of w shift.process.0 c.args.to.0 shift.sound shift.process_known c.requires) none).leaves);
     }
 
 pub returns-then-not-finds_needs : goal.returns-then-not-finds_needs
@@ -113,7 +100,6 @@ unfolding IsFinding
 returns-then-not-finds_needs c =
     let shift = c.args.self.now in
     let w = shift.world.now in
-    let at = at_of w shift.process.0 c.args.to.0 shift.sound shift.process_known c.requires in
     record {
       apart = λ same. c.if-to-self.false (sym same ∙ sym shift.from_is);
       room = c.in_default.ensures.none;
@@ -123,7 +109,7 @@ returns-then-not-finds_needs c =
       broken = λ none. both_ways c.finds_needs.result c.if-not-finds_needs.true
           (c.finds_needs.ensures.1
           (allowed w shift.process.0 c.args.to.0
-          at none).needs);
+          (at_of w shift.process.0 c.args.to.0 shift.sound shift.process_known c.requires) none).needs);
     }
 
 pub returns-then-not-is_admitted : goal.returns-then-not-is_admitted
@@ -131,7 +117,6 @@ unfolding IsFinding
 returns-then-not-is_admitted c =
     let shift = c.args.self.now in
     let w = shift.world.now in
-    let at = at_of w shift.process.0 c.args.to.0 shift.sound shift.process_known c.requires in
     record {
       apart = λ same. c.if-to-self.false (sym same ∙ sym shift.from_is);
       room = c.in_default.ensures.none;
@@ -141,7 +126,7 @@ returns-then-not-is_admitted c =
       broken = λ none. both_ways c.is_admitted.result c.if-not-is_admitted.true
           (c.is_admitted.ensures.1
           (allowed w shift.process.0 c.args.to.0
-          at none).admitted);
+          (at_of w shift.process.0 c.args.to.0 shift.sound shift.process_known c.requires) none).admitted);
     }
 
 pub returns : goal.returns
@@ -149,8 +134,8 @@ unfolding IsFinding
 returns c =
     let shift = c.args.self.now in
     let w = shift.world.now in
-    let at = at_of w shift.process.0 c.args.to.0 shift.sound shift.process_known c.requires in
-    unbroken w shift.process.0 c.args.to.0 at
+    unbroken w shift.process.0 c.args.to.0
+    (at_of w shift.process.0 c.args.to.0 shift.sound shift.process_known c.requires)
     (record {
       apart = λ same. c.if-to-self.false (sym same ∙ sym shift.from_is);
       admitted = c.is_admitted.ensures.0 c.if-not-is_admitted.false;

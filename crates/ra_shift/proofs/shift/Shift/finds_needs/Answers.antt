@@ -12,14 +12,13 @@ pub is_missing-requires : goal.is_missing-requires
 unfolding service_at
 is_missing-requires c =
     let shift = c.args.self.now in
-    let w = shift.world.now in
-    let i = w.tables in
+    let i = shift.world.now.tables in
     let s_in : shift.service.0 < service_count i =
     omega (arith, shift.service_is, shift.sound.well_formed.services shift.process.0 shift.process_known) in
-    let are = needs_there i c.topology.result.now.distinct shift.service.0 c.distinct_needs-needs.result.now
+    needs_within i shift.service.0 c.loop-need.need-index c.distinct_needs-needs.result.now shift.sound.well_formed
+    (needs_there i c.topology.result.now.distinct shift.service.0 c.distinct_needs-needs.result.now
     c.topology.ensures.fits.distinct
-    s_in c.distinct_needs-needs.ensures in
-    needs_within i shift.service.0 c.loop-need.need-index c.distinct_needs-needs.result.now shift.sound.well_formed are
+    s_in c.distinct_needs-needs.ensures)
     s_in c.loop-need-test.true
 
 pub returns-then-is_missing : goal.returns-then-is_missing
@@ -30,14 +29,14 @@ returns-then-is_missing c =
     let i = w.tables in
     let s_in : shift.service.0 < service_count i =
     omega (arith, shift.service_is, shift.sound.well_formed.services shift.process.0 shift.process_known) in
-    let are = needs_there i c.topology.result.now.distinct shift.service.0 c.distinct_needs-needs.result.now
-    c.topology.ensures.fits.distinct
-    s_in c.distinct_needs-needs.ensures in
     let label = c.neighbourhood-label.ensures
-    ∙ ap (λ (j : Tables). neighbourhood_of j c.args.to.0) c.instance.ensures.value in
+    ∙ ap (λ j. neighbourhood_of j c.args.to.0) c.instance.ensures.value in
     refused (needs_lack i w.here shift.process.0 shift.service.0 c.args.to.0
     c.neighbourhood-label.result c.loop-need.need-index c.distinct_needs-needs.result.now shift.service_is label
-    are c.loop-need-test.true (c.if-is_missing.ensures.other refl) (c.if-is_missing.ensures.none refl))
+    (needs_there i c.topology.result.now.distinct shift.service.0 c.distinct_needs-needs.result.now
+    c.topology.ensures.fits.distinct
+    s_in c.distinct_needs-needs.ensures) c.loop-need-test.true (c.if-is_missing.ensures.other refl)
+    (c.if-is_missing.ensures.none refl))
 
 pub loop-need-preserved : goal.loop-need-preserved
 unfolding service_at
@@ -56,13 +55,13 @@ returns c =
     let i = w.tables in
     let s_in : shift.service.0 < service_count i =
     omega (arith, shift.service_is, shift.sound.well_formed.services shift.process.0 shift.process_known) in
-    let are = needs_there i c.topology.result.now.distinct shift.service.0 c.distinct_needs-needs.result.now
-    c.topology.ensures.fits.distinct
-    s_in c.distinct_needs-needs.ensures in
     let label = c.neighbourhood-label.ensures
-    ∙ ap (λ (j : Tables). neighbourhood_of j c.args.to.0) c.instance.ensures.value in (
+    ∙ ap (λ j. neighbourhood_of j c.args.to.0) c.instance.ensures.value in (
       λ _. needs_hold i w.here shift.process.0 shift.service.0 c.args.to.0 c.neighbourhood-label.result
-          c.distinct_needs-needs.result.now shift.service_is label are
+          c.distinct_needs-needs.result.now shift.service_is label
+          (needs_there i c.topology.result.now.distinct shift.service.0 c.distinct_needs-needs.result.now
+          c.topology.ensures.fits.distinct
+          s_in c.distinct_needs-needs.ensures)
           (λ k within. c.loop-need.invariant k (omega (arith, within, c.loop-need-test.false))),
       λ _. refl,
     )

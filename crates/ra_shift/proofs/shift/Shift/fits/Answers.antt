@@ -19,9 +19,9 @@ pub returns-then-to-self-clause-fits : goal.returns-then-to-self-clause-fits
 returns-then-to-self-clause-fits c =
     let shift = c.args.self.now in
     let w = shift.world.now in
-    let at = at_of w shift.process.0 c.args.to.0 shift.sound shift.process_known c.requires.machine in
     refused (λ none.
-    (allowed w shift.process.0 c.args.to.0 at
+    (allowed w shift.process.0 c.args.to.0
+    (at_of w shift.process.0 c.args.to.0 shift.sound shift.process_known c.requires.machine)
     none).apart (sym shift.from_is ∙ sym c.if-to-self.true))
 
 pub returns-then-not-finds_needs_or_lacks-clause-fits : goal.returns-then-not-finds_needs_or_lacks-clause-fits

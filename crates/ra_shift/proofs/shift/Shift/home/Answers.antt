@@ -5,7 +5,6 @@ use Rattle.ra_shift.proofs.shift.Shift.home.Goals as goal
 pub returns-clause-within : goal.returns-clause-within
 returns-clause-within c =
     let shift = c.args.self.now in
-    let w = shift.world.now in
     omega (
       arith,
       shift.home_is,

@@ -18,8 +18,7 @@ returns-then-self-locations c =
     )
 
 pub returns : goal.returns
-returns c =
-    let shift = c.args.self.now in (
-      λ test. omega (arith, leb-true _ _ test, c.locations_with.ensures, shift.wants_is),
-      λ enough. le-leb _ _ (omega (arith, enough, c.locations_with.ensures, shift.wants_is)),
-    )
+returns c = (
+  λ test. omega (arith, leb-true _ _ test, c.locations_with.ensures, c.args.self.now.wants_is),
+  λ enough. le-leb _ _ (omega (arith, enough, c.locations_with.ensures, c.args.self.now.wants_is)),
+)

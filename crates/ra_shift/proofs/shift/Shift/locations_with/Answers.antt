@@ -9,7 +9,7 @@ pub returns : goal.returns
 returns c =
     let shift = c.args.self.now in
     let w = shift.world.now in
-    let label = c.location-label.ensures ∙ ap (λ (j : Tables). location_of j c.args.to.0)
+    let label = c.location-label.ensures ∙ ap (λ j. location_of j c.args.to.0)
     c.instance.ensures.value in
     keeps_with w.tables w.here shift.process.0 c.args.to.0 shift.service.0
     c.spread_without-without.result shift.location c.location-label.result c.one_when-own.result

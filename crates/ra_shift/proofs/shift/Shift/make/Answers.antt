@@ -16,7 +16,7 @@ pub overflow_add-result-2 : goal.overflow_add-result-2
 unfolding parts_of
 overflow_add-result-2 g c =
     let w = c.args.world.now in
-    let kept : c.parts-parts.result.total ≡ cost_at w = ap (λ (x : Parts). x.total) c.parts-parts.ensures.value in
+    let kept : c.parts-parts.result.total ≡ cost_at w = rw c.parts-parts.ensures.value in
     omega (
       arith,
       kept,
@@ -31,7 +31,7 @@ unfolding parts_of
 overflow_add-result-4 g c =
     let w = c.args.world.now in
     let service : c.parts-parts.result.service ≡ service_now w =
-    ap (λ (x : Parts). x.service) c.parts-parts.ensures.value in
+    rw c.parts-parts.ensures.value in
     omega (
       arith,
       service,
@@ -51,16 +51,16 @@ invariant_of-result g c =
     rw c.assignment.ensures.value at c.machine_of-from.ensures in
     let home : c.machine_of-home.result.0 ≡ machine_at w.start p =
     rw c.initial.ensures.value at c.machine_of-home.ensures in
-    let service : c.service_of-service.result.0 ≡ service_of w.tables p = c.service_of-service.ensures
-    ∙ ap (λ (j : Tables). service_of j p) c.instance-inst.ensures.value in
+    let service = c.service_of-service.ensures
+    ∙ ap (λ j. service_of j p) c.instance-inst.ensures.value in
     let limits = c.parts-parts.ensures.sound.well_formed in
     let small = c.parts-parts.ensures.sound.small in
-    let are = subst (λ (j : Tables). AreRequired j p c.required_of-required.result)
+    let are = subst (λ j. AreRequired j p c.required_of-required.result)
     c.instance-inst.ensures.value
     c.required_of-required.ensures.value in
-    let kept : c.parts-parts.result.total ≡ cost_at w = ap (λ (x : Parts). x.total) c.parts-parts.ensures.value in
+    let kept : c.parts-parts.result.total ≡ cost_at w = rw c.parts-parts.ensures.value in
     let now : c.parts-parts.result.service ≡ service_now w =
-    ap (λ (x : Parts). x.service) c.parts-parts.ensures.value in
+    rw c.parts-parts.ensures.value in
     let without = c.cost_without-without.ensures.value
     ∙ ap (λ m. row_cost_with w.tables m (use_without w.tables a p)) from in
     let saves = rw c.instance-inst.ensures.value at c.saved.ensures.value in
@@ -72,14 +72,13 @@ invariant_of-result g c =
       from_is = from;
       home_is = home;
       service_is = service;
-      required_are = subst (λ (j : Tables). AreRequired j p c.required_of-required.result)
-          c.instance-inst.ensures.value c.required_of-required.ensures.value;
-      location_is = c.location-location.ensures ∙ ap (λ (j : Tables). location_of j c.machine_of-from.result.0)
+      required_are = rw (← c.instance-inst.ensures.value) c.required_of-required.ensures.value;
+      location_is = c.location-location.ensures ∙ ap (λ j. location_of j c.machine_of-from.result.0)
           c.instance-inst.ensures.value ∙ ap (location_of w.tables) from;
       neighbourhood_is = c.neighbourhood-neighbourhood.ensures
-          ∙ ap (λ (j : Tables). neighbourhood_of j c.machine_of-from.result.0) c.instance-inst.ensures.value
+          ∙ ap (λ j. neighbourhood_of j c.machine_of-from.result.0) c.instance-inst.ensures.value
           ∙ ap (neighbourhood_of w.tables) from;
-      wants_is = c.spread_min.ensures ∙ ap (λ (j : Tables). spread_of j c.service_of-service.result.0)
+      wants_is = c.spread_min.ensures ∙ ap (λ j. spread_of j c.service_of-service.result.0)
           c.instance-inst.ensures.value ∙ ap (spread_of w.tables) service;
       without_is = c.cost_without-without.ensures.value
           ∙ ap (λ m. row_cost_with w.tables m (use_without w.tables a p)) from;

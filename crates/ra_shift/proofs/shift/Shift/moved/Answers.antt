@@ -10,8 +10,7 @@ use Rattle.ra_model.specs.Situations.{moved_at}
 pub overflow_sub-result : goal.overflow_sub-result
 overflow_sub-result c =
     let shift = c.args.self.now in
-    let w = shift.world.now in
-    (moved_after w shift.process.0 c.args.to.0
+    (moved_after shift.world.now shift.process.0 c.args.to.0
     shift.service.0
     c.moved-before.result c.is_away-gone.result c.is_away-come.result shift.sound.fits shift.process_known
     shift.service_is (c.moved-before.ensures.count _ _ _ c.cells.ensures.stand) (c.is_away-gone.ensures.value

@@ -9,10 +9,7 @@ pub returns : goal.returns
 returns c =
     let shift = c.args.self.now in
     let w = shift.world.now in
-    let i = w.tables in
-    let a0 = w.start in
-    let a = w.here in
     let p = shift.process.0 in
     moved_is w p c.args.to.0 c.moved.result c.moved-2.result shift.service shift.service_is
     (c.moved.ensures.count _ _ _ c.cells.ensures.stand)
-    (c.moved-2.ensures.value ∙ ap (moved_at (record w { here = shifted a p c.args.to.0 })) (sym shift.service_is))
+    (c.moved-2.ensures.value ∙ ap (moved_at (record w { here = shifted w.here p c.args.to.0 })) (sym shift.service_is))

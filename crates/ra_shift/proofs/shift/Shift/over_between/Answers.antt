@@ -16,10 +16,10 @@ returns-then-is_too_much-clause-some c =
     let p = shift.process.0 in
     let to = c.args.to.0 in
     let r = c.loop-r.r in
-    let end = ap (λ (j : Tables). resource_count j) c.instance-inst.ensures.value in
+    let end = ap (λ j. resource_count j) c.instance-inst.ensures.value in
     let within : r < resource_count i = omega (arith, end, c.resources-r-end.ensures, c.loop-r-test.true) in
-    let cap : c.capacity.result ≡ capacity_of i to r = c.capacity.ensures
-    ∙ ap (λ (j : Tables). capacity_of j to r) c.instance-inst.ensures.value in
+    let cap = c.capacity.ensures
+    ∙ ap (λ j. capacity_of j to r) c.instance-inst.ensures.value in
     let much = c.is_too_much.ensures.0 c.if-is_too_much.true in
     let sum : (k : ℕ) → k < resource_count i → slice_index c.transient_row-row.result.now k
     + slice_index shift.required k ≡ used_between w p to k =
@@ -42,10 +42,9 @@ returns-then-is_too_much-clause-some c =
 
 pub loop-r-preserved : goal.loop-r-preserved
 loop-r-preserved c =
-    let shift = c.args.self.now in
-    let i = shift.world.now.tables in
+    let i = c.args.self.now.world.now.tables in
     let P : ℕ → Type 0 = λ k. transient_at i k ≡ true → slice_index c.transient_row-row.result.now k
-    + slice_index shift.required k ≤ capacity_of i c.args.to.0 k in
+    + slice_index c.args.self.now.required k ≤ capacity_of i c.args.to.0 k in
     let here : P c.loop-r.r = λ transient. (
     let few : capacity_of i c.args.to.0 c.loop-r.r < slice_index c.transient_row-row.result.now c.loop-r.r
     + c.from.result → ⊥ =
@@ -58,9 +57,8 @@ pub returns-clause-none : goal.returns-clause-none
 returns-clause-none c =
     let shift = c.args.self.now in
     let w = shift.world.now in
-    let i = w.tables in
-    let end = ap (λ (j : Tables). resource_count j) c.instance-inst.ensures.value in
-    between_holds i c.rows.result.now.tables w.start c.rows.result.now.start w.here
+    let end = ap (λ j. resource_count j) c.instance-inst.ensures.value in
+    between_holds w.tables c.rows.result.now.tables w.start c.rows.result.now.start w.here
     shift.process.0 c.args.to.0 c.transient_row-row.result.now shift.required c.rows.ensures.instance
     c.rows.ensures.initial (c.transient_row-row.ensures.values _ c.rows.ensures.stand) shift.required_are
     (λ k within. c.loop-r.invariant k (omega (arith, within, end, c.resources-r-end.ensures, c.loop-r-test.false)))

@@ -10,21 +10,17 @@ returns-then-load-bound c =
     let shift = c.args.self.now in
     let w = shift.world.now in
     let p = shift.process.0 in
-    let to = c.args.to.0 in
-    let load = c.load_above-load.ensures.value p shift.required_are in
-    sum_none w p to c.args.bound c.load_above-load.result c.if-load-bound.true
-    (sum_load w p to c.load_above-load.result load)
+    sum_none w p c.args.to.0 c.args.bound c.load_above-load.result c.if-load-bound.true
+    (sum_load w p c.args.to.0 c.load_above-load.result (c.load_above-load.ensures.value p shift.required_are))
 
 pub returns-then-costs-bound : goal.returns-then-costs-bound
 returns-then-costs-bound c =
     let shift = c.args.self.now in
     let w = shift.world.now in
     let p = shift.process.0 in
-    let to = c.args.to.0 in
-    let load = c.load_above-load.ensures.value p shift.required_are in
-    let balance = c.balance_above.ensures.value p shift.required_are in
-    sum_none w p to c.args.bound (c.load_above-load.result + c.balance_above.result) c.if-costs-bound.true
-    (sum_without_way w p to c.load_above-load.result c.balance_above.result load balance)
+    sum_none w p c.args.to.0 c.args.bound (c.load_above-load.result + c.balance_above.result) c.if-costs-bound.true
+    (sum_without_way w p c.args.to.0 c.load_above-load.result c.balance_above.result
+    (c.load_above-load.ensures.value p shift.required_are) (c.balance_above.ensures.value p shift.required_are))
 
 pub returns-then-sum-bound : goal.returns-then-sum-bound
 returns-then-sum-bound c =
@@ -33,16 +29,17 @@ returns-then-sum-bound c =
     let p = shift.process.0 in
     let to = c.args.to.0 in
     let weight = c.from.ensures ∙ c.machine_weight-weight.ensures
-    ∙ ap (λ (j : Tables). machine_weight_of j) c.instance.ensures.value in
+    ∙ ap (λ j. machine_weight_of j) c.instance.ensures.value in
     let cost = c.from-2.ensures ∙ c.way.ensures
     ∙ ap (λ m. way_cost_of w.tables m to) shift.home_is in
-    let load = c.load_above-load.ensures.value p shift.required_are in
-    let balance = c.balance_above.ensures.value p shift.required_are in
-    let parts = sum_parts w p to c.from.result c.from-2.result c.from-3.result c.load_above-load.result
-    c.balance_above.result weight cost c.from-3.ensures load balance in
     sum_none w p to c.args.bound (c.load_above-load.result + c.balance_above.result + c.from-3.result)
     c.if-sum-bound.true
-    (omega (arith, parts))
+    (omega (
+      arith,
+      sum_parts w p to c.from.result c.from-2.result c.from-3.result c.load_above-load.result
+          c.balance_above.result weight cost c.from-3.ensures (c.load_above-load.ensures.value p shift.required_are)
+          (c.balance_above.ensures.value p shift.required_are),
+    ))
 
 pub returns : goal.returns
 returns c =
@@ -51,13 +48,14 @@ returns c =
     let p = shift.process.0 in
     let to = c.args.to.0 in
     let weight = c.from.ensures ∙ c.machine_weight-weight.ensures
-    ∙ ap (λ (j : Tables). machine_weight_of j) c.instance.ensures.value in
+    ∙ ap (λ j. machine_weight_of j) c.instance.ensures.value in
     let cost = c.from-2.ensures ∙ c.way.ensures
     ∙ ap (λ m. way_cost_of w.tables m to) shift.home_is in
-    let load = c.load_above-load.ensures.value p shift.required_are in
-    let balance = c.balance_above.ensures.value p shift.required_are in
-    let parts = sum_parts w p to c.from.result c.from-2.result c.from-3.result c.load_above-load.result
-    c.balance_above.result weight cost c.from-3.ensures load balance in
     sum_some w p to c.args.bound (c.load_above-load.result + c.balance_above.result + c.from-3.result)
     c.if-sum-bound.false
-    (omega (arith, parts))
+    (omega (
+      arith,
+      sum_parts w p to c.from.result c.from-2.result c.from-3.result c.load_above-load.result
+          c.balance_above.result weight cost c.from-3.ensures (c.load_above-load.ensures.value p shift.required_are)
+          (c.balance_above.ensures.value p shift.required_are),
+    ))

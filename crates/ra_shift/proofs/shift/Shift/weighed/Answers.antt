@@ -9,16 +9,14 @@ use Rattle.ra_shift.proofs.shift.Shift.weighed.Goals as goal
 
 pub change-requires-clause-apart : goal.change-requires-clause-apart
 change-requires-clause-apart c =
-    let w = c.args.self.now.world.now in
-    apart_after w c.args.self.now.process.0
+    apart_after c.args.self.now.world.now c.args.self.now.process.0
     c.args.to.0
     c.requires.unbroken
 
 pub returns : goal.returns
 returns c =
-    let w = c.args.self.now.world.now in
     let fits : FitsSigned w128 c.change.result = search rules in
-    weighed_is w c.args.self.now.process.0
+    weighed_is c.args.self.now.world.now c.args.self.now.process.0
     c.args.to.0 _
     c.moved_count.result c.requires.unbroken
     (to_z-of_z w128 c.change.result fits ∙ c.change.ensures) c.moved_count.ensures

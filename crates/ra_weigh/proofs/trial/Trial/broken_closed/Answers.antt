@@ -1,37 +1,27 @@
 -- The search goes from one place that the move touches to the next.
-use Rattle.std.proofs.Common.{length, sym, arith}
-use Rattle.ra_base.specs.Sums.{is_named}
-use Rattle.ra_model.specs.Numbers.{process_count}
-use Rattle.ra_model.specs.Broken.{closed_test, broken_closed}
-use Rattle.ra_moves.specs.Steps.{process_in}
-use Rattle.ra_weigh.specs.Trials.{tables_of, initial_of, steps_of, after_of}
+use Rattle.std.proofs.Common.{sym, arith}
+use Rattle.ra_model.specs.Broken.{broken_closed}
 use Rattle.ra_weigh.proofs.SeekLemmas.{sought_start, sought_on, sought_found, sought_all}
 use Rattle.ra_weigh.proofs.trial.Trial.broken_closed.Goals as goal
 
 pub loop-low-init : goal.loop-low-init
-loop-low-init c = sought_start (process_count (tables_of c.args.self.now))
-    (is_named (length (steps_of c.args.self.now)) (process_in (steps_of c.args.self.now)))
-    (closed_test (tables_of c.args.self.now) (initial_of c.args.self.now) (after_of c.args.self.now))
-    c.next_process-low.result c.args.self.now.local.closed c.next_process-low.ensures.within
+loop-low-init c = sought_start c.args.self.now.local.closed c.next_process-low.ensures.within
     c.next_process-low.ensures.clear
 
 pub returns-in-Some : goal.returns-in-Some
 unfolding broken_closed
-returns-in-Some c = sought_found (process_count (tables_of c.args.self.now))
-    (closed_test (tables_of c.args.self.now) (initial_of c.args.self.now) (after_of c.args.self.now)) c.loop-low.low
+returns-in-Some c = sought_found _
+    _ c.loop-low.low
     c.in-Some.cause c.loop-low.invariant (omega (arith, c.loop-low-test.true, c.processes.ensures))
     (sym c.in-Some.ensures)
 
 pub loop-low-preserved : goal.loop-low-preserved
-loop-low-preserved c = sought_on (process_count (tables_of c.args.self.now))
-    (is_named (length (steps_of c.args.self.now)) (process_in (steps_of c.args.self.now)))
-    (closed_test (tables_of c.args.self.now) (initial_of c.args.self.now) (after_of c.args.self.now)) c.loop-low.low
-    c.next_process-low-in-loop-low.result c.args.self.now.local.closed c.loop-low.invariant (sym c.in_default.ensures)
+loop-low-preserved c = sought_on c.args.self.now.local.closed c.loop-low.invariant (sym c.in_default.ensures)
     c.next_process-low-in-loop-low.ensures.from c.next_process-low-in-loop-low.ensures.within
     c.next_process-low-in-loop-low.ensures.clear
 
 pub returns : goal.returns
 unfolding broken_closed
-returns c = sought_all (process_count (tables_of c.args.self.now))
-    (closed_test (tables_of c.args.self.now) (initial_of c.args.self.now) (after_of c.args.self.now)) c.loop-low.low
+returns c = sought_all _
+    _ c.loop-low.low
     c.loop-low.invariant (omega (arith, c.loop-low-test.false, c.processes.ensures))

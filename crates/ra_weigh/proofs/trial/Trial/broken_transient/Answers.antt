@@ -1,10 +1,6 @@
 -- The search goes from one machine that is entered to the next.
-use Rattle.std.proofs.Common.{length, sym, arith}
-use Rattle.ra_base.specs.Sums.{is_named}
-use Rattle.ra_model.specs.Numbers.{machine_count}
-use Rattle.ra_model.specs.Broken.{row_transient, broken_transient}
-use Rattle.ra_moves.specs.Steps.{to_in}
-use Rattle.ra_weigh.specs.Trials.{tables_of, initial_of, steps_of, before_of, after_of}
+use Rattle.std.proofs.Common.{sym, arith}
+use Rattle.ra_model.specs.Broken.{broken_transient}
 use Rattle.ra_weigh.proofs.HoldLemmas.{transient_entered}
 use Rattle.ra_weigh.proofs.SeekLemmas.{sought_start, sought_on, sought_found, sought_all}
 use Rattle.ra_weigh.proofs.trial.Trial.broken_transient.Goals as goal
@@ -12,25 +8,23 @@ use Rattle.ra_weigh.proofs.trial.Trial.broken_transient.Goals as goal
 pub loop-low-init : goal.loop-low-init
 loop-low-init c =
     let t = c.args.self.now in
-    sought_start (machine_count (tables_of t)) (is_named (length (steps_of t)) (to_in (steps_of t)))
-    (row_transient (tables_of t) (initial_of t) (after_of t)) c.next_entered-low.result
-    (transient_entered (tables_of t) (initial_of t) (before_of t) (steps_of t) t.moves t.fine)
+    sought_start
+    (transient_entered _ _ t.moves t.fine)
     c.next_entered-low.ensures.within c.next_entered-low.ensures.clear
 
 pub returns-in-Some : goal.returns-in-Some
 unfolding broken_transient
 returns-in-Some c =
     let t = c.args.self.now in
-    sought_found (machine_count (tables_of t)) (row_transient (tables_of t) (initial_of t) (after_of t)) c.loop-low.low
+    sought_found _ _ c.loop-low.low
     c.in-Some.cause c.loop-low.invariant (omega (arith, c.loop-low-test.true, c.machines.ensures))
     (sym c.in-Some.ensures)
 
 pub loop-low-preserved : goal.loop-low-preserved
 loop-low-preserved c =
     let t = c.args.self.now in
-    sought_on (machine_count (tables_of t)) (is_named (length (steps_of t)) (to_in (steps_of t)))
-    (row_transient (tables_of t) (initial_of t) (after_of t)) c.loop-low.low c.next_entered-low-in-loop-low.result
-    (transient_entered (tables_of t) (initial_of t) (before_of t) (steps_of t) t.moves t.fine)
+    sought_on
+    (transient_entered _ _ t.moves t.fine)
     c.loop-low.invariant (sym c.in_default.ensures) c.next_entered-low-in-loop-low.ensures.from
     c.next_entered-low-in-loop-low.ensures.within c.next_entered-low-in-loop-low.ensures.clear
 
@@ -38,5 +32,5 @@ pub returns : goal.returns
 unfolding broken_transient
 returns c =
     let t = c.args.self.now in
-    sought_all (machine_count (tables_of t)) (row_transient (tables_of t) (initial_of t) (after_of t)) c.loop-low.low
+    sought_all _ _ c.loop-low.low
     c.loop-low.invariant (omega (arith, c.loop-low-test.false, c.machines.ensures))

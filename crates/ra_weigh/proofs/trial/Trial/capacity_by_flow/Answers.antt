@@ -2,9 +2,9 @@
 use Rattle.std.proofs.Common.{◌≡◌, ◌<◌, ◌∙◌, sym, arith}
 use Rattle.ra_base.proofs.Searches.{first_none, first_more_none, first_found}
 use Rattle.ra_model.specs.Numbers.{resource_count}
-use Rattle.ra_model.specs.Usage.{use_share, use_of}
-use Rattle.ra_model.specs.Broken.{capacity_test, row_capacity}
-use Rattle.ra_weigh.specs.Trials.{tables_of, steps_of, before_of, after_of}
+use Rattle.ra_model.specs.Usage.{use_of}
+use Rattle.ra_model.specs.Broken.{row_capacity}
+use Rattle.ra_weigh.specs.Trials.{tables_of}
 use Rattle.ra_weigh.proofs.FlowLemmas.{flow_sum}
 use Rattle.ra_weigh.proofs.CauseRowLemmas.{used_here}
 use Rattle.ra_weigh.proofs.trial.Trial.capacity_by_flow.Goals as goal
@@ -20,8 +20,9 @@ overflow_sub-used c =
     omega (arith, c.loop-r-test.true, c.resources-r-end.ensures) in
     omega (
       arith,
-      flow_sum (tables_of t) (before_of t) (steps_of t) (use_share (tables_of t) c.args.m.0) c.loop-r.r _ _ _ _ _ t.moves c.requires.flow within
-          (used_here (tables_of t) t.rows.now.tables (before_of t) c.args.m.0 c.loop-r.r c.usage_row-row.result.now t.rows_tables (c.usage_row-row.ensures.values _ t.rows_stand) within) c.from.ensures c.from-in-loop-r.ensures,
+      flow_sum _ c.loop-r.r t.moves c.requires.flow within
+          (used_here c.loop-r.r t.rows_tables
+          (c.usage_row-row.ensures.values _ t.rows_stand) within) c.from.ensures c.from-in-loop-r.ensures,
     )
 
 pub capacity_test-requires : goal.capacity_test-requires
@@ -35,8 +36,9 @@ capacity_test-requires c =
       resource = within;
       used = omega (
         arith,
-        flow_sum (tables_of t) (before_of t) (steps_of t) (use_share (tables_of t) c.args.m.0) c.loop-r.r _ _ _ _ _ t.moves c.requires.flow within
-            (used_here (tables_of t) t.rows.now.tables (before_of t) c.args.m.0 c.loop-r.r c.usage_row-row.result.now t.rows_tables (c.usage_row-row.ensures.values _ t.rows_stand) within) c.from.ensures c.from-in-loop-r.ensures,
+        flow_sum _ c.loop-r.r t.moves c.requires.flow within
+            (used_here c.loop-r.r t.rows_tables
+            (c.usage_row-row.ensures.values _ t.rows_stand) within) c.from.ensures c.from-in-loop-r.ensures,
       );
     }
 
@@ -44,15 +46,14 @@ pub returns-in-Some : goal.returns-in-Some
 unfolding row_capacity
 returns-in-Some c =
     let t = c.args.self.now in
-    let within : c.loop-r.r < resource_count (tables_of t) =
-    omega (arith, c.loop-r-test.true, c.resources-r-end.ensures) in
-    sym (first_found c.loop-r.r (resource_count (tables_of t)) (capacity_test (tables_of t) (after_of t) c.args.m.0)
-    c.in-Some.cause within c.loop-r.invariant (sym c.capacity_test.ensures ∙ c.in-Some.is))
+    sym (first_found c.loop-r.r (resource_count (tables_of t)) _
+    c.in-Some.cause (omega (arith, c.loop-r-test.true, c.resources-r-end.ensures)) c.loop-r.invariant
+    (sym c.capacity_test.ensures ∙ c.in-Some.is))
 
 pub loop-r-preserved : goal.loop-r-preserved
 loop-r-preserved c =
     let t = c.args.self.now in
-    first_more_none c.loop-r.r (capacity_test (tables_of t) (after_of t) c.args.m.0) c.loop-r.invariant
+    first_more_none c.loop-r.r _ c.loop-r.invariant
     (sym c.capacity_test.ensures ∙ c.in_default.is)
 
 pub returns : goal.returns

@@ -2,8 +2,8 @@
 use Rattle.std.proofs.Common.{◌≡◌, ◌<◌, ◌∙◌, sym, arith}
 use Rattle.ra_base.proofs.Searches.{first_none, first_more_none, first_found}
 use Rattle.ra_model.specs.Numbers.{resource_count}
-use Rattle.ra_model.specs.Broken.{capacity_test, row_capacity}
-use Rattle.ra_weigh.specs.Trials.{tables_of, before_of, after_of}
+use Rattle.ra_model.specs.Broken.{row_capacity}
+use Rattle.ra_weigh.specs.Trials.{tables_of}
 use Rattle.ra_weigh.proofs.CauseRowLemmas.{used_here}
 use Rattle.ra_weigh.proofs.trial.Trial.capacity_by_steps.Goals as goal
 
@@ -17,7 +17,7 @@ use_after-used-requires c =
     omega (arith, c.loop-r-test.true, c.resources-r-end.ensures) in
     record {
       resource = within;
-      kept = used_here (tables_of t) t.rows.now.tables (before_of t) c.args.m.0 c.loop-r.r c.usage_row-row.result.now
+      kept = used_here c.loop-r.r
           t.rows_tables (c.usage_row-row.ensures.values _ t.rows_stand) within;
       below = c.usage_row-row.ensures.below.each c.loop-r.r;
     }
@@ -26,15 +26,14 @@ pub returns-in-Some : goal.returns-in-Some
 unfolding row_capacity
 returns-in-Some c =
     let t = c.args.self.now in
-    let within : c.loop-r.r < resource_count (tables_of t) =
-    omega (arith, c.loop-r-test.true, c.resources-r-end.ensures) in
-    sym (first_found c.loop-r.r (resource_count (tables_of t)) (capacity_test (tables_of t) (after_of t) c.args.m.0)
-    c.in-Some.cause within c.loop-r.invariant (sym c.capacity_test.ensures ∙ c.in-Some.is))
+    sym (first_found c.loop-r.r (resource_count (tables_of t)) _
+    c.in-Some.cause (omega (arith, c.loop-r-test.true, c.resources-r-end.ensures)) c.loop-r.invariant
+    (sym c.capacity_test.ensures ∙ c.in-Some.is))
 
 pub loop-r-preserved : goal.loop-r-preserved
 loop-r-preserved c =
     let t = c.args.self.now in
-    first_more_none c.loop-r.r (capacity_test (tables_of t) (after_of t) c.args.m.0) c.loop-r.invariant
+    first_more_none c.loop-r.r _ c.loop-r.invariant
     (sym c.capacity_test.ensures ∙ c.in_default.is)
 
 pub returns : goal.returns

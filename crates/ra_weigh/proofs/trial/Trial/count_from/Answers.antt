@@ -1,48 +1,37 @@
 -- What the steps add and take, and what that makes.
 use Rattle.std.proofs.Common.{◌≡◌, length, arith}
-use Rattle.ra_model.specs.Services.{of_service, members_at}
-use Rattle.ra_weigh.specs.Marks.{has_mark, marked}
+use Rattle.ra_model.specs.Services.{members_at}
+use Rattle.ra_weigh.specs.Marks.{marked}
 use Rattle.ra_weigh.proofs.StepLemmas.{come_read, gone_read, step_process, step_to, step_from}
-use Rattle.ra_weigh.specs.Trials.{tables_of, steps_of, before_of}
+use Rattle.ra_weigh.specs.Trials.{steps_of}
 use Rattle.ra_weigh.proofs.FlowLemmas.{flows_none, flows_more, flowed_enough, flowed}
 use Rattle.ra_weigh.proofs.trial.Trial.count_from.Goals as goal
 
 pub one_at-came-requires-clause-process : goal.one_at-came-requires-clause-process
-one_at-came-requires-clause-process c = step_process (tables_of c.args.self.now) (before_of c.args.self.now)
-    (steps_of c.args.self.now) c.loop-j.j c.step-step.result c.args.self.now.moves c.step-step.ensures
+one_at-came-requires-clause-process c = step_process c.args.self.now.moves c.step-step.ensures
     (omega (arith, c.loop-j-test.true, c.steps-j-end.ensures.value))
 
 pub one_at-came-requires-clause-machine : goal.one_at-came-requires-clause-machine
-one_at-came-requires-clause-machine c = step_to (tables_of c.args.self.now) (before_of c.args.self.now)
-    (steps_of c.args.self.now) c.loop-j.j c.step-step.result c.args.self.now.moves c.step-step.ensures
+one_at-came-requires-clause-machine c = step_to c.args.self.now.moves c.step-step.ensures
     (omega (arith, c.loop-j-test.true, c.steps-j-end.ensures.value))
 
 pub one_at-went-requires-clause-process : goal.one_at-went-requires-clause-process
-one_at-went-requires-clause-process c = step_process (tables_of c.args.self.now) (before_of c.args.self.now)
-    (steps_of c.args.self.now) c.loop-j.j c.step-step.result c.args.self.now.moves c.step-step.ensures
+one_at-went-requires-clause-process c = step_process c.args.self.now.moves c.step-step.ensures
     (omega (arith, c.loop-j-test.true, c.steps-j-end.ensures.value))
 
 pub one_at-went-requires-clause-machine : goal.one_at-went-requires-clause-machine
-one_at-went-requires-clause-machine c = step_from (tables_of c.args.self.now) (before_of c.args.self.now)
-    (steps_of c.args.self.now) c.loop-j.j c.step-step.result c.args.self.now.moves c.step-step.ensures
+one_at-went-requires-clause-machine c = step_from c.args.self.now.moves c.step-step.ensures
     (omega (arith, c.loop-j-test.true, c.steps-j-end.ensures.value))
 
 pub loop-j-init : goal.loop-j-init
 loop-j-init c =
-    flows_none (of_service (tables_of c.args.self.now) c.args.s.0
-    (has_mark (tables_of c.args.self.now) c.args.mark c.args.x)) (steps_of c.args.self.now) 1
+    flows_none _ _ 1
 
 pub loop-j-preserved : goal.loop-j-preserved
 loop-j-preserved c =
-    flows_more (of_service (tables_of c.args.self.now) c.args.s.0
-    (has_mark (tables_of c.args.self.now) c.args.mark c.args.x)) (steps_of c.args.self.now) c.loop-j.j 1
-    c.loop-j.came c.loop-j.went c.one_at-came.result c.one_at-went.result c.loop-j.invariant
-    (come_read (of_service (tables_of c.args.self.now) c.args.s.0
-    (has_mark (tables_of c.args.self.now) c.args.mark c.args.x)) (steps_of c.args.self.now) c.loop-j.j
-    c.step-step.result c.one_at-came.result c.step-step.ensures c.one_at-came.ensures.one)
-    (gone_read (of_service (tables_of c.args.self.now) c.args.s.0
-    (has_mark (tables_of c.args.self.now) c.args.mark c.args.x)) (steps_of c.args.self.now) c.loop-j.j
-    c.step-step.result c.one_at-went.result c.step-step.ensures c.one_at-went.ensures.one)
+    flows_more _ _ c.loop-j.invariant
+    (come_read _ _ c.loop-j.j c.one_at-came.result c.step-step.ensures c.one_at-came.ensures.one)
+    (gone_read _ _ c.loop-j.j c.one_at-went.result c.step-step.ensures c.one_at-went.ensures.one)
     c.one_at-came.ensures.few c.one_at-went.ensures.few
 
 pub overflow_sub-result : goal.overflow_sub-result
@@ -50,9 +39,7 @@ unfolding marked members_at
 overflow_sub-result c =
     let all : c.loop-j.j ≡ length (steps_of c.args.self.now) =
     omega (arith, c.loop-j-test.false, c.steps-j-end.ensures.value) in
-    flowed_enough (tables_of c.args.self.now) (before_of c.args.self.now) (steps_of c.args.self.now)
-    (of_service (tables_of c.args.self.now) c.args.s.0 (has_mark (tables_of c.args.self.now) c.args.mark c.args.x))
-    c.loop-j.j 1 c.args.kept c.loop-j.came c.loop-j.went c.args.self.now.moves all c.loop-j.invariant
+    flowed_enough _ c.args.self.now.moves all c.loop-j.invariant
     c.requires.kept
 
 pub returns : goal.returns
@@ -60,7 +47,5 @@ unfolding marked members_at
 returns c =
     let all : c.loop-j.j ≡ length (steps_of c.args.self.now) =
     omega (arith, c.loop-j-test.false, c.steps-j-end.ensures.value) in
-    flowed (tables_of c.args.self.now) (before_of c.args.self.now) (steps_of c.args.self.now)
-    (of_service (tables_of c.args.self.now) c.args.s.0 (has_mark (tables_of c.args.self.now) c.args.mark c.args.x))
-    c.loop-j.j 1 c.args.kept c.loop-j.came c.loop-j.went c.args.self.now.moves all c.loop-j.invariant
+    flowed _ c.args.self.now.moves all c.loop-j.invariant
     c.requires.kept

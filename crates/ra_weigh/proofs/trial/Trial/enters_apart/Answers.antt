@@ -9,15 +9,15 @@ use Rattle.ra_weigh.proofs.trial.Trial.enters_apart.Goals as goal
 pub service_of-s-requires : goal.service_of-s-requires
 service_of-s-requires c =
     let t = c.args.self.now in
-    step_process (tables_of t) (before_of t) (steps_of t) c.args.j c.step-step.result t.moves c.step-step.ensures
+    step_process t.moves c.step-step.ensures
     c.requires
 
 pub on_machine-requires : goal.on_machine-requires
 on_machine-requires c =
     let t = c.args.self.now in
-    rw t.cells_tables (service_there (tables_of t) c.step-step.result.process.0 c.service_of-s.result.0
+    rw t.cells_tables (service_there
     t.inst.now.well_formed
-    (step_process (tables_of t) (before_of t) (steps_of t) c.args.j c.step-step.result t.moves c.step-step.ensures
+    (step_process t.moves c.step-step.ensures
     c.requires)
     c.service_of-s.ensures)
 
@@ -26,10 +26,10 @@ returns-then-moves_alone c =
     let t = c.args.self.now in
     told_true
     (ap₂ (conflict_test (tables_of t) (after_of t))
-    (service_read (tables_of t) (steps_of t) c.args.j c.step-step.result c.service_of-s.result.0 c.step-step.ensures
+    (service_read (tables_of t) (steps_of t) c.args.j c.step-step.ensures
     c.service_of-s.ensures)
-    (to_read (steps_of t) c.args.j c.step-step.result c.step-step.ensures)
-    ∙ conflict_alone (tables_of t) (before_of t) (steps_of t) c.args.j c.service_of-s.result.0 c.step-step.result.to.0
+    (to_read (steps_of t) c.args.j c.step-step.ensures)
+    ∙ conflict_alone _ _ _ c.args.j c.service_of-s.result.0 c.step-step.result.to.0
     c.on_machine.result t.moves c.requires
     (c.moves_alone.ensures.0 c.if-moves_alone.true)
     (c.on_machine.ensures.count (tables_of t) (initial_of t) (before_of t) t.cells_stand) c.if-on_machine-eq0.true)
@@ -38,8 +38,8 @@ pub conflict_test-requires : goal.conflict_test-requires
 conflict_test-requires c =
     let t = c.args.self.now in
     record {
-      service = service_there (tables_of t) c.step-step.result.process.0 c.service_of-s.result.0 t.inst.now.well_formed
-          (step_process (tables_of t) (before_of t) (steps_of t) c.args.j c.step-step.result t.moves c.step-step.ensures
+      service = service_there t.inst.now.well_formed
+          (step_process t.moves c.step-step.ensures
           c.requires) c.service_of-s.ensures;
     }
 
@@ -49,6 +49,6 @@ returns c =
     told_if_none c.conflict_test.result _ _ c.is_none.ensures
     (c.conflict_test.ensures
     ∙ sym (ap₂ (conflict_test (tables_of t) (after_of t))
-    (service_read (tables_of t) (steps_of t) c.args.j c.step-step.result c.service_of-s.result.0 c.step-step.ensures
+    (service_read (tables_of t) (steps_of t) c.args.j c.step-step.ensures
     c.service_of-s.ensures)
-    (to_read (steps_of t) c.args.j c.step-step.result c.step-step.ensures)))
+    (to_read (steps_of t) c.args.j c.step-step.ensures)))

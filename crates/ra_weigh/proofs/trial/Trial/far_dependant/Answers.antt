@@ -12,17 +12,17 @@ use Rattle.ra_weigh.proofs.trial.Trial.far_dependant.Goals as goal
 pub returns-then-dependants-eq0-clause-leaves : goal.returns-then-dependants-eq0-clause-leaves
 returns-then-dependants-eq0-clause-leaves c =
     let t = c.args.self.now in
-    let list = c.dependants-dependants.result.now in
-    none_there (tables_of t) (after_of t) c.args.s.0 (neighbourhood_of (tables_of t) c.args.from.0) c.args.next 0 list
-    (listed (tables_of t) t.topo.now c.args.s.0 list t.topology c.requires.service c.dependants-dependants.ensures)
+    none_there _ _ c.args.s.0 _ c.args.next
+    (listed _ t.topo.now c.args.s.0 t.topology c.requires.service c.dependants-dependants.ensures)
     c.requires.within (omega (arith, c.if-dependants-eq0.true))
-    (near_start (tables_of t) (after_of t) (neighbourhood_of (tables_of t) c.args.from.0) list)
+    (near_start (tables_of t) (after_of t)
+    (neighbourhood_of (tables_of t) c.args.from.0) c.dependants-dependants.result.now)
 
 pub returns-then-left-gt0-clause-leaves : goal.returns-then-left-gt0-clause-leaves
 returns-then-left-gt0-clause-leaves c =
     let t = c.args.self.now in
     rw (← c.neighbourhood-label.ensures)
-    (some_left (tables_of t) (after_of t) c.args.s.0 c.neighbourhood-label.result c.count_after-left.result c.args.next
+    (some_left _ _ c.args.s.0 c.neighbourhood-label.result c.count_after-left.result c.args.next
     c.count_after-left.ensures c.if-left-gt0.true)
 
 pub returns-then-next-u-clause-leaves : goal.returns-then-next-u-clause-leaves
@@ -31,30 +31,28 @@ returns-then-next-u-clause-leaves c =
     let t = c.args.self.now in
     let list = c.dependants-dependants.result.now in
     rw (← c.neighbourhood-label.ensures)
-    (none_before (tables_of t) (after_of t) c.args.s.0 c.neighbourhood-label.result c.args.next c.loop-k.k list
-    (listed (tables_of t) t.topo.now c.args.s.0 list t.topology c.requires.service c.dependants-dependants.ensures)
+    (none_before _ _ c.args.s.0 c.neighbourhood-label.result c.args.next
+    (listed _ t.topo.now c.args.s.0 t.topology c.requires.service c.dependants-dependants.ensures)
     c.requires.within c.loop-k-test.true c.if-next-u.true c.loop-k.invariant)
 
 pub returns-then-near-gt0-clause-leaves : goal.returns-then-near-gt0-clause-leaves
 unfolding service_at
 returns-then-near-gt0-clause-leaves c =
     let t = c.args.self.now in
-    let list = c.dependants-dependants.result.now in
-    let u : Service = (get_or list c.loop-k.k (record { 0 = 0 })) in
+    let u : Service = (get_or c.dependants-dependants.result.now c.loop-k.k (record { 0 = 0 })) in
     rw (← c.neighbourhood-label.ensures)
-    (none_before (tables_of t) (after_of t) c.args.s.0 c.neighbourhood-label.result u.0 c.loop-k.k list
-    (listed (tables_of t) t.topo.now c.args.s.0 list t.topology c.requires.service c.dependants-dependants.ensures)
+    (none_before _ _ c.args.s.0 c.neighbourhood-label.result u.0
+    (listed _ t.topo.now c.args.s.0 t.topology c.requires.service c.dependants-dependants.ensures)
     (omega (arith, c.if-next-u.false, c.requires.within)) c.loop-k-test.true (omega arith) c.loop-k.invariant)
 
 pub returns-then-near-gt0-clause-far : goal.returns-then-near-gt0-clause-far
 unfolding service_at
 returns-then-near-gt0-clause-far c = λ nearer.
     let t = c.args.self.now in
-    let list = c.dependants-dependants.result.now in
     rw (← c.neighbourhood-label.ensures)
-    (left_alone_there (tables_of t) (after_of t) c.args.s.0 c.neighbourhood-label.result c.loop-k.k
-    c.count_after-left.result c.count_after-near.result list
-    (listed (tables_of t) t.topo.now c.args.s.0 list t.topology c.requires.service c.dependants-dependants.ensures)
+    (left_alone_there _ _ c.args.s.0 c.neighbourhood-label.result c.loop-k.k
+    c.count_after-left.result c.count_after-near.result c.dependants-dependants.result.now
+    (listed _ t.topo.now c.args.s.0 t.topology c.requires.service c.dependants-dependants.ensures)
     c.loop-k-test.true c.count_after-left.ensures c.if-left-gt0.false c.count_after-near.ensures
     c.if-near-gt0.true)
 
@@ -63,14 +61,13 @@ unfolding service_at
 loop-k-preserved c =
     let t = c.args.self.now in
     let u : Service = (get_or c.dependants-dependants.result.now c.loop-k.k (record { 0 = 0 })) in
-    near_next (tables_of t) (after_of t) c.neighbourhood-label.result c.dependants-dependants.result.now c.loop-k.k u.0
-    c.count_after-near.result c.loop-k.invariant refl c.count_after-near.ensures c.if-near-gt0.false
+    near_next _ _ c.neighbourhood-label.result c.dependants-dependants.result.now u.0 c.loop-k.invariant refl c.count_after-near.ensures c.if-near-gt0.false
 
 pub returns-clause-leaves : goal.returns-clause-leaves
 returns-clause-leaves c =
     let t = c.args.self.now in
     let list = c.dependants-dependants.result.now in
     rw (← c.neighbourhood-label.ensures)
-    (none_there (tables_of t) (after_of t) c.args.s.0 c.neighbourhood-label.result c.args.next c.loop-k.k list
-    (listed (tables_of t) t.topo.now c.args.s.0 list t.topology c.requires.service c.dependants-dependants.ensures)
+    (none_there _ _ c.args.s.0 c.neighbourhood-label.result c.args.next
+    (listed _ t.topo.now c.args.s.0 t.topology c.requires.service c.dependants-dependants.ensures)
     c.requires.within (omega (arith, c.loop-k-test.false, c.loop-k.auto.k-end)) c.loop-k.invariant)

@@ -10,13 +10,11 @@ pub returns-then-near-eq0 : goal.returns-then-near-eq0
 returns-then-near-eq0 c =
     told_false (λ (finds : FindsOne (tables_of c.args.self.now) (after_of c.args.self.now) c.args.s.0 c.args.need.0
     c.args.own.0 (neighbourhood_of (tables_of c.args.self.now) c.args.to.0)).
-    one_missing (tables_of c.args.self.now) (after_of c.args.self.now) c.args.s.0 c.args.need.0 c.args.own.0
-    (neighbourhood_of (tables_of c.args.self.now) c.args.to.0) c.neighbourhood-label.result
+    one_missing _ _ c.args.s.0 c.args.need.0 c.args.own.0
     c.count_after-near.result c.if-own-s.false c.neighbourhood-label.ensures c.count_after-near.ensures
     c.if-near-eq0.true finds)
 
 pub returns : goal.returns
 returns c = told_true
-    (one_there (tables_of c.args.self.now) (after_of c.args.self.now) c.args.s.0 c.args.need.0 c.args.own.0
-    (neighbourhood_of (tables_of c.args.self.now) c.args.to.0) c.neighbourhood-label.result
+    (one_there _ _ c.args.s.0 c.args.need.0 c.args.own.0
     c.count_after-near.result c.neighbourhood-label.ensures c.count_after-near.ensures c.if-near-eq0.false)

@@ -8,19 +8,19 @@ use Rattle.ra_weigh.proofs.trial.Trial.first_broken.Goals as goal
 
 pub returns-in-Some : goal.returns-in-Some
 unfolding first_broken
-returns-in-Some c = found_first _ _ _ c.in-Some.ensures
+returns-in-Some c = found_first _ _ c.in-Some.ensures
 
 pub returns-in-Some-broken_transient : goal.returns-in-Some-broken_transient
 unfolding first_broken
 returns-in-Some-broken_transient c =
-    found_later _ _ _ c.in_default.ensures (found_first _ _ _ c.in-Some-broken_transient.ensures)
+    found_later c.in_default.ensures (found_first _ _ c.in-Some-broken_transient.ensures)
 
 pub returns-then-not-keeps_apart : goal.returns-then-not-keeps_apart
 unfolding first_broken
 returns-then-not-keeps_apart c =
-    found_later _ _ _ c.in_default.ensures
-    (found_later _ _ _ c.in_default-broken_transient.ensures
-    (found_at_once _ _ _
+    found_later c.in_default.ensures
+    (found_later c.in_default-broken_transient.ensures
+    (found_at_once _
     (λ (none : broken_conflict (tables_of c.args.self.now) (after_of c.args.self.now) ≡ None).
     both_ways c.keeps_apart.result c.if-not-keeps_apart.true (c.keeps_apart.ensures.1 none))
     c.broken_conflict.ensures))
@@ -28,10 +28,10 @@ returns-then-not-keeps_apart c =
 pub returns-then-not-keeps_spread : goal.returns-then-not-keeps_spread
 unfolding first_broken
 returns-then-not-keeps_spread c =
-    found_later _ _ _ c.in_default.ensures
-    (found_later _ _ _ c.in_default-broken_transient.ensures
-    (found_later _ _ _ (sym (c.keeps_apart.ensures.0 c.if-not-keeps_apart.false))
-    (found_at_once _ _ _
+    found_later c.in_default.ensures
+    (found_later c.in_default-broken_transient.ensures
+    (found_later (sym (c.keeps_apart.ensures.0 c.if-not-keeps_apart.false))
+    (found_at_once _
     (λ (none : broken_spread (tables_of c.args.self.now) (after_of c.args.self.now) ≡ None).
     both_ways c.keeps_spread.result c.if-not-keeps_spread.true (c.keeps_spread.ensures.1 none))
     c.broken_spread.ensures)))
@@ -39,27 +39,27 @@ returns-then-not-keeps_spread c =
 pub returns-in-Some-broken_dependency : goal.returns-in-Some-broken_dependency
 unfolding first_broken
 returns-in-Some-broken_dependency c =
-    found_later _ _ _ c.in_default.ensures
-    (found_later _ _ _ c.in_default-broken_transient.ensures
-    (found_later _ _ _ (sym (c.keeps_apart.ensures.0 c.if-not-keeps_apart.false))
-    (found_later _ _ _ (sym (c.keeps_spread.ensures.0 c.if-not-keeps_spread.false))
-    (found_first _ _ _ c.in-Some-broken_dependency.ensures))))
+    found_later c.in_default.ensures
+    (found_later c.in_default-broken_transient.ensures
+    (found_later (sym (c.keeps_apart.ensures.0 c.if-not-keeps_apart.false))
+    (found_later (sym (c.keeps_spread.ensures.0 c.if-not-keeps_spread.false))
+    (found_first _ _ c.in-Some-broken_dependency.ensures))))
 
 pub returns-then-keeps_closed : goal.returns-then-keeps_closed
 unfolding first_broken
 returns-then-keeps_closed c =
-    found_later _ _ _ c.in_default.ensures
-    (found_later _ _ _ c.in_default-broken_transient.ensures
-    (found_later _ _ _ (sym (c.keeps_apart.ensures.0 c.if-not-keeps_apart.false))
-    (found_later _ _ _ (sym (c.keeps_spread.ensures.0 c.if-not-keeps_spread.false))
-    (found_later _ _ _ c.in_default-broken_dependency.ensures
+    found_later c.in_default.ensures
+    (found_later c.in_default-broken_transient.ensures
+    (found_later (sym (c.keeps_apart.ensures.0 c.if-not-keeps_apart.false))
+    (found_later (sym (c.keeps_spread.ensures.0 c.if-not-keeps_spread.false))
+    (found_later c.in_default-broken_dependency.ensures
     (sym (c.keeps_closed.ensures.0 c.if-keeps_closed.true))))))
 
 pub returns : goal.returns
 unfolding first_broken
 returns c =
-    found_later _ _ _ c.in_default.ensures
-    (found_later _ _ _ c.in_default-broken_transient.ensures
-    (found_later _ _ _ (sym (c.keeps_apart.ensures.0 c.if-not-keeps_apart.false))
-    (found_later _ _ _ (sym (c.keeps_spread.ensures.0 c.if-not-keeps_spread.false))
-    (found_later _ _ _ c.in_default-broken_dependency.ensures c.broken_closed.ensures))))
+    found_later c.in_default.ensures
+    (found_later c.in_default-broken_transient.ensures
+    (found_later (sym (c.keeps_apart.ensures.0 c.if-not-keeps_apart.false))
+    (found_later (sym (c.keeps_spread.ensures.0 c.if-not-keeps_spread.false))
+    (found_later c.in_default-broken_dependency.ensures c.broken_closed.ensures))))

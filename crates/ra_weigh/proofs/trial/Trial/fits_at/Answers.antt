@@ -1,26 +1,26 @@
 -- A transient resource by its transient use, another by its use.
 use Rattle.std.proofs.Common.{◌<◌, ◌≤◌, sym, ◌∙◌}
-use Rattle.ra_weigh.specs.Trials.{tables_of, initial_of, after_of}
+use Rattle.ra_weigh.specs.Trials.{initial_of}
 use Rattle.ra_weigh.proofs.HoldLemmas.{told_le}
 use Rattle.ra_weigh.proofs.FitLemmas.{fits_twice, fits_once, over_twice, over_once}
 use Rattle.ra_weigh.proofs.trial.Trial.fits_at.Goals as goal
 
 pub returns-then-transient : goal.returns-then-transient
 returns-then-transient c = told_le c.transient_after-most.result c.from-cap.result
-    (λ (within : c.transient_after-most.result ≤ c.from-cap.result). fits_twice (tables_of c.args.self.now)
-    (initial_of c.args.self.now) (after_of c.args.self.now) c.args.m.0 c.args.r.0 c.transient_after-most.result
+    (λ (within : c.transient_after-most.result ≤ c.from-cap.result). fits_twice _
+    _ _ c.args.m.0 c.args.r.0
     c.from-cap.result c.transient_after-most.ensures (c.from-cap.ensures ∙ c.capacity.ensures) within)
-    (λ (over : c.from-cap.result < c.transient_after-most.result). over_twice (tables_of c.args.self.now)
-    (initial_of c.args.self.now) (after_of c.args.self.now) c.args.m.0 c.args.r.0 c.transient_after-most.result
+    (λ (over : c.from-cap.result < c.transient_after-most.result). over_twice _
+    _ _ c.args.m.0 c.args.r.0
     c.from-cap.result (sym c.transient.ensures ∙ c.if-transient.true) c.transient_after-most.ensures
     (c.from-cap.ensures ∙ c.capacity.ensures) over)
 
 pub returns : goal.returns
 returns c = told_le c.use_after-most.result c.from-cap.result
-    (λ (within : c.use_after-most.result ≤ c.from-cap.result). fits_once (tables_of c.args.self.now)
-    (initial_of c.args.self.now) (after_of c.args.self.now) c.args.m.0 c.args.r.0 c.use_after-most.result
+    (λ (within : c.use_after-most.result ≤ c.from-cap.result). fits_once _
+    _ _ c.args.m.0 c.args.r.0
     c.from-cap.result (sym c.transient.ensures ∙ c.if-transient.false) c.use_after-most.ensures
     (c.from-cap.ensures ∙ c.capacity.ensures) within)
-    (λ (over : c.from-cap.result < c.use_after-most.result). over_once (tables_of c.args.self.now)
-    (initial_of c.args.self.now) (after_of c.args.self.now) c.args.m.0 c.args.r.0 c.use_after-most.result
+    (λ (over : c.from-cap.result < c.use_after-most.result). over_once _
+    (initial_of c.args.self.now) _ c.args.m.0 c.args.r.0
     c.from-cap.result c.use_after-most.ensures (c.from-cap.ensures ∙ c.capacity.ensures) over)

@@ -6,4 +6,5 @@ use Rattle.ra_weigh.proofs.trial.Trial.flow_between.Given as goal
 
 abbrev pub invariant-loop-j : goal.invariant-loop-j
 invariant-loop-j l =
-    HasFlow (tables_of l.self) (transient_share (tables_of l.self) (initial_of l.self) l.m.0) (steps_of l.self) l.j l.come.amounts.now l.gone.amounts.now
+    HasFlow (tables_of l.self) (transient_share (tables_of l.self) (initial_of l.self) l.m.0)
+    (steps_of l.self) l.j l.come.amounts.now l.gone.amounts.now

@@ -1,25 +1,23 @@
 -- One more end.
 use Rattle.std.proofs.Common.{◌≡◌, ◌∙◌, sym, arith}
 use Rattle.ra_base.proofs.Named.{is_named_none, is_named_found}
-use Rattle.ra_weigh.specs.Marks.{end_location}
-use Rattle.ra_weigh.specs.Trials.{tables_of, steps_of}
 use Rattle.ra_weigh.proofs.StepLemmas.{unnamed_more}
 use Rattle.ra_weigh.proofs.trial.Trial.is_label_before.Goals as goal
 
 pub loop-j-init : goal.loop-j-init
-loop-j-init c = is_named_none (end_location (tables_of c.args.self.now) (steps_of c.args.self.now)) c.args.label
+loop-j-init c = is_named_none _ c.args.label
 
 pub end_label-requires : goal.end_label-requires
 end_label-requires c = omega (arith, c.requires, c.loop-j-test.true)
 
 pub returns-then-end_label-label : goal.returns-then-end_label-label
 returns-then-end_label-label c =
-    sym (is_named_found c.loop-j.j c.args.end (end_location (tables_of c.args.self.now) (steps_of c.args.self.now))
+    sym (is_named_found c.loop-j.j c.args.end _
     c.args.label c.loop-j-test.true c.loop-j.invariant (sym c.end_label.ensures ∙ c.if-end_label-label.true))
 
 pub loop-j-preserved : goal.loop-j-preserved
 loop-j-preserved c =
-    unnamed_more c.loop-j.j c.end_label.result (end_location (tables_of c.args.self.now) (steps_of c.args.self.now))
+    unnamed_more c.loop-j.j _
     c.args.label c.loop-j.invariant (sym c.end_label.ensures) c.if-end_label-label.false
 
 pub returns : goal.returns

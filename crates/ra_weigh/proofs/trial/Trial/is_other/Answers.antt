@@ -1,21 +1,20 @@
 -- Its service, as it is read.
 use Rattle.std.proofs.Common.{eqb, sym, ◌∙◌, eq-eqb}
 use Rattle.std.proofs.lemmas.Bool.{eqb-true, both_ways}
-use Rattle.ra_weigh.specs.Trials.{tables_of, steps_of, before_of}
+use Rattle.ra_weigh.specs.Trials.{tables_of, steps_of}
 use Rattle.ra_weigh.proofs.StepLemmas.{step_process, service_read}
 use Rattle.ra_weigh.proofs.trial.Trial.is_other.Goals as goal
 
 pub service_of-requires : goal.service_of-requires
-service_of-requires c = step_process (tables_of c.args.self.now) (before_of c.args.self.now) (steps_of c.args.self.now)
-    c.args.k c.step.result c.args.self.now.moves c.step.ensures c.requires
+service_of-requires c = step_process c.args.self.now.moves c.step.ensures c.requires
 
 pub returns-clause-moves : goal.returns-clause-moves
 returns-clause-moves c = λ told.
-    service_read (tables_of c.args.self.now) (steps_of c.args.self.now) c.args.k c.step.result c.service_of.result.0
+    service_read (tables_of c.args.self.now) (steps_of c.args.self.now) c.args.k
     c.step.ensures c.service_of.ensures ∙ eqb-true c.service_of.result.0 c.args.s.0 told
 
 pub returns-clause-none : goal.returns-clause-none
 returns-clause-none c = λ told other same.
     both_ways (eqb c.service_of.result.0 c.args.s.0) told (eq-eqb c.service_of.result.0 c.args.s.0
-    (sym (service_read (tables_of c.args.self.now) (steps_of c.args.self.now) c.args.k c.step.result
-    c.service_of.result.0 c.step.ensures c.service_of.ensures) ∙ same))
+    (sym (service_read (tables_of c.args.self.now)
+    (steps_of c.args.self.now) c.args.k c.step.ensures c.service_of.ensures) ∙ same))

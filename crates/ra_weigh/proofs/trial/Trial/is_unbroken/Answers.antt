@@ -11,8 +11,8 @@ pub returns-then-not-keeps_rows : goal.returns-then-not-keeps_rows
 returns-then-not-keeps_rows c =
     told_false (λ (none : first_broken (tables_of c.args.self.now) (initial_of c.args.self.now)
     (after_of c.args.self.now) ≡ None).
-    let fine = (fine_from_unbroken (tables_of c.args.self.now) (initial_of c.args.self.now)
-    (after_of c.args.self.now) none) in both_ways c.keeps_rows.result c.if-not-keeps_rows.true
+    let fine = (fine_from_unbroken _ _
+    _ none) in both_ways c.keeps_rows.result c.if-not-keeps_rows.true
     (c.keeps_rows.ensures.1 (record {
       capacity = fine.capacity;
       transient = fine.transient;
@@ -23,7 +23,7 @@ returns-then-not-keeps_apart c =
     told_false (λ (none : first_broken (tables_of c.args.self.now) (initial_of c.args.self.now)
     (after_of c.args.self.now) ≡ None). both_ways c.keeps_apart.result c.if-not-keeps_apart.true
     (c.keeps_apart.ensures.1
-    (fine_from_unbroken (tables_of c.args.self.now) (initial_of c.args.self.now) (after_of c.args.self.now)
+    (fine_from_unbroken _ _ _
     none).conflict))
 
 pub returns-then-not-keeps_spread : goal.returns-then-not-keeps_spread
@@ -31,7 +31,7 @@ returns-then-not-keeps_spread c =
     told_false (λ (none : first_broken (tables_of c.args.self.now) (initial_of c.args.self.now)
     (after_of c.args.self.now) ≡ None). both_ways c.keeps_spread.result c.if-not-keeps_spread.true
     (c.keeps_spread.ensures.1
-    (fine_from_unbroken (tables_of c.args.self.now) (initial_of c.args.self.now) (after_of c.args.self.now)
+    (fine_from_unbroken _ _ _
     none).spread))
 
 pub returns-then-not-keeps_near : goal.returns-then-not-keeps_near
@@ -39,13 +39,13 @@ returns-then-not-keeps_near c =
     told_false (λ (none : first_broken (tables_of c.args.self.now) (initial_of c.args.self.now)
     (after_of c.args.self.now) ≡ None). both_ways c.keeps_near.result c.if-not-keeps_near.true
     (c.keeps_near.ensures.1
-    (fine_from_unbroken (tables_of c.args.self.now) (initial_of c.args.self.now) (after_of c.args.self.now)
+    (fine_from_unbroken _ _ _
     none).dependency))
 
 pub returns : goal.returns
 returns c = (
-  λ (yes : c.keeps_closed.result ≡ true). unbroken_from_fine (tables_of c.args.self.now) (initial_of c.args.self.now)
-      (after_of c.args.self.now) (record {
+  λ (yes : c.keeps_closed.result ≡ true). unbroken_from_fine _ _
+      _ (record {
         capacity = (c.keeps_rows.ensures.0 c.if-not-keeps_rows.false).capacity;
         transient = (c.keeps_rows.ensures.0 c.if-not-keeps_rows.false).transient;
         conflict = c.keeps_apart.ensures.0 c.if-not-keeps_apart.false;
@@ -55,6 +55,6 @@ returns c = (
       }),
   λ (none : first_broken (tables_of c.args.self.now) (initial_of c.args.self.now) (after_of c.args.self.now) ≡ None).
       c.keeps_closed.ensures.1
-      (fine_from_unbroken (tables_of c.args.self.now) (initial_of c.args.self.now) (after_of c.args.self.now)
+      (fine_from_unbroken _ _ _
       none).closed,
 )

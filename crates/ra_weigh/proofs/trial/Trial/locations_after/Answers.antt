@@ -1,24 +1,23 @@
 -- The locations of the ends, each once.
 use Rattle.std.proofs.Common.{◌≡◌, ◌+◌, length, arith}
 use Rattle.ra_moves.specs.Values.{end_count}
-use Rattle.ra_weigh.specs.Marks.{location_holds, end_location}
-use Rattle.ra_weigh.specs.Trials.{tables_of, initial_of, steps_of, before_of, after_of}
+use Rattle.ra_weigh.specs.Trials.{tables_of, initial_of, steps_of, before_of}
 use Rattle.ra_weigh.proofs.LocationLemmas.{held_none, held_more, located_enough, located}
 use Rattle.ra_weigh.proofs.trial.Trial.locations_after.Goals as goal
 
 pub loop-j-init : goal.loop-j-init
-loop-j-init c = held_none (end_location (tables_of c.args.self.now) (steps_of c.args.self.now))
-    (location_holds (tables_of c.args.self.now) (before_of c.args.self.now) c.args.s.0)
-    (location_holds (tables_of c.args.self.now) (after_of c.args.self.now) c.args.s.0)
+loop-j-init c = held_none _
+    _
+    _
 
 pub held_at-end-requires-clause-end : goal.held_at-end-requires-clause-end
 unfolding end_count
 held_at-end-requires-clause-end c = omega (arith, c.loop-j-test.true, c.steps-j-end.ensures.value)
 
 pub loop-j-preserved : goal.loop-j-preserved
-loop-j-preserved c = held_more (end_location (tables_of c.args.self.now) (steps_of c.args.self.now))
-    (location_holds (tables_of c.args.self.now) (before_of c.args.self.now) c.args.s.0)
-    (location_holds (tables_of c.args.self.now) (after_of c.args.self.now) c.args.s.0) c.loop-j.j c.loop-j.came
+loop-j-preserved c = held_more _
+    _
+    _ c.loop-j.j c.loop-j.came
     c.loop-j.went
     c.held_at-end.result.came c.held_at-end.result.went c.loop-j.invariant c.held_at-end.ensures.came
     c.held_at-end.ensures.went c.held_at-end.ensures.came_few c.held_at-end.ensures.went_few
@@ -28,8 +27,7 @@ unfolding end_count
 overflow_sub-result c =
     let all : c.loop-j.j ≡ length (steps_of c.args.self.now) + length (steps_of c.args.self.now) =
     omega (arith, c.loop-j-test.false, c.loop-j.auto.j-end, c.steps-j-end.ensures.value) in
-    located_enough (tables_of c.args.self.now) (before_of c.args.self.now) (steps_of c.args.self.now) c.args.s.0
-    c.loop-j.j c.locations-kept.result c.loop-j.came c.loop-j.went c.args.self.now.inst.now.small
+    located_enough _ _ _ c.args.s.0 c.args.self.now.inst.now.small
     c.args.self.now.moves all c.loop-j.invariant
     (c.locations-kept.ensures.count (tables_of c.args.self.now) (initial_of c.args.self.now)
     (before_of c.args.self.now) c.args.self.now.cells_stand)
@@ -39,7 +37,6 @@ unfolding end_count
 returns c =
     let all : c.loop-j.j ≡ length (steps_of c.args.self.now) + length (steps_of c.args.self.now) =
     omega (arith, c.loop-j-test.false, c.loop-j.auto.j-end, c.steps-j-end.ensures.value) in
-    located (tables_of c.args.self.now) (before_of c.args.self.now) (steps_of c.args.self.now) c.args.s.0 c.loop-j.j
-    c.locations-kept.result c.loop-j.came c.loop-j.went c.args.self.now.inst.now.small c.args.self.now.moves all
+    located _ _ _ c.args.s.0 c.args.self.now.inst.now.small c.args.self.now.moves all
     c.loop-j.invariant (c.locations-kept.ensures.count (tables_of c.args.self.now) (initial_of c.args.self.now)
     (before_of c.args.self.now) c.args.self.now.cells_stand)

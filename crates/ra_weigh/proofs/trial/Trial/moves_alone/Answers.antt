@@ -7,7 +7,7 @@ use Rattle.ra_weigh.proofs.SpreadLemmas.{alone_none, alone_more}
 use Rattle.ra_weigh.proofs.trial.Trial.moves_alone.Goals as goal
 
 pub loop-k-init : goal.loop-k-init
-loop-k-init c = alone_none (tables_of c.args.self.now) (steps_of c.args.self.now) c.args.j c.args.s.0
+loop-k-init c = alone_none _ _ c.args.j c.args.s.0
 
 pub returns-then-is_other : goal.returns-then-is_other
 returns-then-is_other c =
@@ -17,7 +17,7 @@ returns-then-is_other c =
     (c.is_other.ensures.other c.if-is_other.true) (c.is_other.ensures.moves c.if-is_other.true))
 
 pub loop-k-preserved : goal.loop-k-preserved
-loop-k-preserved c = alone_more (tables_of c.args.self.now) (steps_of c.args.self.now) c.args.j c.args.s.0 c.loop-k.k
+loop-k-preserved c = alone_more _ _ c.args.j c.args.s.0 c.loop-k.k
     c.loop-k.invariant (c.is_other.ensures.none c.if-is_other.false)
 
 pub returns : goal.returns

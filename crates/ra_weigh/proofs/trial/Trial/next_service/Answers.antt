@@ -1,7 +1,6 @@
 -- One more step.
 use Rattle.std.proofs.Common.{arith, ◌≡◌, length}
-use Rattle.ra_moves.specs.Touched.{service_in}
-use Rattle.ra_weigh.specs.Trials.{tables_of, steps_of, before_of}
+use Rattle.ra_weigh.specs.Trials.{tables_of, steps_of}
 use Rattle.ra_weigh.proofs.SeekLemmas.{clear_none, clear_more}
 use Rattle.ra_weigh.proofs.StepLemmas.{service_read, step_process}
 use Rattle.ra_weigh.proofs.NextLemmas.{moved_all}
@@ -11,19 +10,18 @@ pub returns-clause-clear : goal.returns-clause-clear
 returns-clause-clear c =
     let all : c.loop-j.j ≡ length (steps_of c.args.self.now) =
     omega (arith, c.loop-j-test.false, c.steps-j-end.ensures.value) in
-    moved_all (tables_of c.args.self.now) (steps_of c.args.self.now) c.loop-j.j c.args.low c.loop-j.next all
+    moved_all _ _ c.loop-j.j c.args.low c.loop-j.next all
     c.loop-j.invariant.moved
 
 pub service_of-s-requires : goal.service_of-s-requires
-service_of-s-requires c = step_process (tables_of c.args.self.now) (before_of c.args.self.now)
-    (steps_of c.args.self.now) c.loop-j.j c.step.result c.args.self.now.moves c.step.ensures
+service_of-s-requires c = step_process c.args.self.now.moves c.step.ensures
     (omega (arith, c.loop-j-test.true, c.steps-j-end.ensures.value))
 
 pub loop-j-init : goal.loop-j-init
 loop-j-init c = record {
   from = omega (arith, c.requires, c.services-next.ensures);
   within = omega (arith, c.services-next.ensures);
-  moved = clear_none (service_in (tables_of c.args.self.now) (steps_of c.args.self.now)) c.args.low
+  moved = clear_none _ c.args.low
       c.services-next.result;
 }
 
@@ -34,7 +32,6 @@ loop-j-preserved c =
     record {
       from = c.nearer-next.ensures.from;
       within = omega (arith, c.nearer-next.ensures.near, c.loop-j.invariant.within);
-      moved = clear_more c.loop-j.j (service_in i steps) c.args.low c.loop-j.next c.nearer-next.result
-          c.service_of-s.result.0 c.loop-j.invariant.moved c.nearer-next.ensures.near c.nearer-next.ensures.clear
-          (service_read i steps c.loop-j.j c.step.result c.service_of-s.result.0 c.step.ensures c.service_of-s.ensures);
+      moved = clear_more c.loop-j.j _ c.nearer-next.result c.loop-j.invariant.moved c.nearer-next.ensures.near c.nearer-next.ensures.clear
+          (service_read i steps c.loop-j.j c.step.ensures c.service_of-s.ensures);
     }

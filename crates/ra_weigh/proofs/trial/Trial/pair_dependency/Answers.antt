@@ -4,7 +4,7 @@ use Rattle.ra_base.specs.Searches.{first}
 use Rattle.ra_base.proofs.Searches.{first_none, first_found, first_more_none}
 use Rattle.ra_model.specs.Members.{member_at}
 use Rattle.ra_weigh.specs.Nearness.{far_member, StaysNear}
-use Rattle.ra_weigh.specs.Trials.{tables_of, initial_of, steps_of, before_of, after_of}
+use Rattle.ra_weigh.specs.Trials.{tables_of, steps_of, after_of}
 use Rattle.ra_weigh.proofs.StepLemmas.{need_there}
 use Rattle.ra_weigh.proofs.NearLemmas.{pair_stays}
 use Rattle.ra_weigh.proofs.MemberLemmas.{members_listed, member_there, pair_listed}
@@ -13,53 +13,48 @@ use Rattle.ra_weigh.proofs.trial.Trial.pair_dependency.Goals as goal
 pub far_test-requires-clause-process : goal.far_test-requires-clause-process
 unfolding member_at
 far_test-requires-clause-process c =
-    member_there (tables_of c.args.self.now) c.args.s.0 c.loop-x.x c.members-members.result.now
-    (members_listed (tables_of c.args.self.now) c.args.self.now.topo.now c.args.s.0 c.members-members.result.now
+    member_there _ c.args.s.0 c.loop-x.x c.members-members.result.now
+    (members_listed c.args.self.now.topo.now c.args.s.0
     c.args.self.now.topology c.requires.service c.members-members.ensures) c.loop-x-test.true
 
 pub returns-in-Some : goal.returns-in-Some
 unfolding far_member member_at
 returns-in-Some c =
-    sym (pair_listed (tables_of c.args.self.now) (after_of c.args.self.now) c.args.s.0 c.args.k
-    c.members-members.result.now
-    (members_listed (tables_of c.args.self.now) c.args.self.now.topo.now c.args.s.0 c.members-members.result.now
+    sym (pair_listed (after_of c.args.self.now) c.args.k
+    (members_listed c.args.self.now.topo.now c.args.s.0
     c.args.self.now.topology c.requires.service c.members-members.ensures)
     ∙ first_found c.loop-x.x (length c.members-members.result.now)
-    (far_member (tables_of c.args.self.now) (after_of c.args.self.now) c.args.s.0 c.args.k
-    c.members-members.result.now) c.in-Some.cause c.loop-x-test.true c.loop-x.invariant (sym c.in-Some.ensures))
+    _ c.in-Some.cause c.loop-x-test.true c.loop-x.invariant (sym c.in-Some.ensures))
 
 pub loop-x-preserved : goal.loop-x-preserved
 unfolding far_member member_at
 loop-x-preserved c =
     first_more_none c.loop-x.x
-    (far_member (tables_of c.args.self.now) (after_of c.args.self.now) c.args.s.0 c.args.k c.members-members.result.now)
+    _
     c.loop-x.invariant (sym c.in_default.ensures)
 
 pub loop-x-init : goal.loop-x-init
 loop-x-init c =
-    first_none (far_member (tables_of c.args.self.now) (after_of c.args.self.now) c.args.s.0 c.args.k
-    c.members-members.result.now)
+    first_none _
 
 pub returns : goal.returns
 returns c =
     let all : length c.members-members.result.now ≡ c.loop-x.x =
     omega (arith, c.loop-x-test.false, c.loop-x.auto.x-end) in
-    sym (pair_listed (tables_of c.args.self.now) (after_of c.args.self.now) c.args.s.0 c.args.k
-    c.members-members.result.now
-    (members_listed (tables_of c.args.self.now) c.args.self.now.topo.now c.args.s.0 c.members-members.result.now
+    sym (pair_listed (after_of c.args.self.now) c.args.k
+    (members_listed c.args.self.now.topo.now c.args.s.0
     c.args.self.now.topology c.requires.service c.members-members.ensures)
     ∙ ap (λ n. first n
     (far_member (tables_of c.args.self.now) (after_of c.args.self.now) c.args.s.0 c.args.k
     c.members-members.result.now)) all ∙ c.loop-x.invariant)
 
 pub stays_near-requires-clause-need : goal.stays_near-requires-clause-need
-stays_near-requires-clause-need c = need_there (tables_of c.args.self.now) c.args.s.0 c.args.k c.args.need.0
+stays_near-requires-clause-need c = need_there
     c.args.self.now.inst.now.well_formed c.requires.service c.requires.dependency c.requires.need
 
 pub returns-then-stays_near : goal.returns-then-stays_near
 returns-then-stays_near c =
-    sym (pair_stays (tables_of c.args.self.now) (initial_of c.args.self.now) (before_of c.args.self.now)
-    (steps_of c.args.self.now) c.args.s.0 c.args.k c.args.self.now.moves c.args.self.now.fine c.requires.service
+    sym (pair_stays _ c.args.s.0 c.args.k c.args.self.now.moves c.args.self.now.fine c.requires.service
     c.requires.dependency
     (subst (λ u. StaysNear (tables_of c.args.self.now) (after_of c.args.self.now) (steps_of c.args.self.now)
     c.args.s.0 u (length (steps_of c.args.self.now))) c.requires.need

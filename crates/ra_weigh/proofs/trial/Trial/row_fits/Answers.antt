@@ -3,7 +3,7 @@ use Rattle.std.proofs.Common.{◌≡◌, ◌<◌, arith}
 use Rattle.std.proofs.lemmas.Bool.{both_ways}
 use Rattle.ra_model.specs.Numbers.{resource_count}
 use Rattle.ra_weigh.specs.Holding.{FitsBelow}
-use Rattle.ra_weigh.specs.Trials.{tables_of, initial_of, after_of, before_of}
+use Rattle.ra_weigh.specs.Trials.{tables_of, initial_of, after_of}
 use Rattle.ra_weigh.proofs.HoldLemmas.{told_true, told_false}
 use Rattle.ra_weigh.proofs.FitLemmas.{below_start, below_more, at_from_below}
 use Rattle.ra_weigh.proofs.CauseRowLemmas.{used_here, between_here}
@@ -17,32 +17,30 @@ fits_at-requires c =
     record {
       machine = c.requires;
       resource = within;
-      used = used_here (tables_of t) t.rows.now.tables (before_of t) c.args.m.0 c.loop-r.r c.usage_row-used.result.now
+      used = used_here c.loop-r.r
           t.rows_tables (c.usage_row-used.ensures.values _ t.rows_stand) within;
       used_below = c.usage_row-used.ensures.below.each c.loop-r.r;
-      between = between_here (tables_of t) t.rows.now.tables (initial_of t) t.rows.now.start (before_of t) c.args.m.0
-          c.loop-r.r c.transient_row-between.result.now t.rows_tables t.rows_start
+      between = between_here
+          c.loop-r.r t.rows_tables t.rows_start
           (c.transient_row-between.ensures.values _ t.rows_stand) within;
       between_below = c.transient_row-between.ensures.below.each c.loop-r.r;
     }
 
 pub loop-r-init : goal.loop-r-init
 loop-r-init c =
-    below_start (tables_of c.args.self.now) (initial_of c.args.self.now) (after_of c.args.self.now) c.args.m.0
+    below_start _ _ _ c.args.m.0
 
 pub returns-then-not-fits_at : goal.returns-then-not-fits_at
 returns-then-not-fits_at c =
-    let within : c.loop-r.r < resource_count (tables_of c.args.self.now) =
-    omega (arith, c.loop-r-test.true, c.resources-r-end.ensures) in
     told_false (λ (all : FitsBelow (tables_of c.args.self.now) (initial_of c.args.self.now) (after_of c.args.self.now)
     c.args.m.0 (resource_count (tables_of c.args.self.now))).
     both_ways c.fits_at.result c.if-not-fits_at.true
     (c.fits_at.ensures.1
-    (at_from_below (tables_of c.args.self.now) (initial_of c.args.self.now) (after_of c.args.self.now)
-    c.args.m.0 c.loop-r.r (resource_count (tables_of c.args.self.now)) within all)))
+    (at_from_below _ _ _
+    c.args.m.0 c.loop-r.r _ (omega (arith, c.loop-r-test.true, c.resources-r-end.ensures)) all)))
 
 pub loop-r-preserved : goal.loop-r-preserved
-loop-r-preserved c = below_more (tables_of c.args.self.now) (initial_of c.args.self.now) (after_of c.args.self.now)
+loop-r-preserved c = below_more _ _ _
     c.args.m.0 c.loop-r.r c.loop-r.invariant (c.fits_at.ensures.0 c.if-not-fits_at.false)
 
 pub returns : goal.returns

@@ -1,27 +1,26 @@
 -- What the steps add and take, and what that makes.
-use Rattle.std.proofs.Common.{◌≡◌, ◌^◌, length, arith}
-use Rattle.ra_model.specs.Usage.{transient_share, transient_of}
+use Rattle.std.proofs.Common.{◌≡◌, length, arith}
+use Rattle.ra_model.specs.Usage.{transient_of}
 use Rattle.ra_weigh.proofs.StepLemmas.{transient_comes, transient_goes}
-use Rattle.ra_weigh.specs.Trials.{tables_of, initial_of, steps_of, before_of}
+use Rattle.ra_weigh.specs.Trials.{steps_of}
 use Rattle.ra_weigh.proofs.FlowLemmas.{flows_none, flows_more, flowed_enough, flowed}
 use Rattle.ra_weigh.proofs.trial.Trial.transient_after.Goals as goal
 
 pub loop-j-init : goal.loop-j-init
 loop-j-init c =
-    flows_none (transient_share (tables_of c.args.self.now) (initial_of c.args.self.now) c.args.m.0 c.args.r.0)
-    (steps_of c.args.self.now) (2 ^ 32)
+    flows_none _
+    _ _
 
 pub loop-j-preserved : goal.loop-j-preserved
 loop-j-preserved c =
-    flows_more (transient_share (tables_of c.args.self.now) (initial_of c.args.self.now) c.args.m.0 c.args.r.0)
-    (steps_of c.args.self.now) c.loop-j.j (2 ^ 32) c.loop-j.came c.loop-j.went c.amount_of_either-came.result
-    c.amount_of_either-went.result c.loop-j.invariant
-    (transient_comes (tables_of c.args.self.now) (initial_of c.args.self.now) (steps_of c.args.self.now) c.args.m.0
-    c.args.r.0 c.loop-j.j c.step-step.result c.home-home.result.0 c.required-amount.result
+    flows_more _
+    _ c.loop-j.invariant
+    (transient_comes _ _ _ c.args.m.0
+    c.args.r.0 c.loop-j.j
     c.amount_of_either-came.result c.step-step.ensures c.home-home.ensures c.required-amount.ensures
     c.amount_of_either-came.ensures.value)
-    (transient_goes (tables_of c.args.self.now) (initial_of c.args.self.now) (steps_of c.args.self.now) c.args.m.0
-    c.args.r.0 c.loop-j.j c.step-step.result c.home-home.result.0 c.required-amount.result
+    (transient_goes _ _ _ c.args.m.0
+    c.args.r.0 c.loop-j.j
     c.amount_of_either-went.result c.step-step.ensures c.home-home.ensures c.required-amount.ensures
     c.amount_of_either-went.ensures.value)
     c.amount_of_either-came.ensures.few c.amount_of_either-went.ensures.few
@@ -31,15 +30,11 @@ unfolding transient_of
 overflow_sub-result c =
     let all : c.loop-j.j ≡ length (steps_of c.args.self.now) =
     omega (arith, c.loop-j-test.false, c.steps-j-end.ensures.value) in
-    flowed_enough (tables_of c.args.self.now) (before_of c.args.self.now) (steps_of c.args.self.now)
-    (transient_share (tables_of c.args.self.now) (initial_of c.args.self.now) c.args.m.0 c.args.r.0) c.loop-j.j
-    (2 ^ 32) c.args.kept c.loop-j.came c.loop-j.went c.args.self.now.moves all c.loop-j.invariant c.requires.kept
+    flowed_enough _ c.args.self.now.moves all c.loop-j.invariant c.requires.kept
 
 pub returns : goal.returns
 unfolding transient_of
 returns c =
     let all : c.loop-j.j ≡ length (steps_of c.args.self.now) =
     omega (arith, c.loop-j-test.false, c.steps-j-end.ensures.value) in
-    flowed (tables_of c.args.self.now) (before_of c.args.self.now) (steps_of c.args.self.now)
-    (transient_share (tables_of c.args.self.now) (initial_of c.args.self.now) c.args.m.0 c.args.r.0) c.loop-j.j
-    (2 ^ 32) c.args.kept c.loop-j.came c.loop-j.went c.args.self.now.moves all c.loop-j.invariant c.requires.kept
+    flowed _ c.args.self.now.moves all c.loop-j.invariant c.requires.kept

@@ -2,8 +2,8 @@
 use Rattle.std.proofs.Common.{◌≡◌, ◌<◌, ◌∙◌, sym, arith}
 use Rattle.ra_base.proofs.Searches.{first_none, first_more_none, first_found}
 use Rattle.ra_model.specs.Numbers.{resource_count}
-use Rattle.ra_model.specs.Broken.{transient_test, row_transient}
-use Rattle.ra_weigh.specs.Trials.{tables_of, initial_of, before_of, after_of}
+use Rattle.ra_model.specs.Broken.{row_transient}
+use Rattle.ra_weigh.specs.Trials.{tables_of}
 use Rattle.ra_weigh.proofs.CauseRowLemmas.{between_here}
 use Rattle.ra_weigh.proofs.trial.Trial.transient_by_steps.Goals as goal
 
@@ -17,8 +17,8 @@ transient_after-used-requires c =
     omega (arith, c.loop-r-test.true, c.resources-r-end.ensures) in
     record {
       resource = within;
-      kept = between_here (tables_of t) t.rows.now.tables (initial_of t) t.rows.now.start (before_of t) c.args.m.0
-          c.loop-r.r c.transient_row-row.result.now t.rows_tables t.rows_start
+      kept = between_here
+          c.loop-r.r t.rows_tables t.rows_start
           (c.transient_row-row.ensures.values _ t.rows_stand) within;
       below = c.transient_row-row.ensures.below.each c.loop-r.r;
     }
@@ -27,16 +27,14 @@ pub returns-in-Some : goal.returns-in-Some
 unfolding row_transient
 returns-in-Some c =
     let t = c.args.self.now in
-    let within : c.loop-r.r < resource_count (tables_of t) =
-    omega (arith, c.loop-r-test.true, c.resources-r-end.ensures) in
     sym (first_found c.loop-r.r (resource_count (tables_of t))
-    (transient_test (tables_of t) (initial_of t) (after_of t) c.args.m.0) c.in-Some.cause within
+    _ c.in-Some.cause (omega (arith, c.loop-r-test.true, c.resources-r-end.ensures))
     c.loop-r.invariant (sym c.transient_test.ensures ∙ c.in-Some.is))
 
 pub loop-r-preserved : goal.loop-r-preserved
 loop-r-preserved c =
     let t = c.args.self.now in
-    first_more_none c.loop-r.r (transient_test (tables_of t) (initial_of t) (after_of t) c.args.m.0) c.loop-r.invariant
+    first_more_none c.loop-r.r _ c.loop-r.invariant
     (sym c.transient_test.ensures ∙ c.in_default.is)
 
 pub returns : goal.returns

@@ -1,23 +1,20 @@
 -- What the steps add and take, and what that makes.
-use Rattle.std.proofs.Common.{◌≡◌, ◌^◌, length, arith}
-use Rattle.ra_model.specs.Usage.{use_share, use_of}
+use Rattle.std.proofs.Common.{◌≡◌, length, arith}
+use Rattle.ra_model.specs.Usage.{use_of}
 use Rattle.ra_weigh.proofs.StepLemmas.{use_comes, use_goes}
-use Rattle.ra_weigh.specs.Trials.{tables_of, steps_of, before_of}
+use Rattle.ra_weigh.specs.Trials.{steps_of}
 use Rattle.ra_weigh.proofs.FlowLemmas.{flows_none, flows_more, flowed_enough, flowed}
 use Rattle.ra_weigh.proofs.trial.Trial.use_after.Goals as goal
 
 pub loop-j-init : goal.loop-j-init
 loop-j-init c =
-    flows_none (use_share (tables_of c.args.self.now) c.args.m.0 c.args.r.0) (steps_of c.args.self.now) (2 ^ 32)
+    flows_none _ _ _
 
 pub loop-j-preserved : goal.loop-j-preserved
-loop-j-preserved c = flows_more (use_share (tables_of c.args.self.now) c.args.m.0 c.args.r.0) (steps_of c.args.self.now)
-    c.loop-j.j (2 ^ 32) c.loop-j.came c.loop-j.went c.amount_if-came.result c.amount_if-went.result c.loop-j.invariant
-    (use_comes (tables_of c.args.self.now) (steps_of c.args.self.now) c.args.m.0 c.args.r.0 c.loop-j.j
-    c.step-step.result c.required-amount.result c.amount_if-came.result c.step-step.ensures
+loop-j-preserved c = flows_more _ _ c.loop-j.invariant
+    (use_comes _ _ c.args.m.0 c.args.r.0 c.loop-j.j c.amount_if-came.result c.step-step.ensures
     c.required-amount.ensures c.amount_if-came.ensures.value)
-    (use_goes (tables_of c.args.self.now) (steps_of c.args.self.now) c.args.m.0 c.args.r.0 c.loop-j.j c.step-step.result
-    c.required-amount.result c.amount_if-went.result c.step-step.ensures c.required-amount.ensures
+    (use_goes _ _ c.args.m.0 c.args.r.0 c.loop-j.j c.amount_if-went.result c.step-step.ensures c.required-amount.ensures
     c.amount_if-went.ensures.value)
     c.amount_if-came.ensures.few c.amount_if-went.ensures.few
 
@@ -26,15 +23,11 @@ unfolding use_of
 overflow_sub-result c =
     let all : c.loop-j.j ≡ length (steps_of c.args.self.now) =
     omega (arith, c.loop-j-test.false, c.steps-j-end.ensures.value) in
-    flowed_enough (tables_of c.args.self.now) (before_of c.args.self.now) (steps_of c.args.self.now)
-    (use_share (tables_of c.args.self.now) c.args.m.0 c.args.r.0) c.loop-j.j (2 ^ 32) c.args.kept c.loop-j.came
-    c.loop-j.went c.args.self.now.moves all c.loop-j.invariant c.requires.kept
+    flowed_enough _ c.args.self.now.moves all c.loop-j.invariant c.requires.kept
 
 pub returns : goal.returns
 unfolding use_of
 returns c =
     let all : c.loop-j.j ≡ length (steps_of c.args.self.now) =
     omega (arith, c.loop-j-test.false, c.steps-j-end.ensures.value) in
-    flowed (tables_of c.args.self.now) (before_of c.args.self.now) (steps_of c.args.self.now)
-    (use_share (tables_of c.args.self.now) c.args.m.0 c.args.r.0) c.loop-j.j (2 ^ 32) c.args.kept c.loop-j.came
-    c.loop-j.went c.args.self.now.moves all c.loop-j.invariant c.requires.kept
+    flowed _ c.args.self.now.moves all c.loop-j.invariant c.requires.kept

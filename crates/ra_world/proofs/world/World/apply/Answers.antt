@@ -1,12 +1,11 @@
 -- The steps of a move that isn't refused can be followed.
-use Rattle.ra_model.specs.Situations.{situation}
 use Rattle.ra_world.proofs.StepLaws.{steps_from, unbroken_from, counted_few}
 use Rattle.ra_world.proofs.world.World.apply.Goals as goal
 
 pub follow-requires-clause-moves : goal.follow-requires-clause-moves
 follow-requires-clause-moves g c =
     let w = c.self.inside in
-    steps_from (situation w.inst.now.tables w.start.now.items w.kept.assignment.items) c.args.mv.now.steps
+    steps_from _ c.args.mv.now.steps
     (rw (← c.self.view_is) at c.requires.at_from) (rw (← c.self.view_is) at c.requires.to)
     (rw (← c.self.view_is) at c.requires.unbroken)
 
@@ -18,7 +17,7 @@ invariant_of-self g c =
       topology = c.self.invariant.topology;
       stays = c.self.invariant.stays;
       keeps = c.follow.ensures.keeps;
-      unbroken = unbroken_from (situation w.inst.now.tables w.start.now.items w.kept.assignment.items) _
+      unbroken = unbroken_from _ _
           c.args.mv.now.steps (rw (← c.self.view_is) at c.requires.unbroken) c.follow.ensures.assignment;
     }
 

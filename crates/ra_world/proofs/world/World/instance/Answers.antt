@@ -5,4 +5,4 @@ use Rattle.ra_world.proofs.world.World.instance.Goals as goal
 
 pub returns-clause-sound : goal.returns-clause-sound
 returns-clause-sound c =
-    subst IsSound c.self.view_is (sound_world c.self.inside.inst.now _ _ _ c.self.inside.kept c.self.invariant)
+    subst IsSound c.self.view_is (sound_world c.self.inside.inst.now _ c.self.inside.kept c.self.invariant)

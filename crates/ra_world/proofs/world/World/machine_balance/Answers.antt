@@ -1,6 +1,5 @@
 -- The cost that is kept.
 use Rattle.std.proofs.Common.{◌≡◌, arith, subst}
-use Rattle.ra_model.specs.Numbers.{machine_count}
 use Rattle.ra_model.specs.MachineCosts.{machine_balance}
 use Rattle.ra_model.specs.Situations.{Situation, IsSound}
 use Rattle.ra_world.proofs.RenewalLaws.{kept_cost}
@@ -15,10 +14,9 @@ pub returns-clause-value : goal.returns-clause-value
 returns-clause-value c =
     let w = c.self.inside in
     subst (λ (st : Situation). c.get.result ≡ machine_balance st.tables st.here c.args.m.0) c.self.view_is
-    (kept_cost w.kept.balances.items (machine_count w.inst.now.tables)
-    (machine_balance w.inst.now.tables w.kept.assignment.items)
-    c.args.m.0 c.get.result c.self.invariant.keeps.balances (rw (← c.self.view_is) at c.requires) c.get.ensures)
+    (kept_cost
+    c.args.m.0 c.self.invariant.keeps.balances (rw (← c.self.view_is) at c.requires) c.get.ensures)
 
 pub returns-clause-sound : goal.returns-clause-sound
 returns-clause-sound c =
-    subst IsSound c.self.view_is (sound_world c.self.inside.inst.now _ _ _ c.self.inside.kept c.self.invariant)
+    subst IsSound c.self.view_is (sound_world c.self.inside.inst.now _ c.self.inside.kept c.self.invariant)
