@@ -3,6 +3,7 @@ import os
 import signal
 import sys
 
+from .children import has_to_wait
 from .problems import Problem, Stopped
 
 PACKAGE = os.path.dirname(os.path.realpath(__file__))
@@ -62,7 +63,8 @@ def command_of(tool):
 
 def stop(*_):
     no_more_stops()
-    raise Stopped
+    if not has_to_wait():
+        raise Stopped
 
 
 def no_more_stops():
