@@ -13,7 +13,7 @@ mod names;
 
 pub use amounts::{difference, one_when};
 pub use causes::{Cause, Drawing};
-pub use cells::{add_to_cell, read_cell};
+pub use cells::{add_to_cell, place, read_cell, read_row};
 pub use costs::{MovedCount, Parts};
 pub use counter::Steps;
 pub use ids::{Guard, Machine, Process, Resource, Service};
