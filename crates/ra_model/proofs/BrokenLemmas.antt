@@ -34,6 +34,14 @@ unfolding cause_if
 cause_none true cause none = cc
 cause_none false cause none = refl
 
+pub failed_if : {failed : Bool} (cause : Cause) → failed ≡ true → Some cause ≡ cause_if failed cause
+unfolding cause_if
+failed_if {failed} cause is = sym (cond-true failed (Some cause) None is)
+
+pub held_if : {failed : Bool} (cause : Cause) → failed ≡ false → None ≡ cause_if failed cause
+unfolding cause_if
+held_if {failed} cause is = sym (cond-false failed (Some cause) None is)
+
 pub cause_free : (failed : Bool) (cause : Cause) → failed ≡ false → cause_if failed cause ≡ None
 unfolding cause_if
 cause_free failed cause holds = cond-false failed (Some cause) None holds

@@ -1,15 +1,15 @@
 -- Laws of `tally`, the sum over processes of a share of each process and its machine, and of `machine_at`.
 use Rattle.std.proofs.Common.{◌≡◌, ◌≢◌, ℕ, ◌+◌, ◌*◌, ◌<◌, ◌≤◌, Bool, ◌&&◌, List, length, set, slice_index_or, refl, ap}
-use Rattle.std.proofs.Common.{◌∙◌, ⊎_elim, arith, get_or-set_same, get_or-set_other, ext_get_or}
+use Rattle.std.proofs.Common.{◌∙◌, ⊎_elim, arith, eq-eqb, ne_eqb, get_or-set_same, get_or-set_other, ext_get_or}
 use Rattle.std.proofs.Math.ListN.{length-set}
-use Rattle.std.proofs.lemmas.Bool.{cases_eq}
+use Rattle.std.proofs.lemmas.Bool.{cases_eq, cond-true, cond-false}
 use Rattle.std.proofs.lemmas.List.{get_or_read}
 use Rattle.ra_base.specs.Sums.{total, count}
 use Rattle.ra_base.specs.declared.ids.Machine.{Machine}
 use Rattle.ra_base.proofs.Sums.{total_none, total_more, total_same, total_zero, total_le, total_bound, total_term}
 use Rattle.ra_base.proofs.Sums.{total_change}
 use Rattle.ra_model.specs.declared.raw.Tables.{Tables}
-use Rattle.ra_model.specs.Numbers.{machine_count, process_count}
+use Rattle.ra_model.specs.Numbers.{machine_count, process_count, requirement_of}
 use Rattle.ra_model.specs.Assignments.{IsAssignment, machine_at, tally}
 use Rattle.ra_model.specs.Usage.{use_share, use_of, transient_share, transient_of}
 use Rattle.ra_model.specs.Services.{is_of, of_service, members_at}
@@ -79,6 +79,16 @@ module _ (i : Tables) (a : List Machine) (p : ℕ) (to : Machine) where
   unfolding members_at
   members_set s test fits within =
       tally_set (process_count i) p (of_service i s test) a to within (omega (arith, fits.one_each))
+
+-- what a process uses of its machine, and of another
+
+pub use_share_here : (i : Tables) (m r p at : ℕ) → at ≡ m → use_share i m r p at ≡ requirement_of i p r
+unfolding use_share
+use_share_here i m r p at here = cond-true _ _ _ (eq-eqb at m here)
+
+pub use_share_elsewhere : (i : Tables) (m r p at : ℕ) → at ≢ m → use_share i m r p at ≡ 0
+unfolding use_share
+use_share_elsewhere i m r p at apart = cond-false _ _ _ (ne_eqb at m apart)
 
 -- sums over the processes
 

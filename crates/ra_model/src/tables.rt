@@ -1,7 +1,7 @@
 ghost use Rattle.std.specs.Prelude.{◌≡◌, ℕ, ◌+◌, ◌*◌, ◌^◌, ◌<◌, length, slice_index};
 ghost use Rattle.ra_base.specs.Tables.{cell};
 
-use ra_base::Fixed;
+use ra_base::{Fixed, place};
 
 /// The numbers of a table, each below 2^32 by its type.
 pub(crate) fn numbers_in(table: &Fixed<u32>) -> &[u32]
@@ -19,6 +19,5 @@ pub(crate) fn number_at(table: &Fixed<u32>, width: u32, row: u32, column: u32) -
     requires { row * width + column < length table.now.items }
     ensures { result ≡ cell width table.now.items row column }
 {
-    let _within = table.len();
-    table.get(row as usize * width as usize + column as usize)
+    table.get(place(width, row, column))
 }
