@@ -1,11 +1,9 @@
--- One cell is changed: what that says of a column; and a row as it is read.
-use Rattle.std.proofs.Common.{◌≡◌, ◌≢◌, ℕ, ◌+◌, ◌*◌, ◌<◌, ◌≤◌, inr, List, length, get_or, set, refl}
-use Rattle.std.proofs.Common.{sym, ◌∙◌, arith, eq-eqb, ne_eqb, length-set, length-take, length-drop}
+-- One cell is changed: what that says of a column.
+use Rattle.std.proofs.Common.{◌≡◌, ◌≢◌, ℕ, ◌+◌, ◌*◌, ◌<◌, inr, List, length, set, refl}
+use Rattle.std.proofs.Common.{sym, ◌∙◌, arith, eq-eqb, ne_eqb, length-set}
 use Rattle.std.proofs.lemmas.Bool.{cond-true, cond-false}
-use Rattle.std.proofs.lemmas.List.{get_or-take, get_or-drop}
-use Rattle.std.specs.List.{slice_range}
 use Rattle.ra_base.specs.Tables.{cell}
-use Rattle.ra_base.proofs.Tables.{cell_is, cell_write_same, cell_write_other, place_within}
+use Rattle.ra_base.proofs.Tables.{cell_write_same, cell_write_other, place_within}
 use Rattle.ra_rows.specs.Changes.{at_row, away_row, HasMore, Moves}
 
 module _ (at amount m : ℕ) where
@@ -95,18 +93,6 @@ module _ (width : ℕ) where
       others = more.others;
       same_length = more.same_length;
     }
-
-  -- a row, as it is read
-
-  pub row_length : (row : ℕ) (table : List ℕ) → row * width + width ≤ length table →
-      length (slice_range table (row * width) (row * width + width)) ≡ width
-  row_length row table within = omega (arith, length-take {A = ℕ}, length-drop {A = ℕ})
-
-  pub row_cell : (row column : ℕ) (table : List ℕ) → column < width →
-      get_or (slice_range table (row * width) (row * width + width)) column 0 ≡ cell width table row column
-  row_cell row column table inside = grind (arith, get_or-take, get_or-drop, cell_is)
-
-pub ruleset rows = (row_length, row_cell)
 
 module _ (height width row : ℕ) where
   -- a place within a grid

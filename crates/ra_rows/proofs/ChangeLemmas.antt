@@ -1,11 +1,10 @@
 -- Tables changed column by column, and what the whole change is.
-use Rattle.std.proofs.Common.{inl, inr, ◌≡◌, ℕ, ◌+◌, ◌*◌, ◌^◌, ◌<◌, ◌≤◌, List, length, get_or, replicate}
+use Rattle.std.proofs.Common.{inl, inr, ◌≡◌, ℕ, ◌+◌, ◌^◌, ◌<◌, ◌≤◌, List, length, replicate}
 use Rattle.std.proofs.Common.{refl, sym}
 use Rattle.std.proofs.Common.{ap, ◌∙◌, arith}
 use Rattle.std.proofs.lemmas.Bool.{cases_lt}
-use Rattle.std.proofs.lemmas.List.{length-replicate, get_or-replicate, get_or_past}
 use Rattle.ra_base.specs.Tables.{cell}
-use Rattle.ra_base.proofs.Tables.{cell_is}
+use Rattle.ra_base.proofs.Tables.{cell_zeros}
 use Rattle.ra_base.specs.declared.ids.Machine.{Machine}
 use Rattle.ra_model.specs.declared.raw.Tables.{Tables}
 use Rattle.ra_model.specs.Limits.{WellFormed, Small}
@@ -153,13 +152,10 @@ module _ (i : Tables) where
 
 -- sums over the processes
 
-zeros_at : (n k : ℕ) → get_or {A = ℕ} (replicate n 0) k 0 ≡ 0
-zeros_at n k = grind (arith, get_or-replicate, get_or_past, length-replicate)
-
 pub tally_start : (width n : ℕ) (share : ℕ → ℕ → ℕ → ℕ → ℕ) (a : List Machine) (table : List ℕ) →
     table ≡ replicate n 0 → IsTally width 0 share a table
 tally_start width n share a table zeros = rw zeros (record {
-  each = λ m r w. cell_is width _ m r ∙ zeros_at n (m * width + r) ∙ sym (tally_none (share m r) a);
+  each = λ m r w. cell_zeros width n m r ∙ sym (tally_none (share m r) a);
 })
 
 pub tally_next : (width p at : ℕ) (share : ℕ → ℕ → ℕ → ℕ → ℕ) (a : List Machine) (old new : List ℕ) →

@@ -1,21 +1,8 @@
-ghost use Rattle.std.specs.Prelude.{◌≡◌, ◌≢◌, ℕ, ◌+◌, ◌*◌, ◌^◌, ◌<◌, ◌≤◌, length, slice_index_or};
+ghost use Rattle.std.specs.Prelude.{◌≢◌, ◌+◌, ◌*◌, ◌^◌, ◌<◌, ◌≤◌, length};
 ghost use Rattle.ra_base.specs.Tables.{cell};
 ghost use Rattle.ra_rows.specs.Changes.{at_row, away_row, HasMore, Moves};
 
-use ra_base::{Fixed, Machine, read_cell};
-
-/// The numbers of a row, column by column.
-#[tactic(auto, using(crate::proofs::CellLemmas::rows))]
-pub(crate) fn read_row(table: &Fixed<u64>, width: u32, row: u32) -> &[u64]
-    requires { row * width + width ≤ length table.now.items }
-    ensures one_each { length result.now ≡ width }
-    ensures each { (r : ℕ) → r < width → slice_index_or result.now r 0 ≡
-        cell width table.now.items row r }
-{
-    let _within = table.len();
-    let start = row as usize * width as usize;
-    &table.as_slice()[start..start + width as usize]
-}
+use ra_base::{Fixed, Machine, place, read_cell};
 
 /// Adds to the number at a row and a column of a table.
 pub(crate) fn add_to_cell(table: &mut Fixed<u64>, width: u32, row: u32, column: u32, amount: u32)
@@ -24,9 +11,7 @@ pub(crate) fn add_to_cell(table: &mut Fixed<u64>, width: u32, row: u32, column: 
     requires fits { cell width table.old.items row column + amount < 2 ^ 64 }
     ensures { HasMore width column (at_row row amount) table.old.items table.new.items }
 {
-    let _within = table.len();
-    let sum = read_cell(table, width, row, column) + u64::from(amount);
-    table.set(row as usize * width as usize + column as usize, sum);
+    ra_base::add_to_cell(table, width, row, column, amount);
 }
 
 /// Subtracts from the number at a row and a column of a table.
@@ -36,9 +21,8 @@ pub(crate) fn take_from_cell(table: &mut Fixed<u64>, width: u32, row: u32, colum
     requires enough { amount ≤ cell width table.old.items row column }
     ensures { HasMore width column (at_row row amount) table.new.items table.old.items }
 {
-    let _within = table.len();
     let rest = read_cell(table, width, row, column) - u64::from(amount);
-    table.set(row as usize * width as usize + column as usize, rest);
+    table.set(place(width, row, column), rest);
 }
 
 /// Moves an amount from one row of a table to another.

@@ -5,10 +5,11 @@ ghost use Rattle.ra_model.specs.Assignments.{IsAssignment, machine_at};
 ghost use Rattle.ra_model.specs.Usage.{use_of, transient_of};
 ghost use Rattle.ra_rows.specs.Rows.{StandFor, HasAt, IsUsageRow, IsTransientRow, AreBelow};
 
-use crate::cells::read_row;
 use crate::shifts::shift_rows;
 use crate::sums::sum_usage;
-use ra_base::{Assignment, Fixed, Machine, NoMemory, Process, Resource, Steps, read_cell};
+use ra_base::{
+    Assignment, Fixed, Machine, NoMemory, Process, Resource, Steps, read_cell, read_row,
+};
 use ra_model::{Instance, copied, copies, machine_of};
 use std::alloc::Global;
 use std::marker::{Brand, Model};
