@@ -13,6 +13,7 @@ use Rattle.ra_model.specs.Assignments.{IsAssignment, machine_at, tally}
 use Rattle.ra_model.specs.Usage.{use_share, use_of, transient_share, transient_of}
 use Rattle.ra_model.specs.Services.{is_of}
 use Rattle.ra_model.specs.Feasible.{Feasible}
+use Rattle.ra_model.proofs.TallyLemmas.{use_share_here, use_share_elsewhere}
 use Rattle.ra_pins.specs.Pinned.{flagged_share, flagged_use, lacks, lacks_between, holds, flagged_starts_on}
 use Rattle.ra_pins.specs.Pinned.{rounds}
 use Rattle.ra_pins.specs.Pinned.{is_pinned}
@@ -35,15 +36,6 @@ total_room n p e f g within each more = omega (
 )
 
 module _ (i : Tables) where
-  module _ (m r p at : ℕ) where
-    pub use_share_yes : at ≡ m → use_share i m r p at ≡ requirement_of i p r
-    unfolding use_share
-    use_share_yes here = grind (arith, eq-eqb)
-
-    pub use_share_no : at ≢ m → use_share i m r p at ≡ 0
-    unfolding use_share
-    use_share_no apart = cond-false _ _ _ (ne_eqb at m apart)
-
   module _ (a0 : List Machine) (m r p at : ℕ) where
     between_home : machine_at a0 p ≡ m → transient_share i a0 m r p at ≡ requirement_of i p r
     unfolding transient_share
@@ -63,7 +55,7 @@ module _ (i : Tables) (a0 a : List Machine) where
     flagged_part : (z : ℕ) → Agree i a0 a x → z < process_count i →
         flagged_share i x m r z (machine_at a0 z) ≤ use_share i m r z (machine_at a z)
     flagged_part z agree h =
-        grind (arith, flagged_share_yes, use_share_yes, flagged_share_elsewhere, flagged_share_free)
+        grind (arith, flagged_share_yes, use_share_here, flagged_share_elsewhere, flagged_share_free)
 
     -- the flagged processes of a machine are a part of its use
     pub flagged_below : Agree i a0 a x → flagged_use i a0 x m r ≤ use_of i a m r
@@ -72,7 +64,7 @@ module _ (i : Tables) (a0 a : List Machine) where
 
   between_part : (m r z : ℕ) → use_share i m r z (machine_at a0 z) ≤
       transient_share i a0 m r z (machine_at a z)
-  between_part m r z = grind (arith, use_share_yes, between_home, use_share_no)
+  between_part m r z = grind (arith, use_share_here, between_home, use_share_elsewhere)
 
   module _ (p m r : ℕ) where
     -- beside all that start on a machine another process that comes there
@@ -84,7 +76,7 @@ module _ (i : Tables) (a0 a : List Machine) where
         (λ z z_in other. between_part m r z)
         (omega (
           arith,
-          use_share_no i m r p (machine_at a0 p) (λ e. apart (sym e)),
+          use_share_elsewhere i m r p (machine_at a0 p) (λ e. apart (sym e)),
           between_there i a0 m r p _ at,
         ))
 
@@ -104,7 +96,7 @@ module _ (i : Tables) (a0 a : List Machine) where
         (omega (
           arith,
           flagged_share_elsewhere i x m r p (machine_at a0 p) (λ e. apart (sym e)),
-          use_share_yes i m r p _ at,
+          use_share_here i m r p _ at,
         ))
 
     lack_clash : (r : ℕ) → Feasible i a0 a → Agree i a0 a x → p < process_count i → m < machine_count i →

@@ -1,14 +1,14 @@
 -- Tables by machine and resource: rows that are added cell by cell, and sums over the processes.
 use Rattle.std.proofs.Common.{◌≡◌, ◌≢◌, ℕ, ◌+◌, ◌*◌, ◌^◌, ◌<◌, ◌≤◌, inl, inr, Bool, true, false, ◌&&◌, ◌||◌}
-use Rattle.std.proofs.Common.{cond, eqb, ltb, List, length, replicate, get_or, set, refl, sym, ap, ◌∙◌, arith, le_refl}
+use Rattle.std.proofs.Common.{cond, eqb, ltb, List, length, replicate, set, refl, sym, ap, ◌∙◌, arith, le_refl}
 use Rattle.std.proofs.Common.{length-set, eq-eqb, ne_eqb}
 use Rattle.std.proofs.lemmas.Bool.{cases_eq, cases_lt, cases_Bool, cond-true, cond-false, cond_both, or_cases, or_left}
 use Rattle.std.proofs.lemmas.Bool.{or_right, and_parts, and_from, lt-ltb, ltb-true}
-use Rattle.std.proofs.lemmas.List.{get_or-replicate, get_or_past, length-replicate}
+use Rattle.std.proofs.lemmas.List.{length-replicate}
 use Rattle.ra_base.specs.Tables.{cell}
 use Rattle.ra_base.specs.declared.ids.Machine.{Machine}
 use Rattle.ra_base.proofs.Sums.{total_change}
-use Rattle.ra_base.proofs.Tables.{cell_is, cell_write_same, cell_write_other, place_within}
+use Rattle.ra_base.proofs.Tables.{cell_write_same, cell_write_other, cell_zeros, place_within}
 use Rattle.ra_model.specs.declared.raw.Tables.{Tables}
 use Rattle.ra_model.specs.Limits.{WellFormed, Small}
 use Rattle.ra_model.specs.Numbers.{resource_count, machine_count, process_count, transient_at, capacity_of}
@@ -16,6 +16,7 @@ use Rattle.ra_model.specs.Numbers.{requirement_of, closed_at, service_of}
 use Rattle.ra_model.specs.Assignments.{machine_at, tally}
 use Rattle.ra_model.specs.Usage.{use_share, use_of}
 use Rattle.ra_model.proofs.TallyLemmas.{tally_none, tally_more, tally_same, tally_zero, tally_bound}
+use Rattle.ra_model.proofs.TallyLemmas.{use_share_here, use_share_elsewhere}
 use Rattle.ra_model.proofs.BoundLemmas.{use_under}
 use Rattle.ra_pins.specs.Pinned.{some_of, flagged_share, flagged_use, lacks, lacks_between, flagged_starts_on, blocked}
 use Rattle.ra_pins.specs.Loads.{takes, amount_in, row_share, AddsRow, IsBelow, IsTallyTable, kept_use, AreKept}
@@ -24,7 +25,7 @@ use Rattle.ra_pins.specs.declared.tables.Columns.{Columns}
 use Rattle.ra_pins.specs.declared.tables.Columns.TheVariants.{All, Transient, Others}
 use Rattle.ra_pins.proofs.RoundLemmas.{some_yes, some_found, same_tests, flagged_share_yes, flagged_share_free}
 use Rattle.ra_pins.proofs.RoundLemmas.{flagged_share_elsewhere}
-use Rattle.ra_pins.proofs.StayLemmas.{flagged_below, use_share_yes, use_share_no}
+use Rattle.ra_pins.proofs.StayLemmas.{flagged_below}
 
 takes_transient : (t : Bool) → takes Transient t ≡ t
 unfolding takes
@@ -53,9 +54,6 @@ pub record AddsPart (i : Tables) (columns : Columns) (p at n : ℕ) (old new : L
   pub same_length : length new ≡ length old
 
 -- sums over the processes
-
-zeros_at : (n k : ℕ) → get_or {A = ℕ} (replicate n 0) k 0 ≡ 0
-zeros_at n k = grind (arith, get_or-replicate, get_or_past, length-replicate)
 
 -- sums of small shares are small
 pub record AreSmall (share : ℕ → ℕ → ℕ → ℕ → ℕ) : Type 0 where
@@ -96,7 +94,7 @@ module _ (i : Tables) where
     row_share_nothing e = grind (arith, row_share_here, amount_left, row_share_elsewhere)
 
     row_share_use : takes columns (transient_at i r) ≡ true → row_share i columns m r p at ≡ use_share i m r p at
-    row_share_use e = grind (arith, row_share_here, amount_taken, use_share_yes, row_share_elsewhere, use_share_no)
+    row_share_use e = grind (arith, row_share_here, amount_taken, use_share_here, row_share_elsewhere, use_share_elsewhere)
 
   row_share_flagged : (columns : Columns) (x : ℕ → Bool) (m r p at : ℕ) → takes columns (transient_at i r) ≡ true →
       x p ≡ true → row_share i columns m r p at ≡ flagged_share i x m r p at
@@ -192,8 +190,8 @@ module _ (i : Tables) where
       table ≡ replicate (machine_count i * resource_count i) 0 → IsTallyTable i 0 share a table
   tally_start share a table zeros = rw zeros (record {
     grid = length-replicate {A = ℕ} (machine_count i * resource_count i) 0;
-    each = λ m r w. cell_is _ _ m r
-        ∙ zeros_at (machine_count i * resource_count i) (m * resource_count i + r) ∙ sym (tally_none (share m r) a);
+    each = λ m r w. cell_zeros (resource_count i) (machine_count i * resource_count i) m r
+        ∙ sym (tally_none (share m r) a);
   })
 
   -- one process more, with its row
