@@ -12,7 +12,7 @@ use Rattle.ra_model.specs.Assignments.{machine_at, tally}
 use Rattle.ra_model.specs.Services.{is_of, of_service, members_at, moved_of}
 use Rattle.ra_model.specs.Costs.{service_cost}
 use Rattle.ra_check.specs.Stands.{has_moved, HasMoved, AddsMoved, AreBelow}
-use Rattle.ra_check.proofs.TableLaws.{zeros_at}
+use Rattle.ra_base.proofs.Tables.{zeros_at}
 
 pub counts_at_most_one : (i : Tables) (a0 : List Machine) (s p at : ℕ) → of_service i s (has_moved a0) p at ≤ 1
 unfolding of_service

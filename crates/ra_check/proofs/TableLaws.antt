@@ -1,35 +1,20 @@
 -- Laws of tables of sums by machine and resource.
 use Rattle.std.proofs.Common.{◌≡◌, ◌≢◌, ℕ, ◌+◌, ◌*◌, ◌^◌, ◌<◌, ◌≤◌, inl, inr, ⊎_elim, List, length, replicate}
-use Rattle.std.proofs.Common.{get_or, set, refl, sym, ◌∙◌, arith, le_refl, eq-eqb, ne_eqb, eqb, ◌||◌, length-set}
+use Rattle.std.proofs.Common.{set, refl, sym, ◌∙◌, arith, le_refl, eq-eqb, ne_eqb, eqb, ◌||◌, length-set}
 use Rattle.std.proofs.lemmas.Bool.{cases_eq, cases_lt, cond-true, cond-false, or_left, or_right, or_from, cond_both}
-use Rattle.std.proofs.lemmas.List.{get_or-replicate, get_or_past, length-replicate}
 use Rattle.ra_base.specs.Tables.{cell}
 use Rattle.ra_base.proofs.Sums.{total_none, total_more, total_bound}
-use Rattle.ra_base.proofs.Tables.{cell_is, cell_write_same, cell_write_other, place_within}
+use Rattle.ra_base.proofs.Tables.{cell_write_same, cell_write_other, cell_zeros, place_within}
 use Rattle.ra_base.specs.declared.ids.Machine.{Machine}
 use Rattle.ra_model.specs.declared.raw.Tables.{Tables}
 use Rattle.ra_model.specs.Limits.{Small}
 use Rattle.ra_model.specs.Numbers.{resource_count, requirement_of}
 use Rattle.ra_model.specs.Assignments.{machine_at, tally}
 use Rattle.ra_model.specs.Usage.{use_share, transient_share}
+use Rattle.ra_model.proofs.TallyLemmas.{use_share_here, use_share_elsewhere}
 use Rattle.ra_check.specs.Stands.{IsTally, AddsShare, IsBelow}
 
--- a table of zeros
-
-pub zeros_at : (n k : ℕ) → get_or {A = ℕ} (replicate n 0) k 0 ≡ 0
-zeros_at n k =
-    ⊎_elim (λ within. get_or-replicate n k 0 0 within)
-    (λ past. get_or_past (replicate n 0) k 0 (omega (arith, length-replicate {A = ℕ} n 0))) (cases_lt k n)
-
 -- shares
-
-pub use_share_here : (i : Tables) (m r p at : ℕ) → at ≡ m → use_share i m r p at ≡ requirement_of i p r
-unfolding use_share
-use_share_here i m r p at e = cond-true _ _ _ (eq-eqb at m e)
-
-pub use_share_elsewhere : (i : Tables) (m r p at : ℕ) → at ≢ m → use_share i m r p at ≡ 0
-unfolding use_share
-use_share_elsewhere i m r p at e = cond-false _ _ _ (ne_eqb at m e)
 
 -- a process that stays has one share
 pub transient_share_stays : (i : Tables) (a0 : List Machine) (m r p at : ℕ) → machine_at a0 p ≡ at →
@@ -152,8 +137,7 @@ adds_more i p at n old mid column within part =
 pub tally_none : (width n : ℕ) (share : ℕ → ℕ → ℕ → ℕ → ℕ) (a : List Machine) → IsTally width 0 share a (replicate n 0)
 unfolding tally
 tally_none width n share a = record {
-  each = λ m r w. (cell_is width (replicate n 0) m r ∙ zeros_at n (m * width + r))
-      ∙ sym (total_none (λ q. share m r q (machine_at a q)));
+  each = λ m r w. cell_zeros width n m r ∙ sym (total_none (λ q. share m r q (machine_at a q)));
 }
 
 pub tally_step : {width p : ℕ} {share : ℕ → ℕ → ℕ → ℕ → ℕ} {a : List Machine} {old new : List ℕ} →
