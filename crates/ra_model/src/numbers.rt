@@ -221,8 +221,8 @@ impl Instance {
         self.process(p).move_cost
     }
 
-    /// What a process requires of a resource. Each call counts one step. Requirements are read only by this call and by
-    /// `read_requirements`.
+    /// What a process requires of a resource. Each call counts one step. Requirements are read only by this call,
+    /// `requirements_of` and `read_requirements`.
     #[tactic(auto, unfolding(crate::specs::Numbers::requirement_of))]
     pub fn requirement<L: Ledger>(&self, p: Process, r: Resource, steps: &mut Steps<L>) -> u32
         requires process { p.0 < process_count self.now.tables }
@@ -234,6 +234,22 @@ impl Instance {
         number_at(&self.tables.raw.requirements, self.resources(), p.0, r.0)
     }
 
+    /// Lends what a process requires, the numbers of all resources in order. Each number counts one step.
+    pub fn requirements_of<L: Ledger>(&self, p: Process, steps: &mut Steps<L>) -> &[u32]
+        requires { p.0 < process_count self.now.tables }
+        ensures width { length result.now ≡ resource_count self.now.tables }
+        ensures each { (r : ℕ) → r < resource_count self.now.tables →
+            slice_index result.now r ≡ requirement_of self.now.tables p.0 r }
+        ensures counted { steps.new ≡ steps.old + resource_count self.now.tables }
+    {
+        let width = self.resources() as usize;
+        for _ in 0..width {
+            steps.tick();
+        }
+        let start = p.0 as usize * width;
+        &self.tables.raw.requirements.as_slice()[start..start + width]
+    }
+
     /// Copies what a process requires into a row, the numbers of all resources in order. Each number counts one step.
     pub fn read_requirements<L: Ledger>(&self, p: Process, row: &mut [u32], steps: &mut Steps<L>)
         requires process { p.0 < process_count self.now.tables }
@@ -243,11 +259,7 @@ impl Instance {
         ensures width { length row.new ≡ resource_count self.now.tables }
         ensures counted { steps.new ≡ steps.old + resource_count self.now.tables }
     {
-        for _ in 0..self.resources() {
-            steps.tick();
-        }
-        let start = p.0 as usize * row.len();
-        row.copy_from_slice(&self.tables.raw.requirements.as_slice()[start..start + row.len()]);
+        row.copy_from_slice(self.requirements_of(p, steps));
     }
 
     /// A balance objective.
