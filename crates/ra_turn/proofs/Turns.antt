@@ -208,7 +208,7 @@ module _ {V N O : Type 0} (opening : V → O) (notes : V → List N) (author : N
 
       -- the history is seen, and the slot taken
       pub sees : m.0.stage ≡ Called
-          → Allows Rule slots i m 2 (λ n. (n + 0) % 2 ^ 64) (saw opening notes author touches (step slots 2 0 0 none) m)
+          → Allows Rule slots i m 2 (λ n. n) (saw opening notes author touches (step slots 2 0 0 none) m)
       sees stage s r len at fits =
           let k = r.kept in let c = r.scene in let v = m.0 in let kv = k.each i v at in
           let sv : IsServed v.stage = rw stage tt in
@@ -216,7 +216,7 @@ module _ {V N O : Type 0} (opening : V → O) (notes : V → List N) (author : N
           let few = few_notes c r.guard_words s i v k at sv in
           let P : List ℕ → Type 0 = λ ws. (w' : Sight N O) × (a : Act (Option V)) × Valid s.homes m.1 a
           × Rule (record {
-            words = set ws 2 ((get_or ws 2 0 + 0) % 2 ^ 64);
+            words = set ws 2 (get_or ws 2 0);
             homes = homes_after s.homes m.1 a;
             views = set s.views i w';
           })
@@ -225,7 +225,6 @@ module _ {V N O : Type 0} (opening : V → O) (notes : V → List N) (author : N
           P (c.ticket ∷ c.serving ∷ length c.history ∷ r.guard_words) = λ x h.
           let w = with_seen author v InTurn _ in
           let below = h.few in
-          let stays : (length c.history + 0) % 2 ^ 64 ≡ length c.history = mod-eq_of_lt (omega arith) ∙ omega arith in
           let homes' = set s.homes 0 none in
           let gone : homes' ≡ none ∷ [] = rw h.here in
           let fits_own = (kv.parts pass) 0 v.own (omega arith) in
@@ -262,7 +261,7 @@ module _ {V N O : Type 0} (opening : V → O) (notes : V → List N) (author : N
               scene = c;
               guard_words = r.guard_words;
               kept = moved c r.guard_words i w _ homes' k at
-                  (rw stays) k.order (omega arith) k.numbers refl
+                  refl k.order (omega arith) k.numbers refl
                   (λ n. refl) (λ n q. (tt, renumbered n v w refl refl q.1))
                   (waits_stay i w k at (λ t q. (tt, q.1)))
                   k.unheard

@@ -101,7 +101,7 @@ pub(crate) fn see<V: Story>(desk: &Desk<V>, seat: &mut Place<V>) -> (u64, V)
     ensures guards { IsShut V.author V.touches (view seat.new.me) ×
         IsTold V.touches (view seat.new.me) }
 {
-    let count = desk.fetch_add::<See>(seat, COUNT, 0);
+    let count = desk.load::<See>(seat, COUNT);
     let value = desk.exchange(seat, 0, None);
     (count, value.unwrap())
 }

@@ -3,8 +3,8 @@ use Rattle.atomic_table.specs.Table.{rest}
 use Rattle.ra_turn.proofs.Turns.{sees}
 use Rattle.ra_turn.proofs.steps.see.Goals as goal
 
-pub fetch_add-count-requires : goal.fetch_add-count-requires
-fetch_add-count-requires g c = let key = c.args.desk.now.key in let story = g.V.Story in (
+pub load-count-requires : goal.load-count-requires
+load-count-requires g c = let key = c.args.desk.now.key in let story = g.V.Story in (
   search rules,
   omega arith,
   sees story.opening story.notes story.author story.touches key.passes key.turns
@@ -12,13 +12,13 @@ fetch_add-count-requires g c = let key = c.args.desk.now.key in let story = g.V.
 )
 
 pub exchange-value-requires : goal.exchange-value-requires
-exchange-value-requires g c = let told = c.fetch_add-count.ensures.2 in let seat = c.fetch_add-count.new.seat in
+exchange-value-requires g c = let told = c.load-count.ensures.2 in let seat = c.load-count.new.seat in
     let taken : seat.me.1 ≡ (0, Some told.0) ∷ c.args.seat.now.me.1 = rw told.2 in
     (search rules, (Some told.0, taken ∙ ap (λ cs. (0, Some told.0) ∷ rest cs) (sym taken)))
 
 pub returns-clause-guards : goal.returns-clause-guards
-returns-clause-guards g c = let told = c.fetch_add-count.ensures.2 in
-    let view : c.exchange-value.new.seat.me.0 ≡ c.fetch_add-count.new.seat.me.0 =
+returns-clause-guards g c = let told = c.load-count.ensures.2 in
+    let view : c.exchange-value.new.seat.me.0 ≡ c.load-count.new.seat.me.0 =
     rw c.exchange-value.ensures.3 in (
       rw view told.3,
       rw view told.4,
