@@ -1,3 +1,4 @@
+pub mod Dividing
 pub mod Applying
 pub mod OptionLemmas
 pub mod Settled

@@ -1,3 +1,4 @@
+pub mod Dividing
 pub mod Forms
 pub mod Judging
 pub mod MoveSteps

@@ -5,6 +5,7 @@ ghost use Rattle.ra_moves.specs.Judging.{repeat_of};
 ghost use Rattle.ra_moves.specs.Steps.{StandsAt, Distinct, from_in, to_in};
 ghost use Rattle.ra_moves.specs.Options.{kind_of, count_of, option_count, target, leaving, shift_of, swap_of, chain_of, option_at};
 
+use crate::divisors::{Divisor, Divisors};
 use crate::moves::Move;
 use crate::steps::{MoveKind, Step};
 use ra_base::{Assignment, Drawing, Machine, Process};
@@ -39,14 +40,38 @@ pub fn resolve(
         → (j : ℕ) → j < length result.steps → to_in result.steps j < machines }
     ensures distinct { repeat_of result.steps ≡ None → Distinct result.steps }
 {
-    let p = process_of(a, words[1]);
+    let by = Divisors::of(a.len() as u32, machines);
+    resolve_by(a, words, &by, drawing, option)
+}
+
+/// The move that `resolve` gives, from divisors that are known.
+#[inline(always)]
+pub fn resolve_by(
+    a: &Assignment,
+    words: &[u64; 8],
+    by: &Divisors,
+    drawing: Drawing,
+    option: u32,
+) -> Move
+    requires processes { by.now.processes.number ≡ length a.now.items }
+    requires named { option < option_count words.now by.now.machines.number drawing }
+    ensures option { result ≡ option_at a.now.items words.now by.now.machines.number drawing option }
+    ensures stands { StandsAt from_in result.steps a.now.items }
+    ensures reaches { ((p : ℕ) → p < length a.now.items → machine_at a.now.items p < by.now.machines.number)
+        → (j : ℕ) → j < length result.steps → to_in result.steps j < by.now.machines.number }
+    ensures distinct { repeat_of result.steps ≡ None → Distinct result.steps }
+{
+    let p = Process(by.processes.rest(words[1]));
     match kind(words) {
-        MoveKind::Shift => shift(a, p, machine_of(words, machines, drawing, option)),
-        MoveKind::Swap => swap(a, p, process_of(a, words[2 + option as usize])),
+        MoveKind::Shift => shift(a, p, machine_of(words, by.machines, drawing, option)),
+        MoveKind::Swap => {
+            let q = Process(by.processes.rest(words[2 + option as usize]));
+            swap(a, p, q)
+        }
         MoveKind::Chain => {
-            let q = process_of(a, words[2]);
-            let r = process_of(a, words[3]);
-            chain(a, p, q, r, rest(words[4], machines))
+            let q = Process(by.processes.rest(words[2]));
+            let r = Process(by.processes.rest(words[3]));
+            chain(a, p, q, r, Machine(by.machines.rest(words[4])))
         }
     }
 }
@@ -79,17 +104,17 @@ fn count(kind: MoveKind, machines: u32, drawing: Drawing) -> u32
 }
 
 /// The machine of a shift's option.
+#[inline(always)]
 #[tactic(auto, unfolding(crate::specs::Options::target, crate::specs::Options::count_of))]
-fn machine_of(words: &[u64; 8], machines: u32, drawing: Drawing, option: u32) -> Machine
-    requires some { 1 ≤ machines }
-    requires named { option < count_of Shift drawing machines }
-    ensures { result.0 ≡ target drawing words.now machines option }
+fn machine_of(words: &[u64; 8], machines: Divisor, drawing: Drawing, option: u32) -> Machine
+    requires named { option < count_of Shift drawing machines.number }
+    ensures { result.0 ≡ target drawing words.now machines.number option }
 {
     match drawing {
-        Drawing::One => rest(words[2 + option as usize], machines),
+        Drawing::One => Machine(machines.rest(words[2 + option as usize])),
         Drawing::Two => {
-            let first = rest(words[2], machines);
-            after(first, option, machines)
+            let first = Machine(machines.rest(words[2]));
+            after(first, option, machines.number)
         }
     }
 }
@@ -106,24 +131,6 @@ fn after(first: Machine, places: u32, machines: u32) -> Machine
     } else {
         Machine(first.0 - left)
     }
-}
-
-/// The machine that a word names.
-fn rest(word: u64, machines: u32) -> Machine
-    requires { 1 ≤ machines }
-    ensures { result.0 ≡ word % machines }
-{
-    Machine((word % machines as u64) as u32)
-}
-
-/// The process that a word names.
-fn process_of(a: &Assignment, word: u64) -> Process
-    requires some { 1 ≤ length a.now.items }
-    requires few { length a.now.items ≤ 50000 }
-    ensures value { result.0 ≡ word % length a.now.items }
-    ensures known { result.0 < length a.now.items }
-{
-    Process((word % a.len() as u64) as u32)
 }
 
 #[tactic(auto, unfolding(crate::specs::Options::shift_of))]

@@ -5,6 +5,7 @@
 #![tactic(auto)]
 
 mod counts;
+mod divisors;
 mod drawn;
 mod flaws;
 mod moves;
@@ -14,7 +15,8 @@ mod steps;
 mod verdicts;
 
 pub use counts::change_counts;
-pub use drawn::{options, resolve};
+pub use divisors::{Divisor, Divisors};
+pub use drawn::{options, resolve, resolve_by};
 pub use flaws::{first_flaw, repeat_of, same_of};
 pub use moves::Move;
 pub use replace::{apply, undo};
