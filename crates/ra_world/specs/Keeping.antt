@@ -2,7 +2,8 @@
 use Rattle.std.specs.Prelude.{◌≡◌, ℕ, List, None}
 use Rattle.ra_base.specs.declared.ids.Machine.{Machine}
 use Rattle.ra_model.specs.declared.raw.Tables.{Tables}
-use Rattle.ra_model.specs.Numbers.{machine_count}
+use Rattle.ra_model.specs.Numbers.{machine_count, process_count}
+use Rattle.ra_moves.specs.declared.divisors.Divisors.{Divisors}
 use Rattle.ra_model.specs.Assignments.{IsAssignment}
 use Rattle.ra_model.specs.Broken.{first_broken}
 use Rattle.ra_model.specs.Costs.{parts_of}
@@ -35,9 +36,11 @@ pub record Keeps (kept : Kept) (i : Tables) (a0 : List Machine) : Type 0 where
 -- a world: a0 is an assignment of an instance with this topology, and the assignment reached from it breaks nothing,
 -- with all that is kept right
 pub record IsWorld (i : Tables) (a0 : List Machine) (topo : TopologyLists) (list : List ℕ)
-    (kept : Kept) : Type 0 where
+    (by : Divisors) (kept : Kept) : Type 0 where
   pub fits : IsAssignment i a0
   pub stays : AreStays i list
+  pub processes : by.processes.number ≡ process_count i
+  pub machines : by.machines.number ≡ machine_count i
   pub topology : IsTopologyOf topo i
   pub keeps : Keeps kept i a0
   pub unbroken : first_broken i a0 kept.assignment.items ≡ None

@@ -1,5 +1,5 @@
 ghost use Rattle.std.specs.Prelude.{◌≡◌, ℕ, ◌+◌, ◌*◌, ◌<◌, ◌≤◌, length, None, IfOk};
-ghost use Rattle.ra_model.specs.Numbers.{resource_count, machine_count, way_cost_of};
+ghost use Rattle.ra_model.specs.Numbers.{resource_count, machine_count, process_count, way_cost_of};
 ghost use Rattle.ra_model.specs.Assignments.{IsAssignment};
 ghost use Rattle.ra_model.specs.Costs.{parts_of};
 ghost use Rattle.ra_model.specs.MachineCosts.{machine_load, machine_balance};
@@ -21,7 +21,7 @@ use crate::renewal::{balances_of, loads_of, stays_of};
 use ra_base::{Assignment, Fixed, Machine, NoMemory, Parts, Steps};
 use ra_cells::Cells;
 use ra_model::{Instance, copied};
-use ra_moves::Move;
+use ra_moves::{Divisors, Move};
 use ra_rows::Rows;
 use ra_topology::Topology;
 use std::alloc::Global;
@@ -38,6 +38,8 @@ pub struct World<'a> {
     start: &'a Assignment,
     /// What the way from each machine to itself costs.
     stays: Fixed<u32>,
+    /// What the words of a proposal are divided by.
+    divisors: Divisors,
     kept: Kept<'a>,
 }
 
@@ -50,7 +52,7 @@ impl<'a> Model for World<'a> {
     ghost view = { λ w. situation w.inst.now.tables w.start.now.items w.kept.assignment.items };
 
     ghost invariant = { λ w. IsWorld w.inst.now.tables w.start.now.items w.topo.now
-        w.stays.items w.kept };
+        w.stays.items w.divisors w.kept };
 }
 
 impl<'a> World<'a> {
@@ -73,6 +75,7 @@ impl<'a> World<'a> {
             topo,
             start: a0,
             stays,
+            divisors: Divisors::of(inst.processes(), inst.machines()),
             kept,
         })
     }
@@ -127,6 +130,16 @@ impl<'a> World<'a> {
         ensures sound { IsSound self.now }
     {
         self.inst
+    }
+
+    /// What the words of a proposal are divided by: the number of processes and that of machines.
+    #[inline(always)]
+    pub fn divisors(&self) -> &Divisors
+        ensures processes { result.now.processes.number ≡ process_count self.now.tables }
+        ensures machines { result.now.machines.number ≡ machine_count self.now.tables }
+        ensures sound { IsSound self.now }
+    {
+        &self.divisors
     }
 
     /// The topology of the instance.

@@ -16,6 +16,8 @@ invariant_of-self g c =
       fits = c.self.invariant.fits;
       topology = c.self.invariant.topology;
       stays = c.self.invariant.stays;
+      processes = c.self.invariant.processes;
+      machines = c.self.invariant.machines;
       keeps = c.follow.ensures.keeps;
       unbroken = unbroken_from _ _
           c.args.mv.now.steps (rw (← c.self.view_is) at c.requires.unbroken) c.follow.ensures.assignment;
