@@ -1,8 +1,7 @@
 -- What two machines use and cost once two processes have exchanged them.
-use Rattle.std.proofs.Common.{◌≡◌, ◌≢◌, ℕ, ◌+◌, ◌<◌, ◌≤◌, List, length, get_or, refl, sym, ap, ◌∙◌, arith, eq-eqb, ◌↔◌, Bool, true, ne_eqb}
+use Rattle.std.proofs.Common.{◌≡◌, ◌≢◌, ℕ, ◌+◌, ◌<◌, ◌≤◌, List, length, get_or, refl, sym, ap, ◌∙◌, arith, eq-eqb, ne_eqb}
 use Rattle.std.proofs.lemmas.Bool.{cond-true, cond-false}
 use Rattle.ra_base.specs.Sums.{total, fresh}
-use Rattle.ra_base.specs.Tables.{cell}
 use Rattle.ra_base.specs.declared.ids.Machine.{Machine}
 use Rattle.ra_base.proofs.Sums.{total_none, total_more}
 use Rattle.ra_base.proofs.Named.{is_named_none, is_named_at, is_named_not, fresh_again, fresh_new}
@@ -17,12 +16,9 @@ use Rattle.ra_moves.specs.Values.{gone, come, end_count, end_in}
 use Rattle.ra_moves.specs.Moving.{IsMove}
 use Rattle.ra_moves.proofs.ValueLemmas.{end_from, end_to}
 use Rattle.ra_moves.proofs.StayLemmas.{tally_applied}
-use Rattle.ra_weigh.specs.Room.{IsWithinCapacity, HaveRoom}
 use Rattle.ra_weigh.specs.Exchanges.{IsExchange, IsExchangedAt, HasExchanged}
-use Rattle.ra_world.specs.Required.{AreRequiredRows}
 use Rattle.ra_weigh.proofs.MoveLemmas.{from_read, to_read}
-use Rattle.ra_weigh.proofs.RowUse.{IsRequiredRow, required_from}
-use Rattle.ra_weigh.proofs.RoomLemmas.{no_room}
+use Rattle.ra_weigh.proofs.RowUse.{IsRequiredRow}
 
 -- the two machines
 pub first_exchanged : (steps : List Step) → IsExchange steps → IsExchangedAt steps (from_in steps 0) 1 0
@@ -71,15 +67,6 @@ module _ {i : Tables} {a : List Machine} {steps : List Step} {m : ℕ} where
           use_of i (applied a steps) m r + requirement_of i (process_in steps goes) r ≡
           use_of i a m r + requirement_of i (process_in steps comes) r
       exchanged_use move at = grind (arith, first_use, second_use)
-
-      pub exchanged_now : (width : ℕ) {table : List ℕ} (row coming going : List ℕ) → IsMove i a steps →
-          IsExchangedAt steps m comes goes → AreRequiredRows i steps (length steps) table → width ≡ resource_count i →
-          r < resource_count i → get_or row r 0 ≡ use_of i a m r →
-          ((k : ℕ) → k < width → get_or coming k 0 ≡ cell 20 table comes k) →
-          ((k : ℕ) → k < width → get_or going k 0 ≡ cell 20 table goes k) →
-          use_of i (applied a steps) m r + get_or going r 0 ≡ get_or row r 0 + get_or coming r 0
-      exchanged_now width {table} row coming going move at required is here now coming_read going_read =
-          grind (arith, step_within, required_from, exchanged_use)
 
       -- a row of use can follow, and is then that of the assignment after the exchange
       pub enough_used : (row coming going : List ℕ) → IsMove i a steps → IsExchangedAt steps m comes goes →
@@ -137,18 +124,6 @@ module _ (steps : List Step) where
 
     pub second_read : IsExchangedAt steps s.to.0 0 1
     second_read = rw (to_read steps 0 s is) (second_exchanged steps exchange)
-
-module _ (i : Tables) (b : List Machine) {steps : List Step} {s : Step} where
-  -- room on both is room for the exchange
-  pub room_exchanged : (second : Bool) → IsExchange steps → s ≡ step_at steps 0 →
-      IsWithinCapacity i s.from.0 (use_of i b s.from.0) (resource_count i) →
-      (second ≡ true) ↔ IsWithinCapacity i s.to.0 (use_of i b s.to.0) (resource_count i) →
-      (second ≡ true) ↔ HaveRoom i b steps (length steps)
-  room_exchanged second exchange is first tells = grind (arith, from_read, to_read)
-
-  pub no_room_exchanged : IsExchange steps → s ≡ step_at steps 0 →
-      (IsWithinCapacity i s.from.0 (use_of i b s.from.0) (resource_count i) → ⊥) → HaveRoom i b steps (length steps) → ⊥
-  no_room_exchanged exchange is fails = grind (arith, no_room, from_read)
 
 -- the cost of both is that of all ends
 pub cost_exchanged : {steps : List Step} (f : ℕ → ℕ) {s : Step} {first second : ℕ} → IsExchange steps →

@@ -4,7 +4,6 @@ pub mod RowUse
 pub mod MovedNext
 pub mod ChangeLaws
 pub mod CostLaws
-pub mod RoomLemmas
 pub mod ExchangeLaws
 mod SeekLemmas
 mod FlowLemmas

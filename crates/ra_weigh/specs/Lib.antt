@@ -3,7 +3,6 @@ pub mod EndCosts
 pub mod PlaceCosts
 pub mod WayCosts
 pub mod CountLists
-pub mod Room
 pub mod Below
 pub mod Exchanges
 pub mod Flowing

@@ -37,17 +37,17 @@ pub fn is_unbroken(world: &World<'_>, mv: &Move, required: &[u32; 60]) -> bool
 }
 
 impl<'a, 'b> Trial<'a, 'b> {
-    /// The first constraint that is broken after the move. Most moves break a capacity, so the rows are tested first,
-    /// in the order of their causes. The place of a conflict is searched for only if there is one.
+    /// The first constraint that is broken after the move. Most moves break neither a capacity nor a transient use, and
+    /// one look at each row tells it. The place of a conflict is searched for only if there is one.
     fn first_broken(&self) -> Option<Cause>
         ensures { result ≡
             first_broken (tables_of self.now) (initial_of self.now) (after_of self.now) }
     {
-        if let Some(cause) = self.broken_capacity() {
-            return Some(cause);
-        }
-        if let Some(cause) = self.broken_transient() {
-            return Some(cause);
+        if !self.keeps_rows() {
+            if let Some(cause) = self.broken_capacity() {
+                return Some(cause);
+            }
+            return self.broken_transient();
         }
         if !self.keeps_apart() {
             return self.broken_conflict();

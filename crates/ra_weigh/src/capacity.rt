@@ -60,10 +60,8 @@ impl<'a, 'b> Trial<'a, 'b> {
             (steps_of self.now) (length (steps_of self.now)) flow.come.now flow.gone.now }
         ensures { result ≡ row_capacity (tables_of self.now) (after_of self.now) m.0 }
     {
-        let row = self.rows.usage_row(m);
         for r in 0..self.inst.resources() {
-            let place = r as usize;
-            let used = row[place] + u64::from(flow.come[place]) - u64::from(flow.gone[place]);
+            let used = self.use_flowing(m, Resource(r), flow);
             if let Some(cause) = self.capacity_test(m, Resource(r), used) {
                 return Some(cause);
             }
@@ -109,10 +107,8 @@ impl<'a, 'b> Trial<'a, 'b> {
         ensures { result ≡
             row_transient (tables_of self.now) (initial_of self.now) (after_of self.now) m.0 }
     {
-        let between = self.rows.transient_row(m);
         for r in 0..self.inst.resources() {
-            let place = r as usize;
-            let used = between[place] + u64::from(flow.come[place]) - u64::from(flow.gone[place]);
+            let used = self.transient_flowing(m, Resource(r), flow);
             if let Some(cause) = self.transient_test(m, Resource(r), used) {
                 return Some(cause);
             }
@@ -187,6 +183,92 @@ impl<'a, 'b> Trial<'a, 'b> {
 
     /// Whether the use of each resource of a machine is within its capacity, after the move and in transition.
     pub(crate) fn row_fits(&self, m: Machine) -> bool
+        requires { m.0 < machine_count (tables_of self.now) }
+        ensures { (result ≡ true) ↔
+            FitsBelow (tables_of self.now) (initial_of self.now) (after_of self.now) m.0
+            (resource_count (tables_of self.now)) }
+    {
+        match (self.flow(m), self.flow_between(m)) {
+            (Some(flow), Some(between)) => self.fits_by_flows(m, flow, between),
+            _ => self.fits_by_steps(m),
+        }
+    }
+
+    /// Whether the use of each resource is within its capacity, from what comes to the machine and what goes from it.
+    #[inline(always)]
+    fn fits_by_flows(&self, m: Machine, flow: Flow<'_>, between: Flow<'_>) -> bool
+        requires machine { m.0 < machine_count (tables_of self.now) }
+        requires flow { HasFlow (tables_of self.now) (use_share (tables_of self.now) m.0)
+            (steps_of self.now) (length (steps_of self.now)) flow.come.now flow.gone.now }
+        requires between { HasFlow (tables_of self.now)
+            (transient_share (tables_of self.now) (initial_of self.now) m.0) (steps_of self.now)
+            (length (steps_of self.now)) between.come.now between.gone.now }
+        ensures { (result ≡ true) ↔
+            FitsBelow (tables_of self.now) (initial_of self.now) (after_of self.now) m.0
+            (resource_count (tables_of self.now)) }
+    {
+        for r in 0..self.inst.resources() {
+            if !self.fits_flowing(m, Resource(r), flow, between) {
+                return false;
+            }
+        }
+        true
+    }
+
+    /// Whether the use of a resource of a machine is within its capacity, after the move and in transition.
+    #[inline(always)]
+    fn fits_flowing(&self, m: Machine, r: Resource, flow: Flow<'_>, between: Flow<'_>) -> bool
+        requires machine { m.0 < machine_count (tables_of self.now) }
+        requires resource { r.0 < resource_count (tables_of self.now) }
+        requires flow { HasFlow (tables_of self.now) (use_share (tables_of self.now) m.0)
+            (steps_of self.now) (length (steps_of self.now)) flow.come.now flow.gone.now }
+        requires between { HasFlow (tables_of self.now)
+            (transient_share (tables_of self.now) (initial_of self.now) m.0) (steps_of self.now)
+            (length (steps_of self.now)) between.come.now between.gone.now }
+        ensures { (result ≡ true) ↔
+            FitsAt (tables_of self.now) (initial_of self.now) (after_of self.now) m.0 r.0 }
+    {
+        let cap = u64::from(self.inst.capacity(m, r));
+        if self.inst.transient(r) {
+            let most = self.transient_flowing(m, r, between);
+            return most <= cap;
+        }
+        let most = self.use_flowing(m, r, flow);
+        most <= cap
+    }
+
+    /// The use of a resource of a machine after the move.
+    #[inline(always)]
+    fn use_flowing(&self, m: Machine, r: Resource, flow: Flow<'_>) -> u64
+        requires machine { m.0 < machine_count (tables_of self.now) }
+        requires resource { r.0 < resource_count (tables_of self.now) }
+        requires flow { HasFlow (tables_of self.now) (use_share (tables_of self.now) m.0)
+            (steps_of self.now) (length (steps_of self.now)) flow.come.now flow.gone.now }
+        ensures { result ≡ use_of (tables_of self.now) (after_of self.now) m.0 r.0 }
+    {
+        let place = r.0 as usize;
+        let row = self.rows.usage_row(m);
+        row[place] + u64::from(flow.come[place]) - u64::from(flow.gone[place])
+    }
+
+    /// The transient use of a resource of a machine after the move.
+    #[inline(always)]
+    fn transient_flowing(&self, m: Machine, r: Resource, flow: Flow<'_>) -> u64
+        requires machine { m.0 < machine_count (tables_of self.now) }
+        requires resource { r.0 < resource_count (tables_of self.now) }
+        requires flow { HasFlow (tables_of self.now)
+            (transient_share (tables_of self.now) (initial_of self.now) m.0) (steps_of self.now)
+            (length (steps_of self.now)) flow.come.now flow.gone.now }
+        ensures { result ≡
+            transient_of (tables_of self.now) (initial_of self.now) (after_of self.now) m.0 r.0 }
+    {
+        let place = r.0 as usize;
+        let row = self.rows.transient_row(m);
+        row[place] + u64::from(flow.come[place]) - u64::from(flow.gone[place])
+    }
+
+    /// Whether the use of each resource is within its capacity, from each step for each resource.
+    fn fits_by_steps(&self, m: Machine) -> bool
         requires { m.0 < machine_count (tables_of self.now) }
         ensures { (result ≡ true) ↔
             FitsBelow (tables_of self.now) (initial_of self.now) (after_of self.now) m.0

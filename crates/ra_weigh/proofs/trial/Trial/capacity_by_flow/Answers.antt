@@ -1,46 +1,27 @@
 -- One resource after another, with what comes and without what goes.
-use Rattle.std.proofs.Common.{◌≡◌, ◌<◌, ◌∙◌, sym, arith}
+use Rattle.std.proofs.Common.{◌≡◌, ◌∙◌, sym, arith}
 use Rattle.ra_base.proofs.Searches.{first_none, first_more_none, first_found}
 use Rattle.ra_model.specs.Numbers.{resource_count}
-use Rattle.ra_model.specs.Usage.{use_of}
 use Rattle.ra_model.specs.Broken.{row_capacity}
 use Rattle.ra_weigh.specs.Trials.{tables_of}
-use Rattle.ra_weigh.proofs.FlowLemmas.{flow_sum}
-use Rattle.ra_weigh.proofs.CauseRowLemmas.{used_here}
 use Rattle.ra_weigh.proofs.trial.Trial.capacity_by_flow.Goals as goal
 
 pub loop-r-init : goal.loop-r-init
 loop-r-init c = first_none _
 
-pub overflow_sub-used : goal.overflow_sub-used
-unfolding use_of
-overflow_sub-used c =
-    let t = c.args.self.now in
-    let within : c.loop-r.r < resource_count (tables_of t) =
-    omega (arith, c.loop-r-test.true, c.resources-r-end.ensures) in
-    omega (
-      arith,
-      flow_sum _ c.loop-r.r t.moves c.requires.flow within
-          (used_here c.loop-r.r t.rows_tables
-          (c.usage_row-row.ensures.values _ t.rows_stand) within) c.from.ensures c.from-in-loop-r.ensures,
-    )
+pub use_flowing-used-requires : goal.use_flowing-used-requires
+use_flowing-used-requires c = record {
+  machine = c.requires.machine;
+  resource = omega (arith, c.loop-r-test.true, c.resources-r-end.ensures);
+  flow = c.requires.flow;
+}
 
 pub capacity_test-requires : goal.capacity_test-requires
-unfolding use_of
-capacity_test-requires c =
-    let t = c.args.self.now in
-    let within : c.loop-r.r < resource_count (tables_of t) =
-    omega (arith, c.loop-r-test.true, c.resources-r-end.ensures) in
-    record {
-      machine = c.requires.machine;
-      resource = within;
-      used = omega (
-        arith,
-        flow_sum _ c.loop-r.r t.moves c.requires.flow within
-            (used_here c.loop-r.r t.rows_tables
-            (c.usage_row-row.ensures.values _ t.rows_stand) within) c.from.ensures c.from-in-loop-r.ensures,
-      );
-    }
+capacity_test-requires c = record {
+  machine = c.requires.machine;
+  resource = omega (arith, c.loop-r-test.true, c.resources-r-end.ensures);
+  used = c.use_flowing-used.ensures;
+}
 
 pub returns-in-Some : goal.returns-in-Some
 unfolding row_capacity

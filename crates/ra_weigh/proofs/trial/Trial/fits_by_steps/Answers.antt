@@ -7,7 +7,7 @@ use Rattle.ra_weigh.specs.Trials.{tables_of, initial_of, after_of}
 use Rattle.ra_weigh.proofs.HoldLemmas.{told_true, told_false}
 use Rattle.ra_weigh.proofs.FitLemmas.{below_start, below_more, at_from_below}
 use Rattle.ra_weigh.proofs.CauseRowLemmas.{used_here, between_here}
-use Rattle.ra_weigh.proofs.trial.Trial.row_fits.Goals as goal
+use Rattle.ra_weigh.proofs.trial.Trial.fits_by_steps.Goals as goal
 
 pub fits_at-requires : goal.fits_at-requires
 fits_at-requires c =
