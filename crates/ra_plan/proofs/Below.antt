@@ -1,18 +1,13 @@
 -- The best option with one more move, of which a cost below the bound was found or none.
-use Rattle.std.proofs.Common.{◌≡◌, ◌↔◌, ℕ, ◌+◌, ◌<◌, ◌≤◌, arith, Bool, true, false, List, length, Option, Some, None, sym, ap, ap₂, ◌∙◌}
+use Rattle.std.proofs.Common.{◌≡◌, ◌↔◌, ℕ, ◌+◌, ◌<◌, ◌≤◌, arith, Bool, true, false, List, Option, Some, None, sym, ap, ap₂, ◌∙◌}
 use Rattle.std.proofs.lemmas.Bool.{both_ways}
 use Rattle.ra_base.specs.Searches.{is_better, least}
 use Rattle.ra_base.specs.declared.causes.Drawing.{Drawing}
 use Rattle.ra_base.proofs.Least.{least_better, least_kept}
-use Rattle.ra_base.proofs.Searches.{right_none}
 use Rattle.ra_model.specs.Situations.{Situation, cost_at}
-use Rattle.ra_model.proofs.BrokenLemmas.{fine_from_unbroken}
 use Rattle.ra_moves.specs.declared.steps.Step.{Step}
 use Rattle.ra_moves.specs.Judging.{broken_by, IsMoveBelow}
-use Rattle.ra_moves.specs.Replacing.{applied, after_move}
-use Rattle.ra_moves.specs.Moving.{MayMove}
-use Rattle.ra_weigh.specs.Room.{HaveRoom}
-use Rattle.ra_weigh.proofs.RoomLemmas.{room_kept}
+use Rattle.ra_moves.specs.Replacing.{after_move}
 use Rattle.ra_plan.specs.Choosing.{IsBest, cost_in, steps_in, cost_to_beat}
 use Rattle.ra_plan.specs.declared.best.Best.{Best}
 use Rattle.ra_plan.proofs.Bests.{worse_at, better_at, best_within, cost_means, cost_comes}
@@ -25,15 +20,6 @@ module _ (w : Situation) (steps : List Step) (bound : ℕ) where
   pub some_below : (cost : ℕ) → broken_by w steps ≡ None → cost ≡ cost_at (after_move w steps) → cost < bound →
       IsMoveBelow w steps bound (Some cost)
   some_below cost free is low = grind arith
-
--- if nothing is broken, there is room
-pub room_free : (st : Situation) (steps : List Step) → MayMove st steps →
-    broken_by st steps ≡ None → HaveRoom st.tables (applied st.here steps) steps (length steps)
-unfolding broken_by
-room_free st steps move none =
-    let fine = fine_from_unbroken st.tables st.start _
-    (right_none _ _ (right_none _ _ none)) in
-    room_kept st.tables st.here steps move fine.capacity
 
 -- a test that fails though it holds if nothing is broken
 pub unfit_below : {Fits : Type 0} (w : Situation) (steps : List Step) (bound : ℕ) {fits : Bool} → (fits ≡ true) ↔ Fits →

@@ -9,8 +9,8 @@ ghost use Rattle.ra_moves.specs.Judging.{IsMoveBelow};
 use crate::best::Best;
 use crate::flaws::flaw_of;
 use ra_base::{Drawing, Steps};
-use ra_moves::{Move, options, resolve};
-use ra_weigh::{change_of_ways, cost_after_move, has_room, is_dear_by_ways, is_unbroken};
+use ra_moves::{Move, options, resolve_by};
+use ra_weigh::{change_of_ways, cost_after_move, is_dear_by_ways, is_unbroken};
 use ra_world::{World, requirements};
 use std::sync::ledger::Ledger;
 
@@ -31,12 +31,12 @@ pub(crate) fn best_move<L: Ledger>(
         ≤ steps.old + option_count words.now (machine_count world.now.tables) drawing
         * (2 * (step_count (kind_of words.now) * resource_count world.now.tables)) }
 {
-    let machines = world.instance().machines();
-    let count = options(words, machines, drawing);
+    let by = world.divisors();
+    let count = options(words, by.machines.number, drawing);
     let most = world.parts().total + u128::from(allowed) + 1;
     let mut best = first;
     for option in 1..count {
-        let mv = resolve(world.assignment(), words, machines, drawing, option);
+        let mv = resolve_by(world.assignment(), words, by, drawing, option);
         let found = cost_below(world, &mv, best.bound(most), steps);
         best = best.or_found(option, found);
     }
@@ -44,8 +44,7 @@ pub(crate) fn best_move<L: Ledger>(
 }
 
 /// The cost after a move, if it breaks nothing and costs less than a bound. Its ways are tested first, since they refuse
-/// most exchanges in the least time, then room on the machines that it enters, then the cost; the other constraints are
-/// tested only for a move that can still win.
+/// most exchanges in the least time, then its cost; the constraints are tested only for a move that can still win.
 #[inline(always)]
 fn cost_below<L: Ledger>(
     world: &World<'_>,
@@ -67,9 +66,6 @@ fn cost_below<L: Ledger>(
     }
     let mut required = [0; 60];
     requirements(world.instance(), mv, &mut required, steps);
-    if !has_room(world, mv, &required) {
-        return None;
-    }
     let cost = cost_after_move(world, mv, &required, &ways, bound)?;
     if !is_unbroken(world, mv, &required) {
         return None;

@@ -1,6 +1,7 @@
 ghost use Rattle.std.specs.Prelude.{◌≡◌, ◌≢◌, ℕ, Some, None, true, ◌+◌, ◌*◌, ◌<◌, ◌≤◌};
 ghost use Rattle.ra_base.specs.declared.causes.Drawing.TheVariants.{One, Two};
 ghost use Rattle.ra_model.specs.Numbers.{resource_count, machine_count};
+ghost use Rattle.ra_model.specs.Situations.{IsSound};
 ghost use Rattle.ra_moves.specs.declared.steps.MoveKind.TheVariants as kind;
 ghost use Rattle.ra_moves.specs.Options.{kind_of, plan_of, option_at, option_count};
 ghost use Rattle.ra_moves.specs.Judging.{broken_by};
@@ -14,7 +15,7 @@ use crate::shifts::best_shift;
 use crate::verdicts::verdict;
 use crate::weighing::{bare, weigh};
 use ra_base::{Drawing, Steps};
-use ra_moves::{Move, MoveKind, Plan, Weighed, resolve};
+use ra_moves::{Move, MoveKind, Plan, Weighed, resolve_by};
 use ra_shift::{Finding, Shift};
 use ra_weigh::changed_by;
 use ra_world::{World, requirements};
@@ -43,8 +44,7 @@ pub fn plan<L: Ledger>(
     ensures counted_two { drawing ≡ Two →
         steps.new ≤ steps.old + 384 * resource_count world.now.tables }
 {
-    let machines = world.instance().machines();
-    let first = resolve(world.assignment(), words, machines, drawing, 0);
+    let first = resolve_by(world.assignment(), words, world.divisors(), drawing, 0);
     let mut plan = Plan {
         q,
         k,
@@ -71,6 +71,7 @@ fn fill<L: Ledger>(
     plan: &mut Plan,
     steps: &mut Steps<L>,
 )
+    requires sound { IsSound world.now }
     requires first { first.now ≡
         option_at world.now.here words.now (machine_count world.now.tables) drawing 0 }
     requires begun { plan.old.mv ≡ first.now }
@@ -96,6 +97,7 @@ fn fill_by_shift<L: Ledger>(
     plan: &mut Plan,
     steps: &mut Steps<L>,
 )
+    requires sound { IsSound world.now }
     requires first { first.now ≡
         option_at world.now.here words.now (machine_count world.now.tables) drawing 0 }
     requires shift { kind_of words.now ≡ kind.Shift }
@@ -104,8 +106,6 @@ fn fill_by_shift<L: Ledger>(
     ensures numbers_k { plan.new.k ≡ plan.old.k }
     ensures counted { steps.new ≤ steps.old + 24 * resource_count world.now.tables }
 {
-    // What is known of every world.
-    let _known = world.instance();
     let shift = Shift::make(world, first.step(0).process, steps);
     let best = best_shift(world, &shift, words, drawing, allowed);
     plan.mv = move_of(world, first, words, drawing, best.option);
@@ -123,6 +123,7 @@ fn fill_by_move<L: Ledger>(
     plan: &mut Plan,
     steps: &mut Steps<L>,
 )
+    requires sound { IsSound world.now }
     requires first { first.now ≡
         option_at world.now.here words.now (machine_count world.now.tables) drawing 0 }
     requires begun { plan.old.mv ≡ first.now }
@@ -132,8 +133,6 @@ fn fill_by_move<L: Ledger>(
     ensures numbers_k { plan.new.k ≡ plan.old.k }
     ensures counted { steps.new ≤ steps.old + 24 * resource_count world.now.tables }
 {
-    // What is known of every world.
-    let _known = world.instance();
     plan.weighed = weigh(world, first, steps);
     let judged = Best::none().consider(0, &verdict(world, &plan.weighed, allowed));
     let best = best_move(world, words, drawing, allowed, judged, steps);
@@ -156,8 +155,7 @@ fn move_of(world: &World<'_>, first: &Move, words: &[u64; 8], drawing: Drawing, 
     if option == 0 {
         return *first;
     }
-    let machines = world.instance().machines();
-    resolve(world.assignment(), words, machines, drawing, option)
+    resolve_by(world.assignment(), words, world.divisors(), drawing, option)
 }
 
 /// The weighing of the planned shift: of the best option, or of option 0 if none is done. The `Shift` gives it fastest,

@@ -13,7 +13,7 @@ ghost use Rattle.ra_model.specs.Situations.{cost_at};
 use crate::best::Best;
 use crate::marks::{next_mark, with_mark};
 use ra_base::{Drawing, Machine};
-use ra_moves::options;
+use ra_moves::{Divisor, options};
 use ra_shift::Shift;
 use ra_world::World;
 
@@ -51,9 +51,9 @@ fn best_in_order(
     ensures { IsBest world.now words.now drawing allowed
         (option_count words.now (machine_count world.now.tables) drawing) result }
 {
-    let machines = world.instance().machines();
-    let first = (words[2] % machines as u64) as u32;
-    let count = options(words, machines, drawing);
+    let machines = world.divisors().machines;
+    let first = machines.rest(words[2]);
+    let count = options(words, machines.number, drawing);
     let most = world.parts().total + u128::from(allowed) + 1;
     let mut best = Best::none();
     for option in 0..count {
@@ -72,8 +72,7 @@ fn best_in_window(world: &World<'_>, shift: &Shift<'_, '_>, words: &[u64; 8], al
     ensures { IsBest world.now words.now Two allowed
         (option_count words.now (machine_count world.now.tables) Two) result }
 {
-    let machines = world.instance().machines();
-    let first = (words[2] % machines as u64) as u32;
+    let first = world.divisors().machines.rest(words[2]);
     let most = world.parts().total + u128::from(allowed) + 1;
     let mut sums = [0; 64];
     match shift.marks(first, most, &mut sums) {
@@ -157,17 +156,16 @@ fn with_shift(
 /// The machine of an option: a word for each option with drawing One, and a window of machines with drawing Two.
 #[inline(always)]
 #[tactic(auto, unfolding(ra_moves::specs::Options::target, ra_moves::specs::Options::count_of))]
-fn target(words: &[u64; 8], drawing: Drawing, machines: u32, first: u32, option: u32) -> Machine
-    requires some { 1 ≤ machines }
-    requires few { machines ≤ 5000 }
-    requires first { first ≡ slice_index words.now 2 % machines }
-    requires named { option < count_of kind.Shift drawing machines }
-    ensures value { result.0 ≡ target drawing words.now machines option }
-    ensures within { result.0 < machines }
+fn target(words: &[u64; 8], drawing: Drawing, machines: Divisor, first: u32, option: u32) -> Machine
+    requires few { machines.number ≤ 5000 }
+    requires first { first ≡ slice_index words.now 2 % machines.number }
+    requires named { option < count_of kind.Shift drawing machines.number }
+    ensures value { result.0 ≡ target drawing words.now machines.number option }
+    ensures within { result.0 < machines.number }
 {
     match drawing {
-        Drawing::One => Machine((words[2 + option as usize] % machines as u64) as u32),
-        Drawing::Two => Machine(wrapped(first + option, machines)),
+        Drawing::One => Machine(machines.rest(words[2 + option as usize])),
+        Drawing::Two => Machine(wrapped(first + option, machines.number)),
     }
 }
 

@@ -7,7 +7,7 @@ use Rattle.ra_moves.specs.Judging.{IsMoveBelow}
 use Rattle.ra_plan.proofs.OptionSizes.{option_length}
 use Rattle.ra_plan.proofs.Bests.{option_in}
 use Rattle.ra_plan.proofs.moves.best_move.Goals as goal
-use Rattle.ra_plan.proofs.Bests.{total_is, total_few, machines_of}
+use Rattle.ra_plan.proofs.Bests.{total_is, total_few}
 use Rattle.ra_model.specs.Situations.{cost_at}
 
 pub loop-option-init : goal.loop-option-init
@@ -16,16 +16,16 @@ loop-option-init g c = record { best = c.requires.first; counted = omega arith }
 pub loop-option-preserved : goal.loop-option-preserved
 loop-option-preserved g c =
     let world = c.args.world.now in
-    let option = rw c.assignment.ensures.value at c.resolve-mv.ensures.option in
-    let size : length c.resolve-mv.result.steps ≡ step_count (kind_of c.args.words.now) =
+    let option = rw c.assignment.ensures.value at c.resolve_by-mv.ensures.option in
+    let size : length c.resolve_by-mv.result.steps ≡ step_count (kind_of c.args.words.now) =
     rw option (option_length _ _ _ _ _) in
     let reads = rw size at c.cost_below-found.ensures.counted in
     let most : c.parts.result.total + c.from.result + 1 ≡ cost_at world + c.args.allowed + 1 =
-    omega (arith, total_is c.instance.ensures.sound c.parts.ensures.value, c.from.ensures) in
+    omega (arith, total_is c.divisors-by.ensures.sound c.parts.ensures.value, c.from.ensures) in
     record {
       best = c.or_found-best.ensures.best world _ _ c.args.allowed _ c.loop-option.invariant.best
-          (option_in world _ _ _ _ _ (machines_of c.machines-machines.ensures c.instance.ensures.value) option)
-          (subst (λ b. IsMoveBelow world c.resolve-mv.result.steps b c.cost_below-found.result)
+          (option_in world _ _ _ _ _ c.divisors-by.ensures.machines option)
+          (subst (λ b. IsMoveBelow world c.resolve_by-mv.result.steps b c.cost_below-found.result)
           (c.bound.ensures ∙ ap (cost_to_beat c.loop-option.best.cost) most)
           c.cost_below-found.ensures.below);
       counted = omega (arith, reads, c.loop-option.invariant.counted);
@@ -40,13 +40,13 @@ returns g c =
     c.args.drawing =
     end ∙ c.options-count.ensures.value
     ∙ ap (λ m. option_count c.args.words.now m c.args.drawing)
-    (machines_of c.machines-machines.ensures c.instance.ensures.value) in
+    c.divisors-by.ensures.machines in
     record { best = rw all at c.loop-option.invariant.best; counted = rw all at c.loop-option.invariant.counted }
 
 pub overflow_add-most : goal.overflow_add-most
 overflow_add-most g c =
-    omega (arith, total_few c.instance.ensures.sound c.parts.ensures.value, c.from.ensures)
+    omega (arith, total_few c.divisors-by.ensures.sound c.parts.ensures.value, c.from.ensures)
 
 pub overflow_add-most-2 : goal.overflow_add-most-2
 overflow_add-most-2 g c =
-    omega (arith, total_few c.instance.ensures.sound c.parts.ensures.value, c.from.ensures)
+    omega (arith, total_few c.divisors-by.ensures.sound c.parts.ensures.value, c.from.ensures)

@@ -1,6 +1,6 @@
 -- Each test that fails says that there is no cost below the bound.
 use Rattle.std.proofs.Common.{refl, sym, ◌∙◌}
-use Rattle.ra_plan.proofs.Below.{none_below, some_below, unfit_below, room_free}
+use Rattle.ra_plan.proofs.Below.{none_below, some_below, unfit_below}
 use Rattle.ra_plan.proofs.Weighed.{flawed, flawless, flawless_move, processes_known}
 use Rattle.ra_plan.proofs.moves.cost_below.Goals as goal
 
@@ -13,12 +13,6 @@ is_dear_by_ways-requires-clause-moves g c = flawless_move _ _ _ c.requires.offer
 pub requirements-requires : goal.requirements-requires
 requirements-requires g c =
     rw c.instance.ensures.value (processes_known _ _ (flawless_move _ _ _ c.requires.offered c.in_default.ensures))
-
-pub has_room-requires-clause-moves : goal.has_room-requires-clause-moves
-has_room-requires-clause-moves g c = flawless_move _ _ _ c.requires.offered c.in_default.ensures
-
-pub has_room-requires-clause-required : goal.has_room-requires-clause-required
-has_room-requires-clause-required g c = rw c.instance.ensures.value at c.requirements.ensures.required
 
 pub cost_after_move-requires-clause-moves : goal.cost_after_move-requires-clause-moves
 cost_after_move-requires-clause-moves g c = flawless_move _ _ _ c.requires.offered c.in_default.ensures
@@ -39,11 +33,6 @@ pub returns-then-is_dear_by_ways-clause-below : goal.returns-then-is_dear_by_way
 returns-then-is_dear_by_ways-clause-below g c =
     none_below c.args.world.now c.args.mv.now.steps c.args.bound
     (λ none. c.is_dear_by_ways.ensures c.if-is_dear_by_ways.true)
-
-pub returns-then-not-has_room-clause-below : goal.returns-then-not-has_room-clause-below
-returns-then-not-has_room-clause-below g c =
-    unfit_below c.args.world.now c.args.mv.now.steps c.args.bound c.has_room.ensures
-    c.if-not-has_room.true (room_free _ _ (flawless_move _ _ _ c.requires.offered c.in_default.ensures))
 
 pub returns-then-not-is_unbroken-clause-below : goal.returns-then-not-is_unbroken-clause-below
 returns-then-not-is_unbroken-clause-below g c =

@@ -9,14 +9,14 @@ use Rattle.ra_plan.proofs.planning.fill_by_move.Goals as goal
 pub weigh-plan-requires : goal.weigh-plan-requires
 weigh-plan-requires g c =
     rw c.requires.first
-    (option_offered _ _ _ c.instance-known.ensures.sound.well_formed c.instance-known.ensures.sound.fits)
+    (option_offered _ _ _ c.requires.sound.well_formed c.requires.sound.fits)
 
 pub verdict-requires : goal.verdict-requires
 verdict-requires g c = record {
   some = record {
     steps = c.args.first.now.steps;
     offered = rw c.requires.first
-        (option_offered _ _ _ c.instance-known.ensures.sound.well_formed c.instance-known.ensures.sound.fits);
+        (option_offered _ _ _ c.requires.sound.well_formed c.requires.sound.fits);
     is = c.weigh-plan.ensures.value;
   };
 }
@@ -29,19 +29,19 @@ best_move-best-requires g c =
           (c.none.ensures world c.args.words.now c.args.drawing c.args.allowed)
           (judged_in world _ _ _ _ _ _ (option_in world _ _ _ 0 _ refl c.requires.first)
           (c.verdict.ensures c.args.first.now.steps
-          (rw c.requires.first (option_offered _ _ _ c.instance-known.ensures.sound.well_formed
-          c.instance-known.ensures.sound.fits)) c.weigh-plan.ensures.value));
+          (rw c.requires.first (option_offered _ _ _ c.requires.sound.well_formed
+          c.requires.sound.fits)) c.weigh-plan.ensures.value));
     }
 
 pub move_of-mv-requires-clause-named : goal.move_of-mv-requires-clause-named
 move_of-mv-requires-clause-named g c =
-    best_below c.args.world.now _ _ _ _ _ refl c.instance-known.ensures.sound.well_formed.some_machine
+    best_below c.args.world.now _ _ _ _ _ refl c.requires.sound.well_formed.some_machine
     c.best_move-best.ensures.best
 
 pub weighing-plan-requires-clause-offered : goal.weighing-plan-requires-clause-offered
 weighing-plan-requires-clause-offered g c =
     rw c.move_of-mv.ensures
-    (option_offered _ _ _ c.instance-known.ensures.sound.well_formed c.instance-known.ensures.sound.fits)
+    (option_offered _ _ _ c.requires.sound.well_formed c.requires.sound.fits)
 
 pub weighing-plan-requires-clause-free : goal.weighing-plan-requires-clause-free
 weighing-plan-requires-clause-free g c =
@@ -59,8 +59,8 @@ returns g c =
       planned = record {
         planned = best_planned world _ _ _ _ _ refl c.best_move-best.ensures.best c.move_of-mv.ensures;
         weighing = c.weighing-plan.ensures.value;
-        offered = rw c.move_of-mv.ensures (option_offered _ _ _ c.instance-known.ensures.sound.well_formed
-            c.instance-known.ensures.sound.fits);
+        offered = rw c.move_of-mv.ensures (option_offered _ _ _ c.requires.sound.well_formed
+            c.requires.sound.fits);
       };
       counted = omega (
         arith,
@@ -85,8 +85,8 @@ returns-then-best-eq0 g c =
             ∙ ap (λ o. option_at world.here c.args.words.now (machine_count world.tables)
             c.args.drawing o) (sym c.if-best-eq0.true));
         weighing = c.weigh-plan.ensures.value;
-        offered = rw c.requires.first (option_offered _ _ _ c.instance-known.ensures.sound.well_formed
-            c.instance-known.ensures.sound.fits);
+        offered = rw c.requires.first (option_offered _ _ _ c.requires.sound.well_formed
+            c.requires.sound.fits);
       });
       counted = omega (arith, reads, c.weigh-plan.ensures.counted, c.best_move-best.ensures.counted);
     }

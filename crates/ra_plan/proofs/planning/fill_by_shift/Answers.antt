@@ -15,8 +15,8 @@ make-shift-requires g c =
     let process : c.step.result.process.0 ≡ drawn world.here c.args.words.now 1 =
     ap (λ (s : Step). s.process.0) c.step.ensures
     ∙ process_drawn _ _ _ _ _ _ c.requires.first (is_shift _ _ _ _ _ _ c.requires.first c.requires.shift) in
-    let fits = c.instance-known.ensures.sound.fits.one_each in
-    let some : 0 < length world.here = omega (arith, fits, c.instance-known.ensures.sound.well_formed.some_process) in
+    let fits = c.requires.sound.fits.one_each in
+    let some : 0 < length world.here = omega (arith, fits, c.requires.sound.well_formed.some_process) in
     omega (arith, process, fits, drawn_below world.here c.args.words.now 1 some)
 
 pub best_shift-best-requires-clause-named : goal.best_shift-best-requires-clause-named
@@ -26,13 +26,13 @@ best_shift-best-requires-clause-named g c = ap (λ (p : Process). p.0) c.make-sh
 
 pub move_of-plan-requires-clause-named : goal.move_of-plan-requires-clause-named
 move_of-plan-requires-clause-named g c =
-    best_below c.args.world.now _ _ _ _ _ refl c.instance-known.ensures.sound.well_formed.some_machine
+    best_below c.args.world.now _ _ _ _ _ refl c.requires.sound.well_formed.some_machine
     c.best_shift-best.ensures
 
 pub shift_weighing-plan-requires-clause-offered : goal.shift_weighing-plan-requires-clause-offered
 shift_weighing-plan-requires-clause-offered g c =
     rw c.move_of-plan.ensures
-    (option_offered _ _ _ c.instance-known.ensures.sound.well_formed c.instance-known.ensures.sound.fits)
+    (option_offered _ _ _ c.requires.sound.well_formed c.requires.sound.fits)
 
 pub shift_weighing-plan-requires-clause-alone : goal.shift_weighing-plan-requires-clause-alone
 shift_weighing-plan-requires-clause-alone g c =
@@ -50,5 +50,5 @@ returns-clause-planned g c = record {
   planned = best_planned c.args.world.now _ _ _ _ _ refl c.best_shift-best.ensures c.move_of-plan.ensures;
   weighing = c.shift_weighing-plan.ensures.value;
   offered = rw c.move_of-plan.ensures
-      (option_offered _ _ _ c.instance-known.ensures.sound.well_formed c.instance-known.ensures.sound.fits);
+      (option_offered _ _ _ c.requires.sound.well_formed c.requires.sound.fits);
 }

@@ -1,51 +1,34 @@
 -- The options of a window are its machines.
-use Rattle.std.proofs.Common.{subst, sym, refl, arith}
+use Rattle.std.proofs.Common.{subst, sym, arith}
 use Rattle.ra_base.specs.declared.causes.Drawing.TheVariants.{Two}
 use Rattle.ra_model.specs.Numbers.{machine_count}
 use Rattle.ra_plan.specs.Choosing.{IsBest}
 use Rattle.ra_plan.proofs.OptionSizes.{window_count}
 use Rattle.ra_plan.proofs.Marked.{window_of}
 use Rattle.ra_plan.proofs.shifts.best_in_window.Goals as goal
-use Rattle.ra_plan.proofs.Bests.{total_is, total_few, machines_of}
-
-pub nonzero_rem-first : goal.nonzero_rem-first
-nonzero_rem-first c =
-    omega (arith, machines_of c.machines-machines.ensures c.instance.ensures.value, c.instance.ensures.sound.well_formed.some_machine)
+use Rattle.ra_plan.proofs.Bests.{total_is, total_few}
 
 pub overflow_add-most : goal.overflow_add-most
 overflow_add-most c =
-    omega (arith, total_few c.instance.ensures.sound c.parts.ensures.value, c.from.ensures)
+    omega (arith, total_few c.divisors.ensures.sound c.parts.ensures.value, c.from.ensures)
 
 pub overflow_add-most-2 : goal.overflow_add-most-2
 overflow_add-most-2 c =
-    omega (arith, total_few c.instance.ensures.sound c.parts.ensures.value, c.from.ensures)
+    omega (arith, total_few c.divisors.ensures.sound c.parts.ensures.value, c.from.ensures)
 
 pub marks-requires-clause-first : goal.marks-requires-clause-first
-marks-requires-clause-first c =
-    rw c.requires.world
-    (omega (
-      arith,
-      machines_of c.machines-machines.ensures c.instance.ensures.value,
-      c.instance.ensures.sound.well_formed.some_machine,
-      c.instance.ensures.sound.well_formed.few_machines,
-    ))
+marks-requires-clause-first c = rw c.requires.world (rw (← c.divisors.ensures.machines) c.rest-first.ensures.below)
 
 pub marks-requires-clause-bound : goal.marks-requires-clause-bound
 marks-requires-clause-bound c =
-    omega (arith, total_few c.instance.ensures.sound c.parts.ensures.value, c.from.ensures)
+    omega (arith, total_few c.divisors.ensures.sound c.parts.ensures.value, c.from.ensures)
 
 pub best_marked-requires-clause-first : goal.best_marked-requires-clause-first
-best_marked-requires-clause-first c =
-    omega (
-      arith,
-      machines_of c.machines-machines.ensures c.instance.ensures.value,
-      c.instance.ensures.sound.well_formed.some_machine,
-      c.instance.ensures.sound.well_formed.few_machines,
-    )
+best_marked-requires-clause-first c = rw (← c.divisors.ensures.machines) c.rest-first.ensures.below
 
 pub best_marked-requires-clause-most : goal.best_marked-requires-clause-most
 best_marked-requires-clause-most c =
-    omega (arith, total_few c.instance.ensures.sound c.parts.ensures.value, c.from.ensures)
+    omega (arith, total_few c.divisors.ensures.sound c.parts.ensures.value, c.from.ensures)
 
 pub best_marked-requires-clause-marked : goal.best_marked-requires-clause-marked
 best_marked-requires-clause-marked c = rw c.requires.world at c.in-Some.ensures
@@ -56,7 +39,6 @@ returns-in-Some c =
     subst (λ n. IsBest world c.args.words.now Two c.args.allowed n c.best_marked.result)
     (sym (window_count c.args.words.now (machine_count world.tables) c.requires.shift))
     (c.best_marked.ensures c.args.words.now c.args.allowed
-    (omega (arith, total_is c.instance.ensures.sound c.parts.ensures.value, c.from.ensures))
-    (window_of world c.args.words.now c.machines-machines.result _ _
-    (machines_of c.machines-machines.ensures c.instance.ensures.value) c.requires.shift c.requires.named
-    refl))
+    (omega (arith, total_is c.divisors.ensures.sound c.parts.ensures.value, c.from.ensures))
+    (window_of world c.args.words.now c.divisors.result.now.machines.number _ _
+    c.divisors.ensures.machines c.requires.shift c.requires.named c.rest-first.ensures.value))
