@@ -1,7 +1,7 @@
 -- What is read of a world, over plain lists and numbers.
-use Rattle.std.proofs.Common.{◌++◌, ◌≡◌, ◌≢◌, ℕ, ◌+◌, ◌-◌, ◌<◌, ◌≤◌, true, List, length, set, slice_index, eqb, refl, ap, ap₂, sym, ◌∙◌, ⊎_elim, arith, get_or-set_same, get_or-set_other, subst}
+use Rattle.std.proofs.Common.{◌≡◌, ◌≢◌, ℕ, ◌+◌, ◌-◌, ◌<◌, ◌≤◌, true, List, length, set, slice_index, eqb, refl, ap, ap₂, sym, ◌∙◌, ⊎_elim, arith, get_or-set_same, get_or-set_other, subst}
 use Rattle.std.proofs.lemmas.Bool.{cases_eq, cond-true, eq-eqb, ne_eqb}
-use Rattle.std.proofs.lemmas.List.{get_or_append_left, length-map, get_or-map}
+use Rattle.std.proofs.lemmas.List.{length-map, get_or-map}
 use Rattle.ra_base.specs.Sums.{pick, count}
 use Rattle.ra_base.specs.declared.ids.Machine.{Machine}
 use Rattle.ra_base.specs.declared.ids.Service.{Service}
@@ -37,10 +37,12 @@ unfolding service_at
 number_at services k within = grind (arith, get_or-map)
 
 module _ (i : Tables) where
-  -- a list begins with what p requires
-  pub row_filled : (p : ℕ) (row rest : List ℕ) → length row ≡ resource_count i →
-      ((r : ℕ) → r < resource_count i → slice_index row r ≡ requirement_of i p r) → AreRequired i p (row ++ rest)
-  row_filled p row rest long each = grind (arith, get_or_append_left)
+  -- what p requires, by another name of the instance
+  pub required_in : (j : Tables) (p : ℕ) (numbers : List ℕ) → j ≡ i → length numbers ≡ resource_count j →
+      ((r : ℕ) → r < resource_count j → slice_index numbers r ≡ requirement_of j p r) → AreRequired i p numbers
+  required_in j p numbers same width each =
+      let are : AreRequired j p numbers = record { width = width; each = each } in
+      rw same at are
 
   -- a machine's row of use, with what p requires and without it
   pub used_with : (j : Tables) (a : List Machine) (p to r : ℕ) (used required : List ℕ) → j ≡ i →

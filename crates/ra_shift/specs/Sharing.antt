@@ -1,5 +1,5 @@
 -- What doesn't depend on the machine to which process p goes (this project's).
-use Rattle.std.specs.Prelude.{◌≡◌, ℕ, ◌+◌, ◌-◌, ◌*◌, ◌<◌, ◌==◌, List, slice_index}
+use Rattle.std.specs.Prelude.{◌≡◌, ℕ, ◌+◌, ◌-◌, ◌*◌, ◌<◌, ◌==◌, List, length, slice_index}
 use Rattle.ra_base.specs.Sums.{one_if}
 use Rattle.ra_base.specs.declared.ids.Machine.{Machine}
 use Rattle.ra_model.specs.declared.raw.Tables.{Tables}
@@ -11,8 +11,9 @@ use Rattle.ra_model.specs.Costs.{process_share, way_share}
 use Rattle.ra_shift.specs.declared.filter.Asked.{Asked}
 use Rattle.ra_model.specs.MachineCosts.{row_load, row_balance, machine_load, machine_balance}
 
--- what p requires of each resource
+-- what p requires of each resource, and of nothing more
 pub record AreRequired (i : Tables) (p : ℕ) (numbers : List ℕ) : Type 0 where
+  pub width : length numbers ≡ resource_count i
   pub each : (r : ℕ) → r < resource_count i → slice_index numbers r ≡ requirement_of i p r
 
 -- what p asks for by objective b: what it requires of the first resource, times the target, and what it takes of the second

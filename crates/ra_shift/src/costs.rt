@@ -19,7 +19,7 @@ pub(crate) fn cost_of_row(inst: &Instance, m: Machine, row: &[u64; 20]) -> u128
 }
 
 /// Fills a row with the use of a machine plus what a process requires.
-fn fill_with(world: &World<'_>, p: Process, required: &[u32; 20], to: Machine, row: &mut [u64; 20])
+fn fill_with(world: &World<'_>, p: Process, required: &[u32], to: Machine, row: &mut [u64; 20])
     requires machine { to.0 < machine_count world.now.tables }
     requires required { AreRequired world.now.tables p.0 required.now }
     ensures { (r : ℕ) → r < resource_count world.now.tables →
@@ -32,13 +32,7 @@ fn fill_with(world: &World<'_>, p: Process, required: &[u32; 20], to: Machine, r
 }
 
 /// Fills a row with the use of a process's machine minus what the process requires.
-fn fill_without(
-    world: &World<'_>,
-    p: Process,
-    required: &[u32; 20],
-    from: Machine,
-    row: &mut [u64; 20],
-)
+fn fill_without(world: &World<'_>, p: Process, required: &[u32], from: Machine, row: &mut [u64; 20])
     requires process { p.0 < process_count world.now.tables }
     requires from { from.0 ≡ machine_at world.now.here p.0 }
     requires required { AreRequired world.now.tables p.0 required.now }
@@ -52,7 +46,7 @@ fn fill_without(
 }
 
 /// The cost of a machine with one more process.
-pub(crate) fn cost_with(world: &World<'_>, p: Process, required: &[u32; 20], to: Machine) -> u128
+pub(crate) fn cost_with(world: &World<'_>, p: Process, required: &[u32], to: Machine) -> u128
     requires machine { to.0 < machine_count world.now.tables }
     requires required { AreRequired world.now.tables p.0 required.now }
     ensures value { result ≡ row_cost_with
@@ -65,12 +59,7 @@ pub(crate) fn cost_with(world: &World<'_>, p: Process, required: &[u32; 20], to:
 }
 
 /// The cost of the machine of a process without the process.
-pub(crate) fn cost_without(
-    world: &World<'_>,
-    p: Process,
-    required: &[u32; 20],
-    from: Machine,
-) -> u128
+pub(crate) fn cost_without(world: &World<'_>, p: Process, required: &[u32], from: Machine) -> u128
     requires process { p.0 < process_count world.now.tables }
     requires from { from.0 ≡ machine_at world.now.here p.0 }
     requires required { AreRequired world.now.tables p.0 required.now }

@@ -19,8 +19,9 @@ use ra_world::World;
 
 /// What a process adds to the load cost of a machine.
 #[inline(always)]
-pub(crate) fn load_above(world: &World<'_>, required: &[u32; 20], to: Machine) -> u128
+pub(crate) fn load_above(world: &World<'_>, required: &[u32], to: Machine) -> u128
     requires machine { to.0 < machine_count world.now.tables }
+    requires width { length required.now ≡ resource_count world.now.tables }
     ensures value { (p : ℕ) → AreRequired world.now.tables p required.now →
         result ≡ load_above world.now.tables world.now.here p to.0 }
     ensures bound { result ≤ 20 * 2 ^ 64 }
@@ -51,8 +52,9 @@ fn load_more(inst: &Instance, m: Machine, r: Resource, used: u64, amount: u32) -
 }
 
 /// What a process adds to the balance cost of a machine, counted from the most that it could save there.
-pub(crate) fn balance_above(world: &World<'_>, required: &[u32; 20], to: Machine) -> u128
+pub(crate) fn balance_above(world: &World<'_>, required: &[u32], to: Machine) -> u128
     requires machine { to.0 < machine_count world.now.tables }
+    requires width { length required.now ≡ resource_count world.now.tables }
     ensures value { (p : ℕ) → AreRequired world.now.tables p required.now →
         result ≡ balance_above world.now.tables world.now.here p to.0 }
     ensures bound { result ≤ 10 * 2 ^ 96 }
@@ -69,10 +71,11 @@ pub(crate) fn balance_above(world: &World<'_>, required: &[u32; 20], to: Machine
 /// By how much one objective raises the balance cost of a machine with this use if a process comes, counted from the
 /// most that the process could save.
 #[tactic(auto, using(ra_world::proofs::CostLaws::product_below))]
-fn balance_more(inst: &Instance, m: Machine, used: &[u64], required: &[u32; 20], b: u32) -> u128
+fn balance_more(inst: &Instance, m: Machine, used: &[u64], required: &[u32], b: u32) -> u128
     requires machine { m.0 < machine_count inst.now.tables }
     requires objective { b < balance_count inst.now.tables }
-    requires width { length used.now ≡ resource_count inst.now.tables }
+    requires used { length used.now ≡ resource_count inst.now.tables }
+    requires required { length required.now ≡ resource_count inst.now.tables }
     ensures value { (a : List Machine) (p : ℕ) → IsUsageRow inst.now.tables a m.0 used.now
         → AreRequired inst.now.tables p required.now
         → result ≡ first_asked inst.now.tables p b - first_row inst.now.tables a m.0 b
@@ -98,8 +101,9 @@ pub(crate) struct Asked {
 
 /// What a process asks for by one objective.
 #[inline(always)]
-pub(crate) fn asked_of(inst: &Instance, required: &[u32; 20], b: u32) -> Asked
-    requires { b < balance_count inst.now.tables }
+pub(crate) fn asked_of(inst: &Instance, required: &[u32], b: u32) -> Asked
+    requires objective { b < balance_count inst.now.tables }
+    requires width { length required.now ≡ resource_count inst.now.tables }
     ensures { (p : ℕ) → AreRequired inst.now.tables p required.now →
         HasAsked inst.now.tables p b result }
 {
@@ -139,7 +143,8 @@ fn left_of(inst: &Instance, m: Machine, used: &[u64], r: Resource) -> u64
 }
 
 /// The most that a process can save of the balance cost of a machine.
-pub(crate) fn saved(inst: &Instance, required: &[u32; 20]) -> u128
+pub(crate) fn saved(inst: &Instance, required: &[u32]) -> u128
+    requires { length required.now ≡ resource_count inst.now.tables }
     ensures value { (p : ℕ) → AreRequired inst.now.tables p required.now → result ≡
         saved inst.now.tables p }
     ensures bound { result ≤ 10 * 2 ^ 96 }
@@ -153,8 +158,9 @@ pub(crate) fn saved(inst: &Instance, required: &[u32; 20]) -> u128
 
 /// The most that a process can save of the balance cost of a machine by one objective.
 #[tactic(auto, using(ra_world::proofs::CostLaws::product_below))]
-fn saved_by(inst: &Instance, required: &[u32; 20], b: u32) -> u128
-    requires { b < balance_count inst.now.tables }
+fn saved_by(inst: &Instance, required: &[u32], b: u32) -> u128
+    requires objective { b < balance_count inst.now.tables }
+    requires width { length required.now ≡ resource_count inst.now.tables }
     ensures value { (p : ℕ) → AreRequired inst.now.tables p required.now → result ≡
         first_asked inst.now.tables p b }
     ensures bound { result ≤ 2 ^ 96 }

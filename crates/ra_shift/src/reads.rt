@@ -1,27 +1,13 @@
 ghost use Rattle.std.specs.Prelude.{◌≡◌, ◌≢◌, ◌+◌, ◌<◌, ◌≤◌, true, false};
-ghost use Rattle.ra_model.specs.Numbers.{resource_count, process_count, service_count, service_of, location_of, neighbourhood_of};
+ghost use Rattle.ra_model.specs.Numbers.{process_count, service_count, service_of, location_of, neighbourhood_of};
 ghost use Rattle.ra_model.specs.Assignments.{machine_at};
 ghost use Rattle.ra_model.specs.Services.{in_neighbourhood};
 ghost use Rattle.ra_cells.specs.Marks.{away};
 ghost use Rattle.ra_shift.specs.Conditions.{MayLeave};
-ghost use Rattle.ra_shift.specs.Sharing.{AreRequired, locations_without};
+ghost use Rattle.ra_shift.specs.Sharing.{locations_without};
 
-use ra_base::{Machine, Process, Service, Steps, one_when};
-use ra_model::Instance;
+use ra_base::{Machine, Process, Service, one_when};
 use ra_world::World;
-use std::sync::ledger::Ledger;
-
-/// What a process requires of each resource, and zeros after that.
-pub(crate) fn required_of<L: Ledger>(inst: &Instance, p: Process, steps: &mut Steps<L>) -> [u32; 20]
-    requires { p.0 < process_count inst.now.tables }
-    ensures value { AreRequired inst.now.tables p.0 result }
-    ensures counted { steps.new ≡ steps.old + resource_count inst.now.tables }
-{
-    let mut required = [0; 20];
-    let width = inst.resources() as usize;
-    inst.read_requirements(p, &mut required[..width], steps);
-    required
-}
 
 /// In how many locations there is another process of the service of a process.
 pub(crate) fn spread_without(world: &World<'_>, p: Process, s: Service, location: u32) -> u32

@@ -12,7 +12,7 @@ ghost use Rattle.ra_shift.specs.Sharing.{AreRequired, way_cost};
 
 use crate::costs::{cost_with, cost_without, way_cost};
 use crate::filter::{balance_above, load_above, saved, service_away, service_with};
-use crate::reads::{is_away, may_leave, required_of, spread_without};
+use crate::reads::{is_away, may_leave, spread_without};
 use crate::windows::{limit_below, sums_of};
 use ra_base::{Machine, Process, Resource, Service, Steps, one_when};
 use ra_model::machine_of;
@@ -29,8 +29,8 @@ pub struct Shift<'w, 'a> {
     /// Its initial machine.
     pub(crate) home: Machine,
     pub(crate) service: Service,
-    /// What it requires of each resource, and zeros after that.
-    pub(crate) required: [u32; 20],
+    /// What it requires of each resource.
+    pub(crate) required: &'a [u32],
     /// The labels of the location and of the neighbourhood that it would leave.
     location: u32,
     neighbourhood: u32,
@@ -52,7 +52,7 @@ pub struct Shift<'w, 'a> {
     ghost from_is: { from.0 ≡ machine_left world.now process.0 },
     ghost home_is: { home.0 ≡ machine_at world.now.start process.0 },
     ghost service_is: { service.0 ≡ service_of world.now.tables process.0 },
-    ghost required_are: { AreRequired world.now.tables process.0 required },
+    ghost required_are: { AreRequired world.now.tables process.0 required.now },
     ghost location_is: { location ≡ location_left world.now process.0 },
     ghost neighbourhood_is: { neighbourhood ≡ neighbourhood_left world.now process.0 },
     ghost wants_is: { spread_min ≡ spread_wanted world.now process.0 },
@@ -87,10 +87,10 @@ impl<'w, 'a> Shift<'w, 'a> {
         let from = machine_of(world.assignment(), process);
         let home = machine_of(world.initial(), process);
         let service = inst.service_of(process);
-        let required = required_of(inst, process, steps);
+        let required = inst.requirements_of(process, steps);
         let location = inst.location(from);
         let neighbourhood = inst.neighbourhood(from);
-        let without = cost_without(world, process, &required, from);
+        let without = cost_without(world, process, required, from);
         let before = cost_before(world, process, home, from);
         let parts = world.parts();
         let away = added_away(world, process, service, home, from);
@@ -109,7 +109,7 @@ impl<'w, 'a> Shift<'w, 'a> {
             kept: parts.total,
             service_cost: parts.service,
             added: parts.total + (without + away),
-            taken: before + saved(inst, &required) + parts.service,
+            taken: before + saved(inst, required) + parts.service,
         }
     }
 
@@ -234,7 +234,7 @@ impl<'w, 'a> Shift<'w, 'a> {
             return Some(0);
         }
         let limit = limit_below(room);
-        sums_of(self.world, &self.required, self.home, first, limit, sums)
+        sums_of(self.world, self.required, self.home, first, limit, sums)
     }
 
     /// The initial machine.
@@ -252,11 +252,11 @@ impl<'w, 'a> Shift<'w, 'a> {
         requires { to.0 < machine_count self.now.world.now.tables }
         ensures { IsSumBelow self.now.world.now self.now.process.0 to.0 bound result }
     {
-        let load = load_above(self.world, &self.required, to);
+        let load = load_above(self.world, self.required, to);
         if load >= bound {
             return None;
         }
-        let costs = load + balance_above(self.world, &self.required, to);
+        let costs = load + balance_above(self.world, self.required, to);
         if costs >= bound {
             return None;
         }
@@ -292,7 +292,7 @@ impl<'w, 'a> Shift<'w, 'a> {
     {
         let world = self.world;
         let here = world.machine_load(to) + world.machine_balance(to);
-        let with = cost_with(world, self.process, &self.required, to);
+        let with = cost_with(world, self.process, self.required, to);
         let way = way_cost(world, self.process, self.home, to);
         let service = service_with(world, self.service, self.moved(to));
         self.kept + self.without + with + way + service - (self.before + here + self.service_cost)

@@ -35,7 +35,7 @@ impl<'w, 'a> Shift<'w, 'a> {
     {
         let world = self.world;
         let here = world.machine_load(to) + world.machine_balance(to);
-        let with = cost_with(world, self.process, &self.required, to);
+        let with = cost_with(world, self.process, self.required, to);
         let way = way_cost(world, self.process, self.home, to);
         difference(self.without + with + way, self.before + here)
     }

@@ -1,5 +1,5 @@
 ghost use Rattle.std.specs.Prelude.{◌≡◌, ℕ, ◌-◌, ◌^◌, ◌<◌, ◌≤◌, IfSome, min, length, slice_index};
-ghost use Rattle.ra_model.specs.Numbers.{machine_count};
+ghost use Rattle.ra_model.specs.Numbers.{resource_count, machine_count};
 ghost use Rattle.ra_model.specs.Assignments.{machine_at};
 ghost use Rattle.ra_shift.specs.Lanes.{AreSums, HaveWays};
 ghost use Rattle.ra_shift.specs.Sharing.{AreRequired};
@@ -19,12 +19,13 @@ const MOST: u64 = 1 << 30;
 /// windows have no such machine even if all ways were free, and then no way is read.
 pub(crate) fn sums_of(
     world: &World<'_>,
-    required: &[u32; 20],
+    required: &[u32],
     home: Machine,
     first: u32,
     limit: u32,
     sums: &mut [u32; 64],
 ) -> Option<u64>
+    requires width { length required.now ≡ resource_count world.now.tables }
     requires home { home.0 < machine_count world.now.tables }
     requires first { first < machine_count world.now.tables }
     ensures { (p : ℕ) → AreRequired world.now.tables p required.now →

@@ -9,9 +9,9 @@ bounds-required-objective c =
     let limits = c.args.inst.now.well_formed in
     omega (
       arith,
-      first_within c.args.inst.now.tables c.args.b c.balance-objective.result limits c.requires
+      first_within c.args.inst.now.tables c.args.b c.balance-objective.result limits c.requires.objective
           c.balance-objective.ensures,
-      limits.few_resources,
+      c.requires.width,
     )
 
 pub bounds-required-objective-2 : goal.bounds-required-objective-2
@@ -19,9 +19,9 @@ bounds-required-objective-2 c =
     let limits = c.args.inst.now.well_formed in
     omega (
       arith,
-      second_within c.args.inst.now.tables c.args.b c.balance-objective.result limits c.requires
+      second_within c.args.inst.now.tables c.args.b c.balance-objective.result limits c.requires.objective
           c.balance-objective.ensures,
-      limits.few_resources,
+      c.requires.width,
     )
 
 pub returns : goal.returns
@@ -30,6 +30,6 @@ returns c = λ p are.
     let is = c.balance-objective.ensures in
     record {
       wanted = ap₂ (λ x y. x * y) (c.from.ensures ∙ target_read i c.args.b _ is)
-          (c.from-2.ensures ∙ required_first i p c.args.b _ _ c.args.inst.now.well_formed c.requires is are);
-      taken = c.from-3.ensures ∙ required_second i p c.args.b _ _ c.args.inst.now.well_formed c.requires is are;
+          (c.from-2.ensures ∙ required_first i p c.args.b _ _ c.args.inst.now.well_formed c.requires.objective is are);
+      taken = c.from-3.ensures ∙ required_second i p c.args.b _ _ c.args.inst.now.well_formed c.requires.objective is are;
     }

@@ -1,5 +1,5 @@
 -- What is read of the world.
-use Rattle.std.proofs.Common.{◌≡◌, ◌∙◌, ap, subst, arith}
+use Rattle.std.proofs.Common.{◌≡◌, ◌∙◌, ap, arith}
 use Rattle.ra_base.specs.declared.costs.Parts.{Parts}
 use Rattle.ra_model.specs.Costs.{parts_of}
 use Rattle.ra_model.proofs.BoundLemmas.{objective_under, service_under}
@@ -8,7 +8,8 @@ use Rattle.ra_model.specs.Assignments.{machine_at}
 use Rattle.ra_model.specs.declared.raw.Tables.{Tables}
 use Rattle.ra_shift.specs.Arriving.{service_now}
 use Rattle.ra_shift.specs.Filter.{base_added, base_taken}
-use Rattle.ra_shift.specs.Sharing.{AreRequired, use_without, row_cost_with}
+use Rattle.ra_shift.specs.Sharing.{use_without, row_cost_with}
+use Rattle.ra_shift.proofs.ReadLaws.{required_in}
 use Rattle.ra_shift.proofs.shift.Shift.make.Goals as goal
 use Rattle.ra_model.specs.Situations.{cost_at}
 
@@ -55,9 +56,8 @@ invariant_of-result g c =
     ∙ ap (λ j. service_of j p) c.instance-inst.ensures.value in
     let limits = c.parts-parts.ensures.sound.well_formed in
     let small = c.parts-parts.ensures.sound.small in
-    let are = subst (λ j. AreRequired j p c.required_of-required.result)
-    c.instance-inst.ensures.value
-    c.required_of-required.ensures.value in
+    let are = required_in w.tables c.instance-inst.result.now.tables p c.requirements_of-required.result.now
+    c.instance-inst.ensures.value c.requirements_of-required.ensures.width c.requirements_of-required.ensures.each in
     let kept : c.parts-parts.result.total ≡ cost_at w = rw c.parts-parts.ensures.value in
     let now : c.parts-parts.result.service ≡ service_now w =
     rw c.parts-parts.ensures.value in
@@ -72,7 +72,7 @@ invariant_of-result g c =
       from_is = from;
       home_is = home;
       service_is = service;
-      required_are = rw (← c.instance-inst.ensures.value) c.required_of-required.ensures.value;
+      required_are = are;
       location_is = c.location-location.ensures ∙ ap (λ j. location_of j c.machine_of-from.result.0)
           c.instance-inst.ensures.value ∙ ap (location_of w.tables) from;
       neighbourhood_is = c.neighbourhood-neighbourhood.ensures
@@ -95,3 +95,9 @@ invariant_of-result g c =
       taken_is = omega (arith, c.cost_before-before.ensures.value, saves p are, now);
       taken_small = omega (arith, c.cost_before-before.ensures.bound, c.saved.ensures.bound, now, now_under);
     }
+
+pub cost_without-without-requires-clause-required : goal.cost_without-without-requires-clause-required
+cost_without-without-requires-clause-required g c =
+    required_in c.args.world.now.tables c.instance-inst.result.now.tables c.args.process.0
+    c.requirements_of-required.result.now c.instance-inst.ensures.value c.requirements_of-required.ensures.width
+    c.requirements_of-required.ensures.each

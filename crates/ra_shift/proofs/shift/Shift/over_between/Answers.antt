@@ -22,9 +22,9 @@ returns-then-is_too_much-clause-some c =
     ∙ ap (λ j. capacity_of j to r) c.instance-inst.ensures.value in
     let much = c.is_too_much.ensures.0 c.if-is_too_much.true in
     let sum : (k : ℕ) → k < resource_count i → slice_index c.transient_row-row.result.now k
-    + slice_index shift.required k ≡ used_between w p to k =
+    + slice_index shift.required.now k ≡ used_between w p to k =
     λ k k_in. between_with i c.rows.result.now.tables w.start c.rows.result.now.start w.here
-    p to k c.transient_row-row.result.now shift.required c.rows.ensures.instance c.rows.ensures.initial
+    p to k c.transient_row-row.result.now shift.required.now c.rows.ensures.instance c.rows.ensures.initial
     (c.transient_row-row.ensures.values _ c.rows.ensures.stand) shift.required_are k_in in
     record {
       r = r;
@@ -44,7 +44,7 @@ pub loop-r-preserved : goal.loop-r-preserved
 loop-r-preserved c =
     let i = c.args.self.now.world.now.tables in
     let P : ℕ → Type 0 = λ k. transient_at i k ≡ true → slice_index c.transient_row-row.result.now k
-    + slice_index c.args.self.now.required k ≤ capacity_of i c.args.to.0 k in
+    + slice_index c.args.self.now.required.now k ≤ capacity_of i c.args.to.0 k in
     let here : P c.loop-r.r = λ transient. (
     let few : capacity_of i c.args.to.0 c.loop-r.r < slice_index c.transient_row-row.result.now c.loop-r.r
     + c.from.result → ⊥ =
@@ -59,7 +59,7 @@ returns-clause-none c =
     let w = shift.world.now in
     let end = ap (λ j. resource_count j) c.instance-inst.ensures.value in
     between_holds w.tables c.rows.result.now.tables w.start c.rows.result.now.start w.here
-    shift.process.0 c.args.to.0 c.transient_row-row.result.now shift.required c.rows.ensures.instance
+    shift.process.0 c.args.to.0 c.transient_row-row.result.now shift.required.now c.rows.ensures.instance
     c.rows.ensures.initial (c.transient_row-row.ensures.values _ c.rows.ensures.stand) shift.required_are
     (λ k within. c.loop-r.invariant k (omega (arith, within, end, c.resources-r-end.ensures, c.loop-r-test.false)))
 

@@ -21,9 +21,9 @@ returns-then-used-from-clause-some c =
     let within : r < resource_count i = omega (arith, end, c.resources-r-end.ensures, c.loop-r-test.true) in
     let cap = c.capacity-cap.ensures
     ∙ ap (λ j. capacity_of j to r) c.instance-inst.ensures.value in
-    let sum : (k : ℕ) → k < resource_count i → slice_index c.usage_row-row.result.now k + slice_index shift.required k ≡
+    let sum : (k : ℕ) → k < resource_count i → slice_index c.usage_row-row.result.now k + slice_index shift.required.now k ≡
     used_with w p to k = λ k k_in. with_row i c.rows.result.now.tables w.here p to k
-    c.usage_row-row.result.now shift.required c.rows.ensures.instance
+    c.usage_row-row.result.now shift.required.now c.rows.ensures.instance
     (c.usage_row-row.ensures.values _ c.rows.ensures.stand) shift.required_are k_in in
     record {
       r = r;
@@ -38,10 +38,10 @@ pub loop-r-preserved : goal.loop-r-preserved
 loop-r-preserved c =
     let shift = c.args.self.now in
     let i = shift.world.now.tables in
-    let P : ℕ → Type 0 = λ k. slice_index c.usage_row-row.result.now k + slice_index shift.required k ≤
+    let P : ℕ → Type 0 = λ k. slice_index c.usage_row-row.result.now k + slice_index shift.required.now k ≤
     capacity_of i c.args.to.0 k in
     let cap = ap (λ j. capacity_of j c.args.to.0 c.loop-r.r) c.instance-inst.ensures.value in
-    let here : slice_index c.usage_row-row.result.now c.loop-r.r + slice_index shift.required c.loop-r.r ≤
+    let here : slice_index c.usage_row-row.result.now c.loop-r.r + slice_index shift.required.now c.loop-r.r ≤
     capacity_of i c.args.to.0 c.loop-r.r =
     omega (arith, c.if-used-from.false, cap, c.capacity-cap.ensures, c.from.ensures, c.from-in-loop-r.ensures) in
     below_more P c.loop-r.r c.loop-r.invariant here
@@ -52,6 +52,6 @@ returns-clause-none c =
     let w = shift.world.now in
     let end = ap (λ j. resource_count j) c.instance-inst.ensures.value in
     room_holds w.tables c.rows.result.now.tables w.here shift.process.0 c.args.to.0
-    c.usage_row-row.result.now shift.required c.rows.ensures.instance
+    c.usage_row-row.result.now shift.required.now c.rows.ensures.instance
     (c.usage_row-row.ensures.values _ c.rows.ensures.stand) shift.required_are
     (λ k within. c.loop-r.invariant k (omega (arith, within, end, c.resources-r-end.ensures, c.loop-r-test.false)))
