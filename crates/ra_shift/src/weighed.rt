@@ -34,9 +34,9 @@ impl<'w, 'a> Shift<'w, 'a> {
             (steps_to self.now.world.now self.now.process.0 to.0) }
     {
         let world = self.world;
+        let way = way_cost(world, self.process, self.home, to);
         let here = world.machine_load(to) + world.machine_balance(to);
         let with = cost_with(world, self.process, self.required, to);
-        let way = way_cost(world, self.process, self.home, to);
         difference(self.without + with + way, self.before + here)
     }
 
