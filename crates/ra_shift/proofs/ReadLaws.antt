@@ -1,6 +1,6 @@
 -- What is read of a world, over plain lists and numbers.
-use Rattle.std.proofs.Common.{◌≡◌, ◌≢◌, ℕ, ◌+◌, ◌-◌, ◌<◌, ◌≤◌, true, List, length, set, slice_index, eqb, refl, ap, ap₂, sym, ◌∙◌, ⊎_elim, arith, get_or-set_same, get_or-set_other, subst}
-use Rattle.std.proofs.lemmas.Bool.{cases_eq, cond-true, eq-eqb, ne_eqb}
+use Rattle.std.proofs.Common.{◌≡◌, ◌≢◌, ℕ, ◌+◌, ◌-◌, ◌<◌, ◌≤◌, true, List, length, set, slice_index, eqb, refl, ap, ap₂, sym, ◌∙◌, arith, get_or-set_same, get_or-set_other}
+use Rattle.std.proofs.lemmas.Bool.{cond-true, eq-eqb, ne_eqb}
 use Rattle.std.proofs.lemmas.List.{length-map, get_or-map}
 use Rattle.ra_base.specs.Sums.{pick, count}
 use Rattle.ra_base.specs.declared.ids.Machine.{Machine}

@@ -493,11 +493,10 @@ fn cost_before(world: &World<'_>, p: Process, home: Machine, from: Machine) -> u
     requires process { p.0 < process_count world.now.tables }
     requires home { home.0 ≡ machine_at world.now.start p.0 }
     requires from { from.0 ≡ machine_at world.now.here p.0 }
+    requires machine { from.0 < machine_count world.now.tables }
     ensures value { result ≡ cost_before world.now p.0 }
     ensures bound { result ≤ 2 ^ 102 }
 {
-    // What is known of every world.
-    let _known = world.instance();
     let load = world.machine_load(from);
     let balance = world.machine_balance(from);
     load + balance + way_cost(world, p, home, from)

@@ -5,10 +5,6 @@ use Rattle.ra_shift.specs.Sharing.{cost_of, way_cost}
 use Rattle.ra_shift.proofs.ChangeLaws.{cost_small}
 use Rattle.ra_shift.proofs.shift.cost_before.Goals as goal
 
-pub machine_load-load-requires : goal.machine_load-load-requires
-machine_load-load-requires c =
-    omega (arith, c.requires.from, c.instance-known.ensures.sound.fits.in_range c.args.p.0 c.requires.process)
-
 pub overflow_add-result : goal.overflow_add-result
 overflow_add-result c =
     omega (

@@ -1,11 +1,9 @@
 -- What is read of the world.
 use Rattle.std.proofs.Common.{◌≡◌, ◌∙◌, ap, arith}
-use Rattle.ra_base.specs.declared.costs.Parts.{Parts}
 use Rattle.ra_model.specs.Costs.{parts_of}
 use Rattle.ra_model.proofs.BoundLemmas.{objective_under, service_under}
 use Rattle.ra_model.specs.Numbers.{service_of, location_of, neighbourhood_of, spread_of}
 use Rattle.ra_model.specs.Assignments.{machine_at}
-use Rattle.ra_model.specs.declared.raw.Tables.{Tables}
 use Rattle.ra_shift.specs.Arriving.{service_now}
 use Rattle.ra_shift.specs.Filter.{base_added, base_taken}
 use Rattle.ra_shift.specs.Sharing.{use_without, row_cost_with}

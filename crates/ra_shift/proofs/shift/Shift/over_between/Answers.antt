@@ -3,7 +3,6 @@ use Rattle.std.proofs.Common.{◌≡◌, ◌∙◌, ℕ, ◌+◌, ◌<◌, ◌�
 use Rattle.std.proofs.lemmas.Bool.{both_ways}
 use Rattle.ra_base.specs.declared.causes.Cause.TheVariants.{Transient}
 use Rattle.ra_model.specs.Numbers.{resource_count, transient_at, capacity_of}
-use Rattle.ra_model.specs.declared.raw.Tables.{Tables}
 use Rattle.ra_shift.specs.Finding.{used_between}
 use Rattle.ra_shift.proofs.ReadLaws.{between_holds, between_with}
 use Rattle.ra_shift.proofs.shift.Shift.over_between.Goals as goal

@@ -2,7 +2,6 @@
 use Rattle.std.proofs.Common.{◌≡◌, ◌∙◌, ℕ, ◌+◌, ◌<◌, ◌≤◌, ap, ap₂, slice_index, arith, below_more}
 use Rattle.ra_base.specs.declared.causes.Cause.TheVariants.{Capacity}
 use Rattle.ra_model.specs.Numbers.{resource_count, capacity_of}
-use Rattle.ra_model.specs.declared.raw.Tables.{Tables}
 use Rattle.ra_shift.specs.Finding.{used_with}
 use Rattle.ra_shift.specs.Sharing.{use_with}
 use Rattle.ra_shift.proofs.ReadLaws.{room_holds, used_with as with_row}
