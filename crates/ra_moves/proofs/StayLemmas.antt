@@ -17,7 +17,8 @@ use Rattle.ra_moves.specs.Steps.{process_in, from_in, to_in}
 use Rattle.ra_moves.specs.Replacing.{Applied, applied}
 use Rattle.ra_moves.specs.Values.{gone, come}
 use Rattle.ra_moves.proofs.Applying.{applied_at_once}
-use Rattle.ra_moves.proofs.ValueLemmas.{tally_after, use_elsewhere}
+use Rattle.ra_moves.proofs.ValueLemmas.{tally_after}
+use Rattle.ra_model.proofs.TallyLemmas.{use_share_elsewhere}
 use Rattle.ra_moves.specs.Touched.{touches_machine, moves_service}
 use Rattle.ra_moves.specs.Moving.{IsMove}
 use Rattle.ra_moves.proofs.EndLemmas.{end_not_left, end_not_entered, service_not_moved}
@@ -62,8 +63,8 @@ module _ (i : Tables) where
     unfolding use_of
     use_same m r move none =
         tally_stays _ move
-        (λ j within. use_elsewhere i m r _ _ (end_not_left steps m j none within)
-        ∙ sym (use_elsewhere i m r _ _ (end_not_entered steps m j none within)))
+        (λ j within. use_share_elsewhere i m r _ _ (end_not_left steps m j none within)
+        ∙ sym (use_share_elsewhere i m r _ _ (end_not_entered steps m j none within)))
 
     module _ (s : ℕ) where
       pub members_same : (test : ℕ → ℕ → Bool) → IsMove i a steps → moves_service i steps s ≡ false →

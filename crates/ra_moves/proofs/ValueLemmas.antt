@@ -1,5 +1,5 @@
 -- Sums over the processes after a move, step by step; and the machines that are no end of it, whose use stays.
-use Rattle.std.proofs.Common.{◌≡◌, ◌≢◌, ℕ, zero, suc, ◌+◌, ◌<◌, ◌≤◌, ltb, List, length, set, sym, refl, ap, ◌∙◌, arith, ne_eqb}
+use Rattle.std.proofs.Common.{◌≡◌, ℕ, zero, suc, ◌+◌, ◌<◌, ◌≤◌, ltb, List, length, set, sym, refl, ap, ◌∙◌, arith}
 use Rattle.std.proofs.lemmas.Bool.{cond-true, cond-false}
 use Rattle.ra_base.specs.Sums.{total}
 use Rattle.ra_base.specs.declared.ids.Machine.{Machine}
@@ -7,7 +7,6 @@ use Rattle.ra_base.proofs.Sums.{total_none, total_suc}
 use Rattle.ra_model.specs.declared.raw.Tables.{Tables}
 use Rattle.ra_model.specs.Numbers.{machine_count}
 use Rattle.ra_model.specs.Assignments.{IsAssignment, machine_at, tally}
-use Rattle.ra_model.specs.Usage.{use_share}
 use Rattle.ra_model.proofs.TallyLemmas.{tally_set, fits_set}
 use Rattle.ra_moves.specs.declared.steps.Step.{Step}
 use Rattle.ra_moves.specs.Steps.{step_at, process_in, from_in, to_in, StandsAt, Distinct}
@@ -61,11 +60,6 @@ module _ (steps : List Step) where
   pub end_to : (j : ℕ) → end_in steps (length steps + j) ≡ to_in steps j
   unfolding end_in
   end_to j = cond-false (ltb (length steps + j) (length steps)) _ _ (grind arith) ∙ ap (to_in steps) (omega arith)
-
--- what a process on another machine uses of this one
-pub use_elsewhere : (i : Tables) (m r p at : ℕ) → at ≢ m → use_share i m r p at ≡ 0
-unfolding use_share
-use_elsewhere i m r p at apart = cond-false _ _ _ (ne_eqb at m apart)
 
 module _ (i : Tables) (a : List Machine) (steps : List Step) where
   -- an assignment stays one, if each machine that is entered exists
