@@ -1,14 +1,15 @@
 -- How many tokens come before a place, and which is next.
-use Rattle.std.proofs.Common.{◌≡◌, ℕ, suc, ◌+◌, ◌<◌, true, false, List, length, slice_get, Some, sym, ap, ◌∙◌, add-one}
+use Rattle.std.proofs.Common.{◌≡◌, ℕ, suc, ◌+◌, ◌<◌, true, false, List, length, slice_get, Some, None, sym, ap, ◌∙◌, add-one}
+use Rattle.std.proofs.Common.{arith}
 use Rattle.std.proofs.lemmas.List.{length-map}
-use Rattle.std.proofs.lemmas.Option.{slice_get-map, slice_get-get_or}
+use Rattle.std.proofs.lemmas.Option.{slice_get-map, slice_get-get_or, slice_get_past}
 use Rattle.std.specs.Option.{option_map}
 use Rattle.ra_base.specs.Sums.{count, pick}
 use Rattle.ra_base.proofs.Counts.{count_none, count_yes, count_no}
 use Rattle.ra_base.proofs.Picks.{pick_length, pick_place}
 use Rattle.ra_token.specs.Runs.{worth, run_start, ends_at}
 use Rattle.ra_token.specs.Faults.{fault_place}
-use Rattle.ra_token.specs.TokenList.{token_to, tokens, tokens_before}
+use Rattle.ra_token.specs.TokenList.{token_to, tokens, tokens_before, GaveAll}
 use Rattle.ra_token.specs.Scan.{token_of}
 
 module _ (bytes : List ℕ) where
@@ -31,6 +32,10 @@ module _ (bytes : List ℕ) where
   before_all =
       sym (length-map (pick (fault_place bytes) (ends_at bytes)) (token_to bytes)
       ∙ pick_length (fault_place bytes) (ends_at bytes))
+
+  -- after the last token there is none
+  pub past_all : (n : ℕ) → GaveAll bytes n → slice_get (tokens bytes) n ≡ None
+  past_all n all = slice_get_past (tokens bytes) n (omega (arith, all))
 
   -- the token with its last digit here, by its number
   pub token_number : (k : ℕ) → ends_at bytes k ≡ true → k < fault_place bytes →
