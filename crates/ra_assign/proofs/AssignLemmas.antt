@@ -3,7 +3,7 @@ use Rattle.std.proofs.Common.{◌≡◌, ℕ, zero, suc, ◌+◌, ◌<◌, ◌�
 use Rattle.std.proofs.Common.{get_or, Option, Some, None, Ok, Err, refl, sym, ap, ◌∙◌, inl, inr, ⊎_elim, subst, arith}
 use Rattle.std.proofs.lemmas.Bool.{cond-true, cond-false, lt-ltb, le-ltb, cases_lt}
 use Rattle.std.proofs.lemmas.List.{take_more, take_all, map-append}
-use Rattle.std.proofs.lemmas.Option.{slice_get_past, slice_get_within, get_or_from_slice_get, slice_get-get_or}
+use Rattle.std.proofs.lemmas.Option.{slice_get_within, get_or_from_slice_get, slice_get-get_or}
 use Rattle.std.proofs.lemmas.Option.{slice_get_cases}
 use Rattle.std.specs.Prelude.{slice_get, nat_lt}
 use Rattle.ra_base.specs.Searches.{or_else, first}
@@ -15,6 +15,7 @@ use Rattle.ra_token.specs.declared.answers.TokenFault.{TokenFault}
 use Rattle.ra_token.specs.declared.answers.TokenFault.TheVariants as told
 use Rattle.ra_token.specs.TokenList.{tokens, tokens_before, IsAnswer, GaveAll}
 use Rattle.ra_token.specs.Faults.{first_fault}
+use Rattle.ra_token.proofs.TokenLaws.{past_all}
 use Rattle.ra_model.specs.declared.raw.Tables.{Tables}
 use Rattle.ra_model.specs.Numbers.{machine_count, process_count}
 use Rattle.ra_assign.specs.declared.faults.AssignFault.{AssignFault}
@@ -90,10 +91,6 @@ behind_none fault (Some t) none = absurd (let e = sym (behind_token fault t) ∙
 
 module _ (bytes : List ℕ) where
   module _ (n : ℕ) where
-    -- after the last token there is none
-    past_all : GaveAll bytes n → slice_get (tokens bytes) n ≡ None
-    past_all all = slice_get_past (tokens bytes) n (omega (arith, all))
-
     -- after the last process
     pub end_fault : (fault : TokenFault) → IsAnswer bytes n (Err fault) →
         AssignSays (end_test bytes n) (assign_fault fault)
@@ -101,11 +98,11 @@ module _ (bytes : List ℕ) where
     end_fault fault answer =
         says_fault (end_test bytes n) fault
         (⊎_elim (λ (e : fault ≡ told.ReadFault). inl e) (λ (h : GaveAll bytes n × (first_fault bytes ≡ Some fault)).
-        inr (rw (past_all h.0, h.1) refl)) answer)
+        inr (rw (past_all bytes n h.0, h.1) refl)) answer)
 
     pub end_sound : IsAnswer bytes n (Ok None) → end_test bytes n ≡ None
     unfolding end_test behind_test
-    end_sound answer = rw (past_all answer.0, answer.1) refl
+    end_sound answer = rw (past_all bytes n answer.0, answer.1) refl
 
     pub end_extra : (t : Token) → IsAnswer bytes n (Ok (Some t)) → end_test bytes n ≡ Some (Extra t.at)
     unfolding end_test
@@ -130,12 +127,12 @@ module _ (bytes : List ℕ) where
     process_fault fault answer =
         says_fault (process_test bytes i n) fault
         (⊎_elim (λ (e : fault ≡ told.ReadFault). inl e) (λ (h : GaveAll bytes n × (first_fault bytes ≡ Some fault)).
-        inr (rw (past_all n h.0, h.1) refl)) answer)
+        inr (rw (past_all bytes n h.0, h.1) refl)) answer)
 
     -- the end of the file instead of the machine of process n
     pub process_missing : IsAnswer bytes n (Ok None) → process_test bytes i n ≡ Some (Missing (record { 0 = n }))
     unfolding process_test machine_test none_left
-    process_missing answer = rw (past_all n answer.0, answer.1) refl
+    process_missing answer = rw (past_all bytes n answer.0, answer.1) refl
 
     module _ (t : Token) (answer : IsAnswer bytes n (Ok (Some t))) where
       -- a machine that doesn't exist, and one that does
