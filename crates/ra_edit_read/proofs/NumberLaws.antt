@@ -4,7 +4,7 @@ use Rattle.std.proofs.Common.{◌∙◌, inl, inr, ⊎_elim, arith, length-take,
 use Rattle.std.specs.Prelude.{slice_get, nat_lt}
 use Rattle.std.proofs.lemmas.Bool.{cond-true, cond-false, lt-ltb, le-ltb}
 use Rattle.std.proofs.lemmas.List.{length-map}
-use Rattle.std.proofs.lemmas.Option.{slice_get_past, slice_get-get_or, get_or_from_slice_get}
+use Rattle.std.proofs.lemmas.Option.{slice_get-get_or, get_or_from_slice_get}
 use Rattle.ra_base.proofs.Searches.{first_none_from, first_found}
 use Rattle.ra_token.specs.declared.answers.Token.{Token}
 use Rattle.ra_token.specs.declared.answers.TokenFault.{TokenFault}
@@ -13,6 +13,7 @@ use Rattle.ra_token.specs.TokenList.{tokens, tokens_before, IsAnswer, GaveAll}
 use Rattle.ra_token.specs.Faults.{first_fault}
 use Rattle.ra_token.specs.Values.{values_from, AddsValues}
 use Rattle.ra_token.specs.Moments.{HasNext, HasFault}
+use Rattle.ra_token.proofs.TokenLaws.{past_all}
 use Rattle.ra_edit_read.specs.declared.faults.EditsFault.{EditsFault}
 use Rattle.ra_edit_read.specs.declared.faults.EditsFault.TheVariants.{ReadFault, BadByte, TooLarge, TooLong, Missing}
 use Rattle.ra_edit_read.specs.declared.faults.EditsFault.TheVariants.{Range, TooMany, NoMemory}
@@ -53,10 +54,6 @@ fault_read (told.BadByte at byte) e = cc
 fault_read (told.TooLarge at) e = cc
 fault_read told.TooLong e = cc
 fault_read told.NoMemory e = cc
-
--- after the last token there is none
-pub past_all : (bytes : List ℕ) (n : ℕ) → GaveAll bytes n → slice_get (tokens bytes) n ≡ None
-past_all bytes n all = slice_get_past (tokens bytes) n (omega (arith, all))
 
 -- a fault in the place of a number that may be any
 any_fault : (bytes : List ℕ) (k n : ℕ) (fault : TokenFault) → IsAnswer bytes n (Err fault) →
