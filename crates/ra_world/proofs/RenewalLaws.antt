@@ -17,9 +17,8 @@ use Rattle.ra_model.specs.Assignments.{IsAssignment, machine_at}
 use Rattle.ra_model.specs.Usage.{use_of}
 use Rattle.ra_model.specs.Costs.{load_cost, balance_cost}
 use Rattle.ra_model.specs.MachineCosts.{row_load, row_balance, machine_load, machine_balance}
-use Rattle.ra_model.proofs.TallyLemmas.{use_set}
+use Rattle.ra_model.proofs.TallyLemmas.{use_set, use_share_elsewhere}
 use Rattle.ra_model.proofs.MachineLemmas.{row_load_same, row_balance_same, load_by_machine, balance_by_machine}
-use Rattle.ra_moves.proofs.ValueLemmas.{use_elsewhere}
 use Rattle.ra_rows.specs.Rows.{IsUsageRow}
 use Rattle.ra_world.specs.Costs.{AreCosts}
 
@@ -54,7 +53,7 @@ module _ (i : Tables) (a : List Machine) where
     -- a machine that process p neither leaves nor enters is used as before
     pub use_kept : (r : ℕ) → IsAssignment i a → p < process_count i → machine_at a p ≢ m → to.0 ≢ m →
         use_of i a m r ≡ use_of i (set a p to) m r
-    use_kept r fits within not_left not_entered = grind (arith, use_set, use_elsewhere)
+    use_kept r fits within not_left not_entered = grind (arith, use_set, use_share_elsewhere)
 
     pub load_stays : IsAssignment i a → p < process_count i → machine_at a p ≢ m → to.0 ≢ m →
         machine_load i a m ≡ machine_load i (set a p to) m
