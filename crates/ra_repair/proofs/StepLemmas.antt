@@ -13,7 +13,7 @@ use Rattle.ra_model.specs.Assignments.{IsAssignment, machine_at}
 use Rattle.ra_model.specs.Usage.{use_of, transient_share, transient_of}
 use Rattle.ra_model.specs.Services.{is_of, of_service, members_at, on_machine, in_location, locations_of}
 use Rattle.ra_model.proofs.TallyLemmas.{machine_at_set_same, tally_set, use_set, transient_set, members_set}
-use Rattle.ra_moves.proofs.ValueLemmas.{use_elsewhere}
+use Rattle.ra_model.proofs.TallyLemmas.{use_share_elsewhere}
 use Rattle.ra_repair.specs.Penalty.{use_above, row_above, capacity_penalty, transient_above, row_transient_above}
 use Rattle.ra_repair.specs.Penalty.{transient_penalty, crowd_on, service_crowd, conflict_penalty, spread_lack}
 use Rattle.ra_repair.specs.Penalty.{spread_penalty, closed_share, closed_penalty, penalty}
@@ -61,7 +61,7 @@ module _ (i : Tables) (a : List Machine) (p : ℕ) where
     -- use
 
     use_kept : (m r : ℕ) → Goes i a p from to → m ≢ from → m ≢ to.0 → use_of i (set a p to) m r ≡ use_of i a m r
-    use_kept m r goes not_from not_to = grind (arith, use_set, use_elsewhere)
+    use_kept m r goes not_from not_to = grind (arith, use_set, use_share_elsewhere)
 
     row_kept : (m : ℕ) → Goes i a p from to → m ≢ from → m ≢ to.0 → row_above i (set a p to) m ≡ row_above i a m
     unfolding row_above use_above

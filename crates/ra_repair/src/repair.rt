@@ -102,7 +102,6 @@ impl<'a> Repair<'a> {
         requires { i < length self.now.tries.items }
         ensures { result ≡ try_in self.now.tries.items i }
     {
-        let _within = self.tries.len();
         self.tries.get(i as usize)
     }
 
