@@ -1,7 +1,7 @@
 -- What the numbers that were found say of each test.
 use Rattle.std.proofs.Common.{◌≡◌, ◌≢◌, ℕ, zero, suc, ◌<◌, ◌≤◌, Bool, true, false, cond, List, length, get_or, Option}
 use Rattle.std.proofs.Common.{Some, None, refl, sym, ap, ◌∙◌, arith, lt-ltb, le-ltb, ne_eqb, eq-eqb}
-use Rattle.std.proofs.lemmas.Bool.{cond-true, cond-false, and_from, and_left, and_right}
+use Rattle.std.proofs.lemmas.Bool.{and_from, and_left, and_right}
 use Rattle.std.proofs.Math.ListN.{get_or-map}
 use Rattle.std.proofs.lemmas.List.{length-map}
 use Rattle.ra_base.specs.declared.ids.Service.{Service}
@@ -14,8 +14,9 @@ use Rattle.ra_model.specs.Numbers.{spread_of, need_of, need_at, neighbourhood_of
 use Rattle.ra_model.specs.Usage.{use_of, transient_of}
 use Rattle.ra_model.specs.Relations.{depends}
 use Rattle.ra_model.specs.Services.{on_machine, in_neighbourhood, locations_of}
-use Rattle.ra_model.specs.Broken.{cause_if, capacity_test, row_capacity, transient_test, row_transient, conflict_test}
+use Rattle.ra_model.specs.Broken.{capacity_test, row_capacity, transient_test, row_transient, conflict_test}
 use Rattle.ra_model.specs.Broken.{spread_test}
+use Rattle.ra_model.proofs.BrokenLemmas.{failed_if, held_if}
 use Rattle.ra_topology.specs.Lists.{service_at, is_dependant, numbers_of, AreDependantsOf}
 use Rattle.ra_edit.specs.Drafts.{Drafted, with_process_rows, instance_of}
 use Rattle.ra_edit.specs.Touched.{far_from, cause_if_left_alone, left_by, first_of_two, resized_breaks}
@@ -24,14 +25,6 @@ use Rattle.ra_base.proofs.Searches.{or_else_none, first_none_from, first_same}
 use Rattle.ra_base.proofs.Picks.{pick_first}
 use Rattle.ra_edit.proofs.BrokenLaws.{dependencies_with, capacity_with, transient_with, need_with, spread_with}
 use Rattle.ra_edit.proofs.BrokenLaws.{services_with}
-
-failed_if : {failed : Bool} (cause : Cause) → failed ≡ true → Some cause ≡ cause_if failed cause
-unfolding cause_if
-failed_if {failed} cause is = sym (cond-true failed (Some cause) None is)
-
-held_if : {failed : Bool} (cause : Cause) → failed ≡ false → None ≡ cause_if failed cause
-unfolding cause_if
-held_if {failed} cause is = sym (cond-false failed (Some cause) None is)
 
 pub capacity_over : (e : Drafted) (m r used cap : ℕ) → used ≡ use_of (instance_of e) e.current m r →
     cap ≡ capacity_of e.origin m r → cap < used → Some (Capacity (record { 0 = m }) (record { 0 = r }) used cap) ≡

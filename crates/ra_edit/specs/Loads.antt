@@ -28,8 +28,8 @@ pub record HasMoreBetween (width home at : ℕ) (amount : ℕ → ℕ) (low high
   pub same_length : length high ≡ length low
 
 -- a table has at least an amount of each resource at machine `at`
-abbrev pub HasAtLeast : List ℕ → ℕ → List ℕ → Type 0
-HasAtLeast table at amounts = (r : ℕ) → r < length amounts → slice_index amounts r ≤ cell (length amounts) table at r
+abbrev pub HasAtLeast : ℕ → ℕ → (ℕ → ℕ) → List ℕ → Type 0
+HasAtLeast width at amount table = (r : ℕ) → r < width → amount r ≤ cell width table at r
 
 -- one of two has in addition what a process uses, whose machine was `home` at first and is `at` now
 pub record HasMoreUse (width home at : ℕ) (amount : ℕ → ℕ) (low high : Loads) : Type 0 where

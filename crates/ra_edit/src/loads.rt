@@ -12,9 +12,9 @@ ghost use Rattle.ra_edit.specs.Replies.{barred};
 ghost use Rattle.ra_edit_read.specs.EditLists.{FitsInstance};
 
 use crate::lists::{Lists, machine_of};
-use crate::rows::{read_row, requirements_of};
+use crate::rows::requirements_of;
 use crate::scanning::{processes, small};
-use ra_base::{Fixed, Machine, NoMemory, Process};
+use ra_base::{Fixed, Machine, NoMemory, Process, add_to_cell, place, read_cell, read_row};
 use ra_edit_read::Edit;
 use ra_model::{Instance, copies};
 use std::alloc::Global;
@@ -62,7 +62,12 @@ impl Loads {
         small(inst, lists);
         let home = machine_of(&lists.initial, p);
         let here = machine_of(&lists.current, p);
-        self.come(home, here, requirements_of(inst, lists, p));
+        self.come(
+            inst.resources(),
+            home,
+            here,
+            requirements_of(inst, lists, p),
+        );
     }
 
     /// The use of each resource of a machine.
@@ -114,7 +119,7 @@ impl Loads {
             Asks e (length lists.now.rows.items) asked.now → AreLoadsOf e self.new }
     {
         small(inst, lists);
-        self.come(m, m, asked);
+        self.come(inst.resources(), m, m, asked);
     }
 
     /// Follows the removal of a process.
@@ -127,7 +132,12 @@ impl Loads {
     {
         let home = machine_of(&lists.initial, p);
         let here = machine_of(&lists.current, p);
-        self.go(home, here, requirements_of(inst, lists, p));
+        self.go(
+            inst.resources(),
+            home,
+            here,
+            requirements_of(inst, lists, p),
+        );
     }
 
     /// Follows a change of a process's requirements.
@@ -143,79 +153,66 @@ impl Loads {
         self.retire(inst, lists, p);
         let home = machine_of(&lists.initial, p);
         let here = machine_of(&lists.current, p);
-        self.come(home, here, asked);
+        self.come(inst.resources(), home, here, asked);
     }
 
     /// Adds what a process uses, whose machine was `home` at first and is `here` now.
-    pub(crate) fn come(&mut self, home: Machine, here: Machine, amounts: &[u32])
-        requires used { here.0 * length amounts.now + length amounts.now ≤
-            length self.old.used.items }
-        requires home { home.0 * length amounts.now + length amounts.now ≤
-            length self.old.between.items }
-        requires here { here.0 * length amounts.now + length amounts.now ≤
-            length self.old.between.items }
-        requires used_below { IsBelow (length amounts.now) (2 ^ 62) self.old.used.items }
-        requires between_below { IsBelow (length amounts.now) (2 ^ 62) self.old.between.items }
-        ensures { HasMoreUse (length amounts.now) home.0 here.0 (slice_index amounts.now) self.old
-            self.new }
+    fn come(&mut self, width: u32, home: Machine, here: Machine, amounts: &[u32])
+        requires width { length amounts.now ≡ width }
+        requires used { here.0 * width + width ≤ length self.old.used.items }
+        requires home { home.0 * width + width ≤ length self.old.between.items }
+        requires here { here.0 * width + width ≤ length self.old.between.items }
+        requires used_below { IsBelow width (2 ^ 62) self.old.used.items }
+        requires between_below { IsBelow width (2 ^ 62) self.old.between.items }
+        ensures { HasMoreUse width home.0 here.0 (slice_index amounts.now) self.old self.new }
     {
-        add_amounts(&mut self.used, here, amounts);
-        add_amounts(&mut self.between, home, amounts);
+        add_amounts(&mut self.used, width, here, amounts);
+        add_amounts(&mut self.between, width, home, amounts);
         if home != here {
-            add_amounts(&mut self.between, here, amounts);
+            add_amounts(&mut self.between, width, here, amounts);
         }
     }
 
     /// Takes away what a process uses, whose machine was `home` at first and is `here` now.
-    pub(crate) fn go(&mut self, home: Machine, here: Machine, amounts: &[u32])
-        requires used { here.0 * length amounts.now + length amounts.now ≤
-            length self.old.used.items }
-        requires home { home.0 * length amounts.now + length amounts.now ≤
-            length self.old.between.items }
-        requires here { here.0 * length amounts.now + length amounts.now ≤
-            length self.old.between.items }
-        requires used_enough { HasAtLeast self.old.used.items here.0 amounts.now }
-        requires home_enough { HasAtLeast self.old.between.items home.0 amounts.now }
-        requires here_enough { HasAtLeast self.old.between.items here.0 amounts.now }
-        ensures { HasMoreUse (length amounts.now) home.0 here.0 (slice_index amounts.now) self.new
-            self.old }
+    fn go(&mut self, width: u32, home: Machine, here: Machine, amounts: &[u32])
+        requires width { length amounts.now ≡ width }
+        requires used { here.0 * width + width ≤ length self.old.used.items }
+        requires home { home.0 * width + width ≤ length self.old.between.items }
+        requires here { here.0 * width + width ≤ length self.old.between.items }
+        requires used_enough { HasAtLeast width here.0 (slice_index amounts.now) self.old.used.items }
+        requires home_enough { HasAtLeast width home.0 (slice_index amounts.now) self.old.between.items }
+        requires here_enough { HasAtLeast width here.0 (slice_index amounts.now) self.old.between.items }
+        ensures { HasMoreUse width home.0 here.0 (slice_index amounts.now) self.new self.old }
     {
-        take_amounts(&mut self.used, here, amounts);
-        take_amounts(&mut self.between, home, amounts);
+        take_amounts(&mut self.used, width, here, amounts);
+        take_amounts(&mut self.between, width, home, amounts);
         if home != here {
-            take_amounts(&mut self.between, here, amounts);
+            take_amounts(&mut self.between, width, here, amounts);
         }
     }
 }
 
 /// Adds an amount of each resource at a machine.
-fn add_amounts(table: &mut Fixed<u64>, at: Machine, amounts: &[u32])
-    requires place { at.0 * length amounts.now + length amounts.now ≤ length table.old.items }
-    requires below { IsBelow (length amounts.now) (2 ^ 63) table.old.items }
-    ensures { HasMoreAt (length amounts.now) at.0 (slice_index amounts.now) table.old.items
-        table.new.items }
+fn add_amounts(table: &mut Fixed<u64>, width: u32, at: Machine, amounts: &[u32])
+    requires width { length amounts.now ≡ width }
+    requires place { at.0 * width + width ≤ length table.old.items }
+    requires below { IsBelow width (2 ^ 63) table.old.items }
+    ensures { HasMoreAt width at.0 (slice_index amounts.now) table.old.items table.new.items }
 {
-    let _within = table.len();
-    let width = amounts.len();
-    let start = at.0 as usize * width;
     for r in 0..width {
-        let sum = table.get(start + r) + u64::from(amounts[r]);
-        table.set(start + r, sum);
+        add_to_cell(table, width, at.0, r, amounts[r as usize]);
     }
 }
 
 /// Subtracts an amount of each resource at a machine.
-fn take_amounts(table: &mut Fixed<u64>, at: Machine, amounts: &[u32])
-    requires place { at.0 * length amounts.now + length amounts.now ≤ length table.old.items }
-    requires enough { HasAtLeast table.old.items at.0 amounts.now }
-    ensures { HasMoreAt (length amounts.now) at.0 (slice_index amounts.now) table.new.items
-        table.old.items }
+fn take_amounts(table: &mut Fixed<u64>, width: u32, at: Machine, amounts: &[u32])
+    requires width { length amounts.now ≡ width }
+    requires place { at.0 * width + width ≤ length table.old.items }
+    requires enough { HasAtLeast width at.0 (slice_index amounts.now) table.old.items }
+    ensures { HasMoreAt width at.0 (slice_index amounts.now) table.new.items table.old.items }
 {
-    let _within = table.len();
-    let width = amounts.len();
-    let start = at.0 as usize * width;
     for r in 0..width {
-        let rest = table.get(start + r) - u64::from(amounts[r]);
-        table.set(start + r, rest);
+        let rest = read_cell(table, width, at.0, r) - u64::from(amounts[r as usize]);
+        table.set(place(width, at.0, r), rest);
     }
 }

@@ -1,12 +1,11 @@
 //! Rows of numbers, one for each resource.
-ghost use Rattle.std.specs.Prelude.{◌≡◌, ℕ, ◌+◌, ◌*◌, ◌^◌, ◌<◌, ◌≤◌, length, slice_index, IfOk};
+ghost use Rattle.std.specs.Prelude.{◌≡◌, ℕ, ◌+◌, ◌^◌, ◌<◌, ◌≤◌, length, slice_index, IfOk};
 ghost use Rattle.std.specs.List.{slice_range};
-ghost use Rattle.ra_base.specs.Tables.{cell};
 ghost use Rattle.ra_edit.specs.Keeping.{drafted, IsSoundDraft};
 ghost use Rattle.ra_edit.specs.Kinds.{Asks};
 
 use crate::lists::Lists;
-use ra_base::{Fixed, NoMemory, Process};
+use ra_base::{Fixed, NoMemory, Process, place};
 use ra_model::Instance;
 use std::alloc::Global;
 
@@ -16,9 +15,12 @@ pub(crate) fn requirements_of<'a>(inst: &Instance, lists: &'a Lists, p: Process)
     requires process { p.0 < length lists.now.rows.items }
     ensures { Asks (drafted inst.now.tables lists.now) p.0 result.now }
 {
-    let _within = lists.requirements.len();
-    let width = inst.resources() as usize;
-    part(lists.requirements.as_slice(), p.0 as usize * width, width)
+    let width = inst.resources();
+    part(
+        lists.requirements.as_slice(),
+        place(width, p.0, 0),
+        width as usize,
+    )
 }
 
 /// `count` items of a slice, from a place on.
@@ -27,19 +29,6 @@ fn part<T: Copy>(items: &[T], start: usize, count: usize) -> &[T]
     ensures { result.now ≡ slice_range items.now start (start + count) }
 {
     &items[start..start + count]
-}
-
-/// A row of a table of this width.
-#[tactic(auto, using(crate::proofs::ReadLaws::rows))]
-pub(crate) fn read_row(table: &Fixed<u64>, width: u32, row: u32) -> &[u64]
-    requires { row * width + width ≤ length table.now.items }
-    ensures one_each { length result.now ≡ width }
-    ensures each { (r : ℕ) → r < width → slice_index result.now r ≡
-        cell width table.now.items row r }
-{
-    let _within = table.len();
-    let start = row as usize * width as usize;
-    &table.as_slice()[start..start + width as usize]
 }
 
 /// A row plus amounts.

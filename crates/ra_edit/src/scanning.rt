@@ -25,7 +25,6 @@ pub(crate) fn service_of(inst: &Instance, lists: &Lists, p: Process) -> Service
     requires process { p.0 < length lists.now.rows.items }
     ensures { result.0 ≡ service_of (tables_with inst.now.tables lists.now) p.0 }
 {
-    let _within = lists.rows.len();
     lists.rows.get(p.0 as usize).service
 }
 

@@ -1,7 +1,7 @@
 -- The first columns have shrunk.
-use Rattle.std.proofs.Common.{length, slice_index}
+use Rattle.std.proofs.Common.{slice_index}
 use Rattle.ra_edit.proofs.LoadLaws.{Part}
 use Rattle.ra_edit.proofs.loads.take_amounts.Given as goal
 
 abbrev pub invariant-loop-r : goal.invariant-loop-r
-invariant-loop-r l = Part (length l.fn.amounts) l.r l.fn.at.0 (slice_index l.fn.amounts) l.table.items l.fn.table.items
+invariant-loop-r l = Part l.fn.width l.r l.fn.at.0 (slice_index l.fn.amounts) l.table.items l.fn.table.items

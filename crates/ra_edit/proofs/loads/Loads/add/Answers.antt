@@ -11,7 +11,8 @@ come-requires c =
     let i = c.args.inst.now.tables in
     let d = drafted i c.args.lists.now in
     let f = few_of c.requires.sound in
-    rw c.requires.asked (record {
+    rw c.resources.ensures (record {
+      width = c.requires.asked;
       used = row_there (machine_count i) _ _ c.requires.loads.used_grid c.requires.machine;
       home = row_there (machine_count i) _ _ c.requires.loads.between_grid c.requires.machine;
       here = row_there (machine_count i) _ _ c.requires.loads.between_grid c.requires.machine;
@@ -24,4 +25,4 @@ returns c = λ e s come asks.
     loads_more c.args.m.0 (slice_index c.args.asked.now)
     c.requires.loads come.more (sym come.home) (sym come.here)
     (λ r w. asks.each r (rw (← come.more.origin) at w))
-    (rw c.requires.asked at c.come.ensures)
+    (rw c.resources.ensures at c.come.ensures)

@@ -13,6 +13,7 @@ add_amounts-requires-2-clause-below c = below_grows _ _ c.requires.between_below
 
 pub add_amounts-requires-then-ne : goal.add_amounts-requires-then-ne
 add_amounts-requires-then-ne c = record {
+  width = c.requires.width;
   place = omega (arith, c.requires.here, c.add_amounts-2.ensures.same_length);
   below = below_twice c.args.home.0 (slice_index c.args.amounts.now)
       c.requires.between_below (λ r. omega (arith, c.type_inv.amounts r))

@@ -9,6 +9,7 @@ take_amounts-requires-then-ne c =
     let apart : c.args.home.0 ≢ c.args.here.0 =
     λ d. eqb-false c.args.home.0 c.args.here.0 (not-true _ (sym c.ne.ensures ∙ c.if-ne.true)) d in
     record {
+      width = c.requires.width;
       place = omega (arith, c.requires.here, c.take_amounts-2.ensures.same_length);
       enough = λ r w. omega (
         arith,

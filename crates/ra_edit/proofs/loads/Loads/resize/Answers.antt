@@ -25,7 +25,8 @@ come-requires c =
     omega (arith, c.machine_of-home.ensures, home_in c.args.p.0 c.requires.sound c.requires.process) in
     let here : c.machine_of-here.result.0 < machine_count i =
     omega (arith, c.machine_of-here.ensures, here_in c.args.p.0 c.requires.sound c.requires.process) in
-    rw c.requires.asked (record {
+    rw c.resources.ensures (record {
+      width = c.requires.asked;
       used = row_there (machine_count i) _ _ are.used_grid here;
       home = row_there (machine_count i) _ _ are.between_grid home;
       here = row_there (machine_count i) _ _ are.between_grid here;
@@ -42,4 +43,4 @@ returns c = λ e other asks.
     (cc (c.machine_of-home.ensures, other.initial))
     (cc (c.machine_of-here.ensures, other.current))
     (λ r w. asks.each r (rw (← other.after.origin) at w))
-    (rw c.requires.asked at c.come.ensures)
+    (rw c.resources.ensures at c.come.ensures)

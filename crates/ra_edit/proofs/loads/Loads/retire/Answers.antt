@@ -24,7 +24,8 @@ go-requires c =
     omega (arith, c.machine_of-home.ensures, home_in c.args.p.0 c.requires.sound c.requires.process) in
     let here : c.machine_of-here.result.0 < machine_count i =
     omega (arith, c.machine_of-here.ensures, here_in c.args.p.0 c.requires.sound c.requires.process) in
-    rw c.requirements_of.ensures.one_each (record {
+    rw c.resources.ensures (record {
+      width = c.requirements_of.ensures.one_each;
       used = row_there (machine_count i) _ _ c.requires.loads.used_grid here;
       home = row_there (machine_count i) _ _ c.requires.loads.between_grid home;
       here = row_there (machine_count i) _ _ c.requires.loads.between_grid here;
@@ -54,4 +55,4 @@ returns c = λ e gone.
     loads_less
     (slice_index c.requirements_of.result.now) c.requires.loads gone.fewer
     c.machine_of-home.ensures c.machine_of-here.ensures c.requirements_of.ensures.each
-    (rw c.requirements_of.ensures.one_each at c.go.ensures)
+    (rw c.resources.ensures at c.go.ensures)
