@@ -11,7 +11,7 @@ use Rattle.ra_model.specs.Assignments.{IsAssignment, machine_at}
 use Rattle.ra_model.specs.Usage.{use_share, use_of, transient_share, transient_of}
 use Rattle.ra_model.specs.Situations.{Situation, IsFeasible}
 use Rattle.ra_model.proofs.TallyLemmas.{machine_at_set_same, machine_at_set_other, use_set, transient_set}
-use Rattle.ra_moves.proofs.ValueLemmas.{use_elsewhere}
+use Rattle.ra_model.proofs.TallyLemmas.{use_share_elsewhere}
 use Rattle.ra_shift.specs.Conditions.{shifted, HasRoom, HasRoomBetween}
 use Rattle.ra_shift.specs.Finding.{IsOver, IsOverBetween}
 
@@ -55,12 +55,12 @@ module _ (st : Situation) (p to : ℕ) where
   module _ (r : ℕ) where
     pub use_entered : IsStart st p to →
         use_of st.tables (shifted st.here p to) to r ≡ use_of st.tables st.here to r + requirement_of st.tables p r
-    use_entered h = grind (arith, use_set, use_elsewhere, use_here)
+    use_entered h = grind (arith, use_set, use_share_elsewhere, use_here)
 
     pub use_left : IsStart st p to →
         use_of st.tables (shifted st.here p to) (machine_at st.here p) r + requirement_of st.tables p r
         ≡ use_of st.tables st.here (machine_at st.here p) r
-    use_left h = grind (arith, use_set, use_elsewhere, use_here)
+    use_left h = grind (arith, use_set, use_share_elsewhere, use_here)
 
     pub between_entered : IsStart st p to → machine_at st.start p ≢ to →
         transient_of st.tables st.start (shifted st.here p to) to r ≡ transient_of st.tables st.start st.here to r
@@ -73,7 +73,7 @@ module _ (st : Situation) (p to : ℕ) where
 
   pub use_other : (m r : ℕ) → IsStart st p to → m ≢ to →
       use_of st.tables (shifted st.here p to) m r ≤ use_of st.tables st.here m r
-  use_other m r h apart = grind (arith, use_set, use_elsewhere)
+  use_other m r h apart = grind (arith, use_set, use_share_elsewhere)
 
   between_less : (m r : ℕ) → to ≢ m →
       transient_share st.tables st.start m r p to ≤ transient_share st.tables st.start m r p (machine_at st.here p)
