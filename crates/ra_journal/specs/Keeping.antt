@@ -4,6 +4,8 @@ use Rattle.ra_draws.specs.declared.budgets.Lots.{Lots}
 use Rattle.ra_model.specs.Limits.{WellFormed}
 use Rattle.ra_model.specs.Assignments.{IsAssignment}
 use Rattle.ra_model.specs.Broken.{first_broken}
+use Rattle.ra_topology.specs.Fits.{IsTopologyOf}
+use Rattle.ra_topology.specs.TopologyLists.{TopologyLists}
 use Rattle.ra_moves.specs.SettledNow.{AreMovedOf}
 use Rattle.ra_guards.specs.Kept.{AreVersions}
 use Rattle.ra_journal.specs.declared.book.Book.{Book}
@@ -38,3 +40,9 @@ pub record IsKept (o : Opening) (book : Book) : Type 0 where
   pub cost : book.kept ≡ kept_cost o book.entries.items (length book.entries.items)
   pub best_at : book.best_at ≡ best_of o book.entries.items
   pub best_cost : book.best_cost ≡ cost_of_state o book.entries.items book.best_at
+
+-- all that a journal has: its topology is that of its instance, and its book keeps what it is to keep
+pub record IsKeptJournal (o : Opening) (topo : TopologyLists) (book : Book) : Type 0 where
+  pub topology : IsTopologyOf topo o.tables
+  pub start : IsStart o
+  pub kept : IsKept o book

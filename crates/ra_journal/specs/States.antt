@@ -30,7 +30,8 @@ unfoldable pub cost_then : ℕ → Verdict → ℕ
 cost_then cost (Done after) = after
 cost_then cost (Refused cause) = cost
 
--- the kept cost at place j: that of the last entry that is done, among the first j, and the objective of the start if none is
+-- the kept cost at place j: that of the last entry that is done, among the first j, and the objective of the start if
+-- none is
 unfoldable pub kept_cost : Opening → List Entry → ℕ → ℕ
 kept_cost o h zero = objective o.tables o.start o.start
 kept_cost o h (suc j) = cost_then (kept_cost o h j) (entry_at h j).verdict

@@ -1,8 +1,5 @@
 ghost use Rattle.std.specs.Prelude.{◌≡◌, ◌≤◌};
-ghost use Rattle.ra_topology.specs.Fits.{IsTopologyOf};
 ghost use Rattle.ra_journal.specs.Entries.{proposal_count};
-ghost use Rattle.ra_journal.specs.Keeping.{IsStart, IsKept};
-ghost use Rattle.ra_journal.specs.Openings.{opening};
 
 use crate::batch::Batch;
 use crate::book::Book;
@@ -18,6 +15,7 @@ use ra_model::Instance;
 use ra_moves::Plan;
 use ra_topology::Topology;
 use std::alloc::Global;
+use std::marker::Model;
 
 /// The journal of a run: the proposals of all workers in the order in which they were recorded. By its type it is legal
 /// at all times. It takes its memory when it is made, for one entry for each proposal of all budgets.
@@ -28,18 +26,33 @@ pub struct Journal<'a> {
     a0: &'a Assignment,
     lots: &'a Lots,
     book: Book,
-    pub ghost topology: { IsTopologyOf topo.now inst.now.tables },
-    pub ghost start: { IsStart (opening inst.now.tables a0.now.items lots.now) },
-    pub ghost kept: { IsKept (opening inst.now.tables a0.now.items lots.now) book },
+}
+
+impl<'a> Model for Journal<'a> {
+    ghost use Rattle.std.specs.Coded.{codes};
+    ghost use Rattle.ra_draws.specs.contracts.budgets.Lots as l;
+    ghost use Rattle.ra_model.specs.contracts.numbers.Instance as i;
+    ghost use Rattle.ra_journal.specs.Journals.{History, history};
+    ghost use Rattle.ra_journal.specs.Keeping.{IsKeptJournal};
+    ghost use Rattle.ra_journal.specs.Openings.{opening};
+
+    ghost Value = { History };
+
+    ghost coded = { Prim.hlevel (codes, i.the_row.coded, l.the_row.coded) };
+
+    ghost view = { λ j. history j.inst.now j.topo.now j.a0.now j.lots.now j.book.entries.items };
+
+    ghost invariant = { λ j. IsKeptJournal
+        (opening j.inst.now.tables j.a0.now.items j.lots.now) j.topo.now j.book };
 }
 
 impl<'a> Journal<'a> {
-    ghost use Rattle.std.specs.Prelude.{◌≡◌, ◌-◌, ◌<◌, ◌≤◌, true, min, length, option_copied, IfSome, IfOk};
+    ghost use Rattle.std.specs.Prelude.{◌≡◌, ◌-◌, ◌<◌, ◌≤◌, true, min, [], length, option_copied, IfSome, IfOk};
     ghost use Rattle.ra_journal.specs.Batches.{batch_from};
     ghost use Rattle.ra_journal.specs.Best.{best_of};
     ghost use Rattle.ra_journal.specs.Committing.{AreHeld};
     ghost use Rattle.ra_journal.specs.Entries.{entry_at, entries_of, worker_count};
-    ghost use Rattle.ra_journal.specs.Journals.{instance_in, tables_in, topology_in, lots_in, opening_in, list_in, entries_in, newer_in, MayHandIn, HasHeld, IsOpened, Answers};
+    ghost use Rattle.ra_journal.specs.Journals.{opening_in, newer_in, history, IsJournal, MayHandIn, HasHeld, Answers};
     ghost use Rattle.ra_journal.specs.Quiet.{AreRefused};
     ghost use Rattle.ra_topology.specs.Starts.{IsFeasibleStart};
     ghost use Rattle.ra_journal.specs.States.{kept_cost, cost_of_state};
@@ -54,7 +67,7 @@ impl<'a> Journal<'a> {
         lots: &'a Lots,
     ) -> Result<Journal<'a>, NoMemory>
         requires { IsFeasibleStart inst.now.tables topo.now a0.now.items start }
-        ensures { IfOk result (IsOpened inst.now topo.now a0.now lots.now) }
+        ensures { IfOk result (λ journal. journal ≡ history inst.now topo.now a0.now lots.now []) }
     {
         let entries = Entries::make(alloc, proposals(lots) as usize)?;
         let versions = Versions::make(alloc, inst.machines(), inst.services())?;
@@ -90,8 +103,7 @@ impl<'a> Journal<'a> {
     /// none of which was touched since the move was planned. It compares the other guards alone.
     pub fn commit_held(&mut self, worker: u32, plan: &Plan) -> Reply
         requires commit { MayHandIn self.old worker plan.now }
-        requires held { AreHeld (tables_in self.old) (entries_in self.old) plan.now.q
-            plan.now.mv.steps }
+        requires held { AreHeld self.old.instance.tables self.old.entries plan.now.q plan.now.mv.steps }
         ensures { Answers self.old self.new worker plan.now result }
     {
         let guards = writes(self.topo, self.inst, &plan.mv);
@@ -141,91 +153,98 @@ impl<'a> Journal<'a> {
     /// Whether it is known at once that all entries from a place on are refused, so that the state there equals the
     /// state after all entries.
     pub fn is_quiet_from(&self, at: u64) -> bool
-        ensures { result ≡ true → AreRefused (entries_in self.now) at
-            (length (entries_in self.now)) }
+        ensures { result ≡ true → AreRefused self.now.entries at (length self.now.entries) }
     {
         self.book.versions.is_at_most(at)
     }
 
     /// Fills a batch with the entries from a place on, as many as it has room for, and gives their number.
     pub fn copy_from(&self, at: u64, batch: &mut Batch) -> u64
-        requires { at ≤ length (entries_in self.now) }
-        ensures entries { batch.new ≡ batch_from (entries_in self.now) at }
-        ensures number { result ≡ min 1024 (length (entries_in self.now) - at) }
+        requires { at ≤ length self.now.entries }
+        ensures entries { batch.new ≡ batch_from self.now.entries at }
+        ensures number { result ≡ min 1024 (length self.now.entries - at) }
+        ensures sound { IsJournal self.now }
     {
         batch.fill(&self.book.entries, at as usize)
     }
 
     /// How many entries there are.
     pub fn len(&self) -> u64
-        ensures { result ≡ length (entries_in self.now) }
+        ensures value { result ≡ length self.now.entries }
+        ensures sound { IsJournal self.now }
     {
         self.book.entries.len() as u64
     }
 
     /// The entry at a place, counted from 0.
     pub fn entry(&self, at: u64) -> Entry
-        requires { at < length (entries_in self.now) }
-        ensures { result ≡ entry_at (entries_in self.now) at }
+        requires { at < length self.now.entries }
+        ensures value { result ≡ entry_at self.now.entries at }
+        ensures sound { IsJournal self.now }
     {
         self.book.entries.get(at as usize)
     }
 
     /// All entries, in order.
     pub fn entries(&self) -> &Entries
-        ensures { result.now ≡ list_in self.now }
+        ensures items { result.now.items ≡ self.now.entries }
+        ensures room { result.now.room ≡ proposal_count self.now.lots }
     {
         &self.book.entries
     }
 
     /// How many entries a worker has made.
     pub fn made_by(&self, worker: u32) -> u64
-        requires { worker < worker_count (lots_in self.now) }
-        ensures { result ≡ entries_of (entries_in self.now) (length (entries_in self.now)) worker }
+        requires { worker < worker_count self.now.lots }
+        ensures { result ≡ entries_of self.now.entries (length self.now.entries) worker }
     {
         self.book.made[worker as usize]
     }
 
     /// The cost of the state after all entries.
     pub fn kept_cost(&self) -> u128
-        ensures { result ≡ kept_cost (opening_in self.now) (entries_in self.now)
-            (length (entries_in self.now)) }
+        ensures { result ≡ kept_cost (opening_in self.now) self.now.entries
+            (length self.now.entries) }
     {
         self.book.kept
     }
 
     /// How many entries come before the first state of least cost.
     pub fn best_at(&self) -> u64
-        ensures { result ≡ best_of (opening_in self.now) (entries_in self.now) }
+        ensures value { result ≡ best_of (opening_in self.now) self.now.entries }
+        ensures sound { IsJournal self.now }
     {
         self.book.best_at
     }
 
     /// The cost of that state.
     pub fn best_cost(&self) -> u128
-        ensures { result ≡ cost_of_state (opening_in self.now) (entries_in self.now)
-            (best_of (opening_in self.now) (entries_in self.now)) }
+        ensures { result ≡ cost_of_state (opening_in self.now) self.now.entries
+            (best_of (opening_in self.now) self.now.entries) }
     {
         self.book.best_cost
     }
 
     /// The instance.
     pub fn instance(&self) -> &'a Instance
-        ensures { result.now ≡ instance_in self.now }
+        ensures value { result.now ≡ self.now.instance }
+        ensures sound { IsJournal self.now }
     {
         self.inst
     }
 
     /// Its topology.
     pub fn topology(&self) -> &'a Topology
-        ensures { result.now ≡ topology_in self.now }
+        ensures value { result.now ≡ self.now.topology }
+        ensures sound { IsJournal self.now }
     {
         self.topo
     }
 
     /// The lots of the workers.
     pub fn lots(&self) -> &'a Lots
-        ensures { result.now ≡ lots_in self.now }
+        ensures value { result.now ≡ self.now.lots }
+        ensures sound { IsJournal self.now }
     {
         self.lots
     }

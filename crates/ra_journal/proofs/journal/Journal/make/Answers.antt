@@ -3,6 +3,7 @@ use Rattle.ra_base.specs.declared.costs.Parts.{Parts}
 use Rattle.ra_model.specs.Costs.{parts_of}
 use Rattle.ra_model.specs.Numbers.{service_count}
 use Rattle.ra_guards.specs.Kept.{AreZero}
+use Rattle.ra_journal.specs.Journals.{history}
 use Rattle.ra_journal.specs.Openings.{opening}
 use Rattle.ra_journal.proofs.StartLemmas.{kept_start}
 use Rattle.ra_journal.proofs.journal.Journal.make.Goals as goal
@@ -24,10 +25,5 @@ invariant_of-result c =
     }
 
 pub returns : goal.returns
-returns c = record {
-  instance = refl;
-  topology = refl;
-  initial = refl;
-  lots = refl;
-  entries = c.in_ok-entries.ensures.items;
-}
+returns c =
+    ap (history c.args.inst.now c.args.topo.now c.args.a0.now c.args.lots.now) c.in_ok-entries.ensures.items
