@@ -1,24 +1,18 @@
 -- A turn in which a worker hands in its plan, from what the lock tells of it.
-use Rattle.std.proofs.Common.{◌≡◌, ℕ, ◌-◌, ◌<◌, ◌≤◌, true, List, ◌++◌, length, drop, refl, ap₂}
+use Rattle.std.proofs.Common.{◌≡◌, ℕ, ◌-◌, ◌<◌, ◌≤◌, true, List, ◌++◌, length, drop, ap, ap₂}
 use Rattle.std.proofs.Common.{sym, subst, ◌∙◌, arith}
 use Rattle.std.proofs.lemmas.List.{length_push}
 use Rattle.std.proofs.lemmas.Option.{slice_get_within}
 use mathlib.Core.List.{IsPrefix}
-use Rattle.ra_base.specs.Listed.{Listed}
 use Rattle.ra_base.specs.declared.ids.Guard.{Guard}
-use Rattle.ra_base.specs.declared.ids.Machine.{Machine}
-use Rattle.ra_draws.specs.declared.budgets.Lots.{Lots}
-use Rattle.ra_model.specs.declared.numbers.Instance.{Instance}
 use Rattle.ra_moves.specs.declared.verdicts.Plan.{Plan}
 use Rattle.ra_guards.specs.Guards.{writes, AreWithin}
 use Rattle.ra_journal.specs.declared.entries.Entry.{Entry}
-use Rattle.ra_journal.specs.declared.journal.Journal.{Journal}
 use Rattle.ra_journal.specs.declared.replies.Reply.{Reply}
 use Rattle.ra_journal.specs.Committing.{AreHeld}
 use Rattle.ra_journal.specs.Entries.{allowed}
-use Rattle.ra_journal.specs.Legal.{Legal}
 use Rattle.ra_journal.specs.Refusing.{IsRefused}
-use Rattle.ra_journal.specs.Journals.{opening_in, entries_in, IsOverSame}
+use Rattle.ra_journal.specs.Journals.{History, IsJournal}
 use Rattle.ra_journal.proofs.EndLemmas.{planned_within}
 use Rattle.ra_turn.specs.declared.sight.Grip.{Grip}
 use Rattle.ra_turn.specs.Notes.{grip, touching, TouchedAt, IsNews, ShutBy}
@@ -128,12 +122,9 @@ module _ (o p : Opened) (w : ℕ) where
   turned_committed u q seen mine h found own xs seen' mine' reply opened worker turned legal here kept now made is
       answered = grind arith
 
--- what a journal was opened with, by its parts
-same_opened : (i j : Instance) (a0 b0 : Listed Machine) (l m : Lots) → i ≡ j → a0 ≡ b0 → l ≡ m →
-    (let o : Opened = record { inst = i; a0 = a0; lots = l } in o) ≡ record { inst = j; a0 = b0; lots = m }
-same_opened i j a0 b0 l m inst initial lots = rw (inst, initial, lots) refl
-
 -- what was seen is legal
-pub legal_now : (o : Opened) (old new : Journal) (seen' : List Entry) → opening_of_journal old ≡ o → IsOverSame old new →
-    seen' ≡ entries_in new → Legal (opening_in new) (entries_in new) → IsLegalSeen o seen'
-legal_now o old new seen' opened over now legal = grind (arith, same_opened)
+pub legal_now : (o : Opened) (old new : History) (h seen' : List Entry) → opening_of_journal old ≡ o →
+    new ≡ record old { entries = h } → seen' ≡ new.entries → IsJournal new → IsLegalSeen o seen'
+legal_now o old new h seen' opened is now sound =
+    subst (λ (x : Opened). IsLegalSeen x seen') (ap (λ (x : History). opening_of_journal x) is ∙ opened)
+    (subst (IsLegalSeen (opening_of_journal new)) (sym now) sound.legal)

@@ -2,10 +2,9 @@
 use Rattle.std.specs.Prelude.{◌≡◌, ℕ, Bool, List}
 use Rattle.ra_moves.specs.declared.verdicts.Plan.{Plan}
 use Rattle.ra_journal.specs.declared.entries.Entry.{Entry}
-use Rattle.ra_journal.specs.declared.journal.Journal.{Journal}
 use Rattle.ra_journal.specs.Committing.{committed, Committed, IsCommit}
 use Rattle.ra_journal.specs.Entries.{made_by}
-use Rattle.ra_journal.specs.Journals.{instance_in, initial_in, lots_in, entries_in}
+use Rattle.ra_journal.specs.Journals.{History}
 use Rattle.ra_journal.specs.Keeping.{IsStart}
 use Rattle.ra_journal.specs.Legal.{Legal}
 use Rattle.ra_journal.specs.Openings.{Opening, opening}
@@ -15,8 +14,8 @@ use Rattle.ra_shared.specs.declared.books.Opened.{Opened}
 use Rattle.ra_shared.specs.Numbers.{touches_number}
 
 -- what a journal was opened with
-abbrev pub opening_of_journal : Journal → Opened
-opening_of_journal j = record { inst = instance_in j; a0 = initial_in j; lots = lots_in j }
+abbrev pub opening_of_journal : History → Opened
+opening_of_journal j = record { inst = j.instance; a0 = j.initial; lots = j.lots }
 
 abbrev pub opened_by : Book → Opened
 opened_by b = opening_of_journal b.journal.value
@@ -27,7 +26,7 @@ opening_by o = opening o.inst.tables o.a0.items o.lots
 
 -- the entries of the journal
 abbrev pub notes_in : Book → List Entry
-notes_in b = entries_in b.journal.value
+notes_in b = b.journal.value.entries
 
 -- the entry touches the guard with this number; from the guard count on there is no guard
 abbrev pub entry_touches : Opened → Entry → ℕ → Bool

@@ -1,3 +1,5 @@
+ghost use Rattle.ra_journal.specs.Journals.{IsJournal};
+
 use ra_base::Assignment;
 use ra_draws::Lots;
 use ra_journal::{Entry, Journal};
@@ -19,6 +21,7 @@ pub struct Opened {
 #[derive(Drop)]
 pub struct Book<'a> {
     pub(crate) journal: Box<Journal<'a>>,
+    pub ghost sound: { IsJournal journal.value },
 }
 
 /// The right of one worker to take turns at the journal. It knows which entries the worker has seen and made.

@@ -1,6 +1,5 @@
 ghost use Rattle.std.specs.Prelude.{◌≡◌, ℕ, ◌≤◌, List, length};
 ghost use Rattle.ra_journal.specs.declared.entries.Entry.{Entry};
-ghost use Rattle.ra_journal.specs.Journals.{entries_in};
 ghost use Rattle.ra_shared.specs.Copies.{CopiesUnlessQuiet};
 
 use ra_journal::{Batch, Journal};
@@ -12,8 +11,8 @@ pub(crate) trait Copying {
 
     /// Copies the entries from a place on.
     fn copy(&mut self, journal: &Journal<'_>, place: u64)
-        requires { place ≤ length (entries_in journal.now) }
-        ensures { copied self.new (entries_in journal.now) place };
+        requires { place ≤ length journal.now.entries }
+        ensures { copied self.new journal.now.entries place };
 }
 
 /// A batch takes the entries from the place on, or none if it is known at once that all of them are refused.

@@ -42,7 +42,7 @@ impl<'a> Shared<'a> {
     ghost use Rattle.ra_turn.specs.Passes.{seen_by, notes_made_by, grips_of, EachAt, IsPartOf};
     ghost use Rattle.ra_journal.specs.Batches.{batch_from};
     ghost use Rattle.ra_journal.specs.Entries.{worker_count};
-    ghost use Rattle.ra_journal.specs.Journals.{lots_in, entries_in};
+    ghost use Rattle.ra_journal.specs.Journals.{IsJournal};
     ghost use Rattle.ra_shared.specs.Books.{opening_of_journal};
     ghost use Rattle.ra_shared.specs.Copies.{CopiesUnlessQuiet};
     ghost use Rattle.ra_shared.specs.Holding.{HoldsFirst, PassMayHandIn, IsHandedIn, KnowsGuards, IsHeldUp};
@@ -53,9 +53,9 @@ impl<'a> Shared<'a> {
         alloc: Global,
         journal: Journal<'a>,
     ) -> Result<(Shared<'a>, Vec<WorkerPass<'a>>), NoMemory>
-        requires { entries_in journal ≡ [] }
+        requires { journal.entries ≡ [] }
         ensures opened { IfOk result (λ r. start_of r.0 ≡ opening_of_journal journal.entry) }
-        ensures count { IfOk result (λ r. length r.1.items ≡ worker_count (lots_in journal.entry)) }
+        ensures count { IfOk result (λ r. length r.1.items ≡ worker_count journal.entry.lots) }
         ensures passes { IfOk result (λ r. EachAt (IsNew r.0) r.1.items) }
     {
         let inst = journal.instance();
@@ -202,7 +202,8 @@ impl<'a> Shared<'a> {
     {
         let worker = pass.number();
         let mut held = self.turn.take(rt, pass);
-        let reply = held.value.journal.commit_with(worker, plan, guards);
+        let book = &mut held.value;
+        let reply = book.journal.commit_with(worker, plan, guards);
         copy.copy(&held.value.journal, plan.q);
         self.turn.give(pass, held);
         reply
@@ -213,7 +214,8 @@ impl<'a> Shared<'a> {
         requires count { length passes.items ≡ worker_count (start_of self).lots }
         requires passes { EachAt (IsLast self) passes.items }
         ensures opened { opening_of_journal result ≡ start_of self.entry }
-        ensures passes { All (IsPartOf (entries_in result)) passes.entry.items }
+        ensures passes { All (IsPartOf result.entries) passes.entry.items }
+        ensures sound { IsJournal result }
     {
         let Shared {
             turn,

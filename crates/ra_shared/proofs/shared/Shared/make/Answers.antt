@@ -10,12 +10,12 @@ unfolding guard_count worker_count
 invariant_of-result c =
     let opened =
     c.in_ok-turn.ensures.turn.0 ∙ ap (λ j. opening_of_journal j) c.in_ok-journal.ensures.ok in
-    let lots = ap (λ l. worker_count l) c.lots-lots.ensures
+    let lots = ap (λ l. worker_count l) c.lots-lots.ensures.value
     ∙ ap (λ o. worker_count o.lots) (sym opened) in
     record {
-      instance = c.instance-inst.ensures ∙ ap (λ o. o.inst) (sym opened);
-      allotted = c.lots-lots.ensures ∙ ap (λ o. o.lots) (sym opened);
-      started = subst IsStartOf (sym opened) c.args.journal.start;
+      instance = c.instance-inst.ensures.value ∙ ap (λ o. o.inst) (sym opened);
+      allotted = c.lots-lots.ensures.value ∙ ap (λ o. o.lots) (sym opened);
+      started = subst IsStartOf (sym opened) c.lots-lots.ensures.sound.start;
       guards = omega (arith, c.in_ok-turn.ensures.turn.2, c.machines.ensures, c.services.ensures);
       workers = omega (arith, c.in_ok-turn.ensures.turn.1, c.len.ensures.value, lots);
     }
