@@ -4,10 +4,9 @@ use Rattle.std.proofs.lemmas.Bool.{cond_both, cases_eq}
 use Rattle.std.proofs.lemmas.List.{length_push, length-set, get_or-set_same, get_or-set_other, get_or-map, map-set}
 use Rattle.ra_guards.specs.declared.newest.Newer.{Newer}
 use Rattle.ra_journal.specs.declared.entries.Entry.{Entry}
-use Rattle.ra_journal.specs.declared.journal.Journal.{Journal}
 use Rattle.ra_journal.specs.Committing.{next_entry, next_move, newer_since, committed, committed_by}
 use Rattle.ra_journal.specs.Openings.{Opening, opening}
-use Rattle.ra_journal.specs.Journals.{opening_in, IsOverSame}
+use Rattle.ra_journal.specs.Journals.{History, opening_in, IsOverSame}
 use Rattle.ra_journal.proofs.Places.{SameBelow, same_fewer, same_added, same_state, same_entries_of}
 use Rattle.ra_worker.specs.declared.replica.Replica.{Replica}
 use Rattle.ra_worker.specs.Skipping.{has_used, is_behind, is_skipped}
@@ -15,8 +14,7 @@ use Rattle.ra_worker.specs.Replicas.{IsAt}
 use Rattle.ra_worker.specs.declared.events.CoreReply.{CoreReply}
 use Rattle.ra_worker.specs.Core.{core_place_of, Turn, answered, turn}
 use Rattle.ra_worker.specs.AllReplicas.{IsAtOf, AreAt, core_of}
-use Rattle.ra_worker.specs.Turns.{StandIn, TakesTurn}
-use Rattle.ra_worker.proofs.OpeningLemmas.{over_is}
+use Rattle.ra_worker.specs.Turns.{StandIn, turn_in, TakesTurn}
 
 -- an answer takes no entry away
 longer_by : (newer : Option Newer) (h : List Entry) (e : Entry) → length h ≤ length (committed_by newer h e).journal
@@ -104,20 +102,20 @@ places_set h g rs w q s place =
     map-set (λ (x : Replica). x.place) rs w s ∙ ap (λ (k : ℕ). set (map (λ (x : Replica). x.place) rs) w k) place
 
 -- a journal is over what it is over, and over what another is that is over the same
-pub over_itself : (j : Journal) → IsOverSame j j
-over_itself j = record { instance = refl; topology = refl; initial = refl; lots = refl }
+pub over_by : (j k : History) (h : List Entry) → k ≡ record j { entries = h } → IsOverSame j k
+over_by j k h is = is ∙ ap (λ (g : List Entry). let x : History = record j { entries = g } in x)
+    (sym (ap (λ (x : History). x.entries) is))
 
-pub over_then : (j k g : Journal) → IsOverSame j k → IsOverSame k g → IsOverSame j g
-over_then j k g first second = record {
-  instance = second.instance ∙ first.instance;
-  topology = second.topology ∙ first.topology;
-  initial = second.initial ∙ first.initial;
-  lots = second.lots ∙ first.lots;
-}
+pub over_itself : (j : History) → IsOverSame j j
+over_itself j = refl
+
+pub over_then : (j k g : History) → IsOverSame j k → IsOverSame k g → IsOverSame j g
+over_then j k g first second =
+    second ∙ ap (λ (x : History). let y : History = record x { entries = g.entries } in y) first
 
 -- the replicas stay at states of a journal with which a worker has taken its turn
-pub stand_later : (j k : Journal) (w q : ℕ) (said : CoreReply) (rs : List Replica) → StandIn j rs →
+pub stand_later : (j k : History) (w q : ℕ) (said : CoreReply) (rs : List Replica) → StandIn j rs →
     TakesTurn j k w q said → StandIn k rs
 stand_later j k w q said rs at turned =
-    subst (λ (o : Opening). AreAt o k.book.entries.items rs) (sym (over_is j k turned.over))
-    (all_later (opening_in j) j.book.entries.items k.book.entries.items w q rs at turned.journal)
+    subst (λ (x : History). StandIn x rs) (sym turned.journal)
+    (all_later (opening_in j) j.entries (turn_in j w q).journal w q rs at refl)

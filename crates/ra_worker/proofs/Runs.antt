@@ -3,7 +3,7 @@ use Rattle.std.proofs.Common.{◌≡◌, ℕ, ◌+◌, ◌*◌, ◌<◌, ◌≤�
 use Rattle.std.proofs.lemmas.List.{append_assoc, length-map, map-append, get_or-map}
 use Rattle.ra_draws.specs.declared.budgets.Lots.{Lots}
 use Rattle.ra_journal.specs.declared.entries.Entry.{Entry}
-use Rattle.ra_journal.specs.declared.journal.Journal.{Journal}
+use Rattle.ra_journal.specs.Journals.{History, IsJournal}
 use Rattle.ra_journal.specs.Entries.{entries_of, worker_count, budget}
 use Rattle.ra_journal.specs.Legal.{Whole}
 use Rattle.ra_journal.specs.Openings.{Opening}
@@ -101,18 +101,18 @@ module _ (s : Shared) where
       own_count h (notes_made_by w.pass) n
       (subst (λ (v : ℕ). by (λ (e : Entry). e.worker) v h ≡ notes_made_by w.pass) is.number part.1) ∙ is.made
 
-  pub all_whole : (ws : List Worker) (j : Journal) → HaveRun s ws → opening_of_journal j ≡ start_of s →
-      All (IsPartOf j.book.entries.items) (map (λ (w : Worker). w.pass) ws) → Whole j.lots.now j.book.entries.items
-  all_whole ws j run opened parts =
-      let h = j.book.entries.items in
-      let lots : j.lots.now ≡ (start_of s).lots = ap (λ (o : Opened). o.lots) opened in
+  pub all_whole : (ws : List Worker) (j : History) → IsJournal j → HaveRun s ws → opening_of_journal j ≡ start_of s →
+      All (IsPartOf j.entries) (map (λ (w : Worker). w.pass) ws) → Whole j.lots j.entries
+  all_whole ws j sound run opened parts =
+      let h = j.entries in
+      let lots : j.lots ≡ (start_of s).lots = ap (λ (o : Opened). o.lots) opened in
       record {
         each = λ n exists.
             let there : n < length ws = omega (arith, exists, run.one_each, ap worker_count lots) in
             let x = some_of ws n there in
             let part = has_each (λ (w : Worker). w.pass) (λ k. IsPartOf h) ws parts n x there in
             made_all (get_or ws n x) n h (run.each n x there) part ∙ ap (λ (l : Lots). budget l n) (sym lots);
-        no_other = λ k within. (j.kept.legal.each k within).numbered.worker;
+        no_other = λ k within. (sound.legal.each k within).numbered.worker;
       }
 
   pub ready_as : (o : Opening) (w : Worker) (n : ℕ) → opening_by (start_of s) ≡ o → HasNotBegun o w →

@@ -4,7 +4,7 @@ use Rattle.ra_model.specs.Costs.{parts_of}
 use Rattle.ra_journal.specs.Best.{best_of}
 use Rattle.ra_journal.specs.Legal.{Legal, Whole}
 use Rattle.ra_journal.specs.States.{state}
-use Rattle.ra_journal.specs.Journals.{entries_in, opening_in}
+use Rattle.ra_journal.specs.Journals.{opening_in}
 use Rattle.ra_journal.specs.Openings.{Opening}
 use Rattle.ra_worker.specs.declared.solved.Solved.{Solved}
 
@@ -12,9 +12,9 @@ use Rattle.ra_worker.specs.declared.solved.Solved.{Solved}
 -- parts are that state's
 pub record IsRun (o : Opening) (run : Solved) : Type 0 where
   pub opening : opening_in run.journal ≡ o
-  pub legal : Legal o (entries_in run.journal)
-  pub whole : Whole o.lots (entries_in run.journal)
+  pub legal : Legal o run.journal.entries
+  pub whole : Whole o.lots run.journal.entries
   pub best :
-      run.best.items ≡ state o.start (entries_in run.journal)
-      (best_of o (entries_in run.journal))
+      run.best.items ≡ state o.start run.journal.entries
+      (best_of o run.journal.entries)
   pub parts : run.parts ≡ parts_of o.tables o.start run.best.items

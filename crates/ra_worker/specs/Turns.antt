@@ -1,7 +1,6 @@
 -- The turns of workers with a journal, whose replicas are at its states.
 use Rattle.std.specs.Prelude.{◌≡◌, ℕ, List}
-use Rattle.ra_journal.specs.declared.journal.Journal.{Journal}
-use Rattle.ra_journal.specs.Journals.{entries_in, opening_in, IsOverSame}
+use Rattle.ra_journal.specs.Journals.{History, opening_in, IsJournal}
 use Rattle.ra_worker.specs.declared.replica.Replica.{Replica}
 use Rattle.ra_worker.specs.Replicas.{IsAt}
 use Rattle.ra_worker.specs.declared.events.CoreReply.{CoreReply}
@@ -9,22 +8,22 @@ use Rattle.ra_worker.specs.Core.{Core, Turn, turn}
 use Rattle.ra_worker.specs.AllReplicas.{AreAt, core_of}
 
 -- a replica is at a state of a journal, and so is each of the replicas of its workers, one for each in order
-abbrev pub StandsInJournal : Journal → Replica → Type 0
-StandsInJournal j r = IsAt (opening_in j) (entries_in j) r
+abbrev pub StandsInJournal : History → Replica → Type 0
+StandsInJournal j r = IsAt (opening_in j) j.entries r
 
-abbrev pub StandIn : Journal → List Replica → Type 0
-StandIn j rs = AreAt (opening_in j) (entries_in j) rs
+abbrev pub StandIn : History → List Replica → Type 0
+StandIn j rs = AreAt (opening_in j) j.entries rs
 
 -- the core that consists of a journal and the replicas' places
-abbrev pub core_in : Journal → List Replica → Core
-core_in j rs = core_of (entries_in j) rs
+abbrev pub core_in : History → List Replica → Core
+core_in j rs = core_of j.entries rs
 
 -- what a journal becomes and replies, if worker w takes its turn with a proposal that is planned at place q
-abbrev pub turn_in : Journal → ℕ → ℕ → Turn
-turn_in j w q = turn (opening_in j) (entries_in j) w q
+abbrev pub turn_in : History → ℕ → ℕ → Turn
+turn_in j w q = turn (opening_in j) j.entries w q
 
--- worker w has taken its turn with a journal
-pub record TakesTurn (old new : Journal) (w q : ℕ) (said : CoreReply) : Type 0 where
-  pub journal : entries_in new ≡ (turn_in old w q).journal
+-- worker w has taken its turn with a journal: at most its entries changed, and it stays legal
+pub record TakesTurn (old new : History) (w q : ℕ) (said : CoreReply) : Type 0 where
+  pub journal : new ≡ record old { entries = (turn_in old w q).journal }
   pub reply : said ≡ (turn_in old w q).reply
-  pub over : IsOverSame old new
+  pub sound : IsJournal old → IsJournal new

@@ -1,6 +1,6 @@
 ghost use Rattle.std.specs.Prelude.{◌≡◌, ◌<◌, ◌≤◌, [], length, map, vec_capacity, All, IfOk};
 ghost use Rattle.ra_journal.specs.Entries.{worker_count};
-ghost use Rattle.ra_journal.specs.Journals.{lots_in, entries_in};
+ghost use Rattle.ra_journal.specs.Journals.{IsJournal};
 ghost use Rattle.ra_journal.specs.Legal.{Whole};
 ghost use Rattle.ra_journal.specs.Openings.{opening};
 ghost use Rattle.ra_topology.specs.Starts.{IsFeasibleStart};
@@ -63,7 +63,8 @@ impl<'a> Crew<'a> {
     /// worker passes the gate between making a plan and committing it. It may wait for others.
     pub fn run<R: Threads + Wait + Sync, G: Gate>(self, rt: &R, gate: &G) -> Journal<'a>
         ensures opened { opening_of_journal result ≡ start_of self.entry.shared }
-        ensures whole { Whole (lots_in result) (entries_in result) }
+        ensures whole { Whole result.lots result.entries }
+        ensures sound { IsJournal result }
     {
         let Crew {
             shared,

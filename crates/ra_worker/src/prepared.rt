@@ -4,7 +4,7 @@ ghost use Rattle.ra_topology.specs.Starts.{IsFeasibleStart};
 ghost use Rattle.ra_journal.specs.Best.{best_of};
 ghost use Rattle.ra_journal.specs.Openings.{opening};
 ghost use Rattle.ra_journal.specs.States.{state};
-ghost use Rattle.ra_journal.specs.Journals.{entries_in, initial_in, opening_in, start_in, tables_in};
+ghost use Rattle.ra_journal.specs.Journals.{opening_in};
 ghost use Rattle.ra_check.specs.Made.{IsMadeFor};
 ghost use Rattle.ra_worker.specs.Ready.{IsFor};
 ghost use Rattle.ra_worker.specs.Runs.{IsRun};
@@ -100,15 +100,15 @@ fn bring_to_best(
     best: &mut Assignment,
     scratch: &mut Scratch,
 ) -> Parts
-    requires initial { a0.now ≡ initial_in journal.now }
-    requires at_start { best.old.items ≡ start_in journal.now }
-    requires made { IsMadeFor scratch.old (tables_in journal.now) }
+    requires initial { a0.now ≡ journal.now.initial }
+    requires at_start { best.old.items ≡ journal.now.initial.items }
+    requires made { IsMadeFor scratch.old journal.now.instance.tables }
     ensures best { best.new.items ≡
-        state (start_in journal.now) (entries_in journal.now)
-        (best_of (opening_in journal.now) (entries_in journal.now)) }
+        state journal.now.initial.items journal.now.entries
+        (best_of (opening_in journal.now) journal.now.entries) }
     ensures parts { result ≡
-        parts_of (tables_in journal.now) (start_in journal.now) best.new.items }
-    ensures made { IsMadeFor scratch.new (tables_in journal.now) }
+        parts_of journal.now.instance.tables journal.now.initial.items best.new.items }
+    ensures made { IsMadeFor scratch.new journal.now.instance.tables }
 {
     restore(journal, journal.best_at(), best);
     parts(journal.instance(), a0, best, scratch)

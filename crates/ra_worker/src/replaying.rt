@@ -1,6 +1,6 @@
 ghost use Rattle.std.specs.Prelude.{◌≡◌, ◌+◌, ◌<◌, ◌≤◌, length};
 ghost use Rattle.ra_model.specs.Situations.{situation};
-ghost use Rattle.ra_journal.specs.Journals.{tables_in, start_in, opening_in, entries_in};
+ghost use Rattle.ra_journal.specs.Journals.{opening_in};
 ghost use Rattle.ra_journal.specs.States.{state, state_at};
 
 use crate::following::follow;
@@ -17,10 +17,10 @@ pub fn replay<'a, L: Ledger>(
     steps: &mut Steps<L>,
 )
     requires at_start { world.old ≡
-        situation (tables_in journal.now) (start_in journal.now) (start_in journal.now) }
-    requires within { upto ≤ length (entries_in journal.now) }
+        situation journal.now.instance.tables journal.now.initial.items journal.now.initial.items }
+    requires within { upto ≤ length journal.now.entries }
     ensures { world.new ≡ record world.old {
-      here = state (start_in journal.now) (entries_in journal.now) upto;
+      here = state journal.now.initial.items journal.now.entries upto;
     } }
 {
     for at in 0..upto {
@@ -35,10 +35,10 @@ fn replay_entry<L: Ledger>(
     world: &mut World<'_>,
     steps: &mut Steps<L>,
 )
-    requires here { world.old ≡ state_at (opening_in journal.now) (entries_in journal.now) at }
-    requires within { at < length (entries_in journal.now) }
+    requires here { world.old ≡ state_at (opening_in journal.now) journal.now.entries at }
+    requires within { at < length journal.now.entries }
     ensures { world.new ≡ record world.old {
-      here = state (start_in journal.now) (entries_in journal.now) (at + 1);
+      here = state journal.now.initial.items journal.now.entries (at + 1);
     } }
 {
     let entry = journal.entry(at);

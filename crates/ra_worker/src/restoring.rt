@@ -1,5 +1,4 @@
 ghost use Rattle.std.specs.Prelude.{◌≡◌, ◌+◌, ◌<◌, ◌≤◌, length};
-ghost use Rattle.ra_journal.specs.Journals.{start_in, entries_in};
 ghost use Rattle.ra_journal.specs.States.{state};
 
 use ra_base::Assignment;
@@ -9,10 +8,10 @@ use ra_moves::{Verdict, apply};
 /// Brings an assignment from the initial one of a journal to the state at a place of the journal. It does what `replay`
 /// does, without a world.
 pub fn restore(journal: &Journal<'_>, upto: u64, best: &mut Assignment)
-    requires at_start { best.old.items ≡ start_in journal.now }
-    requires within { upto ≤ length (entries_in journal.now) }
+    requires at_start { best.old.items ≡ journal.now.initial.items }
+    requires within { upto ≤ length journal.now.entries }
     ensures items { best.new.items ≡
-        state (start_in journal.now) (entries_in journal.now) upto }
+        state journal.now.initial.items journal.now.entries upto }
     ensures room { best.new.room ≡ best.old.room }
 {
     for at in 0..upto {
@@ -23,10 +22,10 @@ pub fn restore(journal: &Journal<'_>, upto: u64, best: &mut Assignment)
 /// Brings the state at a place to the next place.
 fn restore_entry(journal: &Journal<'_>, at: u64, best: &mut Assignment)
     requires here { best.old.items ≡
-        state (start_in journal.now) (entries_in journal.now) at }
-    requires within { at < length (entries_in journal.now) }
+        state journal.now.initial.items journal.now.entries at }
+    requires within { at < length journal.now.entries }
     ensures items { best.new.items ≡
-        state (start_in journal.now) (entries_in journal.now) (at + 1) }
+        state journal.now.initial.items journal.now.entries (at + 1) }
     ensures room { best.new.room ≡ best.old.room }
 {
     let entry = journal.entry(at);

@@ -1,6 +1,5 @@
 ghost use Rattle.std.specs.Prelude.{◌≡◌};
 ghost use Rattle.ra_model.specs.Costs.{parts_of};
-ghost use Rattle.ra_journal.specs.Journals.{start_in, tables_in};
 
 use ra_base::{Assignment, Parts};
 use ra_journal::Journal;
@@ -11,7 +10,7 @@ pub struct Solved<'a> {
     pub(crate) journal: Journal<'a>,
     pub(crate) best: Assignment,
     pub(crate) parts: Parts,
-    pub ghost told: { parts ≡ parts_of (tables_in journal) (start_in journal) best.items },
+    pub ghost told: { parts ≡ parts_of journal.instance.tables journal.initial.items best.items },
 }
 
 impl<'a> Solved<'a> {
@@ -31,7 +30,7 @@ impl<'a> Solved<'a> {
 
     /// The parts of its cost.
     pub fn parts(&self) -> Parts
-        ensures { result ≡ parts_of (tables_in self.now.journal) (start_in self.now.journal)
+        ensures { result ≡ parts_of self.now.journal.instance.tables self.now.journal.initial.items
             self.now.best.items }
     {
         self.parts

@@ -1,6 +1,5 @@
 ghost use Rattle.std.specs.Prelude.{◌≡◌, ◌+◌, ◌-◌, ◌<◌, ◌≤◌, min, false, length, slice_set};
 ghost use Rattle.ra_journal.specs.Entries.{worker_count};
-ghost use Rattle.ra_journal.specs.Journals.{lots_in, entries_in};
 ghost use Rattle.ra_worker.specs.Skipping.{is_skipped};
 ghost use Rattle.ra_worker.specs.Replicas.{worker_at, place_at};
 ghost use Rattle.ra_worker.specs.Core.{core_place_of};
@@ -22,9 +21,9 @@ pub fn take_turn_at<'a>(
     q: u64,
 ) -> CoreReply
     requires at { StandIn journal.old replicas.old.items }
-    requires exists { worker < worker_count (lots_in journal.old) }
+    requires exists { worker < worker_count journal.old.lots }
     requires ahead { core_place_of (core_in journal.old replicas.old.items) worker ≤ q }
-    requires within { q ≤ length (entries_in journal.old) }
+    requires within { q ≤ length journal.old.entries }
     ensures turn { TakesTurn journal.old journal.new worker q result }
     ensures places { (core_in journal.new replicas.new.items).places ≡
         slice_set (core_in journal.old replicas.old.items).places worker q }
@@ -47,7 +46,7 @@ fn follow_to<'a, L: Ledger>(
     requires some { 0 < blank.parts }
     requires at { StandsInJournal journal.now replica.old }
     requires ahead { place_at replica.old ≤ place }
-    requires within { place ≤ length (entries_in journal.now) }
+    requires within { place ≤ length journal.now.entries }
     ensures place { place_at replica.new ≡ place }
     ensures worker { worker_at replica.new ≡ worker_at replica.old }
     ensures at { StandsInJournal journal.now replica.new }
@@ -70,7 +69,7 @@ pub fn catch_up<'a, L: Ledger>(
     requires parts { blank.parts ≡ L.parts }
     requires some { 0 < blank.parts }
     requires at { StandsInJournal journal.now replica.old }
-    ensures count { result ≡ min 1024 (length (entries_in journal.now) - place_at replica.old) }
+    ensures count { result ≡ min 1024 (length journal.now.entries - place_at replica.old) }
     ensures place { place_at replica.new ≡ place_at replica.old + result }
     ensures worker { worker_at replica.new ≡ worker_at replica.old }
     ensures at { StandsInJournal journal.now replica.new }
@@ -106,7 +105,7 @@ pub fn hand_in<'a, L: Ledger>(
 /// Whether a worker has used its budget or has not taken in all of its own entries.
 fn skipped(journal: &Journal<'_>, replica: &Replica<'_>) -> bool
     requires at { StandsInJournal journal.now replica.now }
-    ensures { result ≡ is_skipped (lots_in journal.now) (entries_in journal.now)
+    ensures { result ≡ is_skipped journal.now.lots journal.now.entries
         (worker_at replica.now) (place_at replica.now) }
 {
     let made = journal.made_by(replica.worker());
@@ -125,7 +124,7 @@ fn commit_next<'a, L: Ledger>(
     requires parts { blank.parts ≡ L.parts }
     requires some { 0 < blank.parts }
     requires at { StandsInJournal journal.old replica.now }
-    requires not_skipped { is_skipped (lots_in journal.old) (entries_in journal.old)
+    requires not_skipped { is_skipped journal.old.lots journal.old.entries
         (worker_at replica.now) (place_at replica.now) ≡ false }
     ensures { TakesTurn journal.old journal.new (worker_at replica.now) (place_at replica.now)
         result }

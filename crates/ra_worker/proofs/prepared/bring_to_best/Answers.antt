@@ -11,20 +11,20 @@ restore-requires-clause-within c =
     let journal = c.args.journal.now in
     omega (
       arith,
-      c.best_at.ensures,
-      within_journal (opening_in journal) journal.book.entries.items,
+      c.best_at.ensures.value,
+      within_journal (opening_in journal) journal.entries,
     )
 
 pub parts-requires-clause-fits : goal.parts-requires-clause-fits
 parts-requires-clause-fits c =
     let journal = c.args.journal.now in
-    let within : c.best_at.result ≤ length journal.book.entries.items =
+    let within : c.best_at.result ≤ length journal.entries =
     omega (
       arith,
-      c.best_at.ensures,
-      within_journal (opening_in journal) journal.book.entries.items,
+      c.best_at.ensures.value,
+      within_journal (opening_in journal) journal.entries,
     ) in
-    let sound = sound_at (opening_in journal) journal.book.entries.items
-    c.best_at.result journal.start journal.kept.legal within in
-    subst (λ (i : Instance). IsAssignment i.tables c.restore.new.best.items) (sym c.instance.ensures)
-    (subst (IsAssignment journal.inst.now.tables) (sym c.restore.ensures.items) sound.assignment)
+    let sound = sound_at (opening_in journal) journal.entries
+    c.best_at.result c.best_at.ensures.sound.start c.best_at.ensures.sound.legal within in
+    subst (λ (i : Instance). IsAssignment i.tables c.restore.new.best.items) (sym c.instance.ensures.value)
+    (subst (IsAssignment journal.instance.tables) (sym c.restore.ensures.items) sound.assignment)

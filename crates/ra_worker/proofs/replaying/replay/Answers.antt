@@ -13,11 +13,11 @@ pub replay_entry-requires-clause-here : goal.replay_entry-requires-clause-here
 replay_entry-requires-clause-here g c =
     let journal = c.args.journal.now in
     c.loop-at.invariant ∙ ap (λ (st : Situation). let su : Situation =
-    record st { here = state journal.a0.now.items journal.book.entries.items c.loop-at.at } in su) c.requires.at_start
+    record st { here = state journal.initial.items journal.entries c.loop-at.at } in su) c.requires.at_start
 
 pub loop-at-preserved : goal.loop-at-preserved
 loop-at-preserved g c =
     let journal = c.args.journal.now in
     c.replay_entry.ensures ∙ ap (λ (st : Situation). let su : Situation = record st {
-      here = state journal.a0.now.items journal.book.entries.items (c.loop-at.at + 1);
+      here = state journal.initial.items journal.entries (c.loop-at.at + 1);
     } in su) c.loop-at.invariant

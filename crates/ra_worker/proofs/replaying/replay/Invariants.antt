@@ -5,4 +5,4 @@ use Rattle.ra_worker.proofs.replaying.replay.Given as goal
 
 abbrev pub invariant-loop-at : goal.invariant-loop-at
 invariant-loop-at g l =
-    l.world ≡ (record l.fn.world { here = state l.journal.a0.now.items l.journal.book.entries.items l.at })
+    l.world ≡ (record l.fn.world { here = state l.journal.initial.items l.journal.entries l.at })

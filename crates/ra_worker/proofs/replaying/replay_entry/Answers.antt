@@ -9,13 +9,13 @@ pub follow-requires : goal.follow-requires
 follow-requires g c =
     let journal = c.args.journal.now in
     record {
-      judged = rw c.requires.here (entry_judged (opening_in journal) journal.book.entries.items c.args.at
-          c.entry-entry.result journal.start.limits journal.start.fits
-          journal.kept.legal c.requires.within c.entry-entry.ensures);
+      judged = rw c.requires.here (entry_judged (opening_in journal) journal.entries c.args.at
+          c.entry-entry.result c.entry-entry.ensures.sound.start.limits c.entry-entry.ensures.sound.start.fits
+          c.entry-entry.ensures.sound.legal c.requires.within c.entry-entry.ensures.value);
     }
 
 pub returns : goal.returns
 returns g c = c.follow.ensures.world
     ∙ ap (λ (b : List Machine). let st : Situation = record c.args.world.now { here = b } in st)
     (next_stated _ _ _ _ c.args.at c.entry-entry.result (ap (λ (st : Situation). st.here) c.requires.here)
-    c.entry-entry.ensures refl)
+    c.entry-entry.ensures.value refl)

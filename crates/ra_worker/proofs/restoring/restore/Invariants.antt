@@ -5,6 +5,6 @@ use Rattle.ra_worker.proofs.restoring.restore.Given as goal
 
 abbrev pub invariant-loop-at : goal.invariant-loop-at
 invariant-loop-at l = record {
-  here : l.best.items ≡ state l.journal.a0.now.items l.journal.book.entries.items l.at;
+  here : l.best.items ≡ state l.journal.initial.items l.journal.entries l.at;
   room : l.best.room ≡ l.fn.best.room;
 }

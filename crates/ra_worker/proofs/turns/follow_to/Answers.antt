@@ -8,24 +8,27 @@ use Rattle.ra_worker.proofs.turns.follow_to.Goals as goal
 pub take_entry-requires-clause-judged : goal.take_entry-requires-clause-judged
 take_entry-requires-clause-judged g c =
     let j = c.args.journal.now in
+    let sound = c.entry-entry.ensures.sound in
     let r = c.loop-at.replica in
-    here_judged (opening_in j) j.book.entries.items r c.entry-entry.result j.start.limits
-    j.start.fits j.kept.legal c.loop-at.invariant.here
+    here_judged (opening_in j) j.entries r c.entry-entry.result sound.start.limits
+    sound.start.fits sound.legal c.loop-at.invariant.here
     (omega (arith, c.loop-at-test.true, c.requires.within, c.loop-at.invariant.place))
-    (c.entry-entry.ensures ∙ ap (entry_at j.book.entries.items) (sym c.loop-at.invariant.place))
+    (c.entry-entry.ensures.value ∙ ap (entry_at j.entries) (sym c.loop-at.invariant.place))
 
 pub take_entry-requires-clause-left : goal.take_entry-requires-clause-left
 take_entry-requires-clause-left g c =
     let j = c.args.journal.now in
+    let sound = c.entry-entry.ensures.sound in
     let r = c.loop-at.replica in
-    here_left (opening_in j) j.book.entries.items r c.entry-entry.result j.kept.legal
+    here_left (opening_in j) j.entries r c.entry-entry.result sound.legal
     c.loop-at.invariant.here (omega (arith, c.loop-at-test.true, c.requires.within, c.loop-at.invariant.place))
-    (c.entry-entry.ensures ∙ ap (entry_at j.book.entries.items) (sym c.loop-at.invariant.place))
+    (c.entry-entry.ensures.value ∙ ap (entry_at j.entries) (sym c.loop-at.invariant.place))
 
 pub take_entry-requires-clause-few : goal.take_entry-requires-clause-few
 take_entry-requires-clause-few g c =
     let j = c.args.journal.now in
-    here_few (opening_in j) j.book.entries.items c.loop-at.replica j.kept.legal
+    let sound = c.entry-entry.ensures.sound in
+    here_few (opening_in j) j.entries c.loop-at.replica sound.legal
     (omega (arith, c.loop-at-test.true, c.requires.within, c.loop-at.invariant.place))
 
 pub loop-at-preserved : goal.loop-at-preserved
@@ -36,9 +39,9 @@ loop-at-preserved g c =
     record {
       place = followed.place ∙ ap (λ (n : ℕ). n + 1) c.loop-at.invariant.place;
       worker = followed.worker ∙ c.loop-at.invariant.worker;
-      here = at_next (opening_in j) j.book.entries.items r c.take_entry.new.self
+      here = at_next (opening_in j) j.entries r c.take_entry.new.self
           c.entry-entry.result c.loop-at.invariant.here
           (omega (arith, c.loop-at-test.true, c.requires.within, c.loop-at.invariant.place))
-          (c.entry-entry.ensures ∙ ap (entry_at j.book.entries.items) (sym c.loop-at.invariant.place))
+          (c.entry-entry.ensures.value ∙ ap (entry_at j.entries) (sym c.loop-at.invariant.place))
           followed;
     }

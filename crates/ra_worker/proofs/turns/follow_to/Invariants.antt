@@ -8,6 +8,6 @@ abbrev pub invariant-loop-at : goal.invariant-loop-at
 invariant-loop-at g l = record {
   place : l.replica.place ≡ l.at;
   worker : l.replica.proposals.worker ≡ l.fn.replica.proposals.worker;
-  here : IsAt (opening_in l.journal) l.journal.book.entries.items
+  here : IsAt (opening_in l.journal) l.journal.entries
       l.replica;
 }

@@ -21,7 +21,7 @@ follow_to-requires-clause-ahead c =
     let r = c.index_mut-replica.result.now in
     omega (
       arith,
-      place_there j.book.entries.items c.args.replicas.now.items c.args.worker r there
+      place_there j.entries c.args.replicas.now.items c.args.worker r there
           (sym c.index_mut-replica.ensures.value),
       c.requires.ahead,
     )
@@ -40,7 +40,7 @@ returns-clause-turn c =
     (subst (λ q. TakesTurn j g s.proposals.worker q c.hand_in.result) c.follow_to.ensures.place c.hand_in.ensures)
 
 pub returns-clause-places : goal.returns-clause-places
-returns-clause-places c = places_set c.args.journal.now.book.entries.items c.hand_in.new.journal.book.entries.items
+returns-clause-places c = places_set c.args.journal.now.entries c.hand_in.new.journal.entries
     c.args.replicas.now.items c.args.worker c.args.q c.follow_to.new.replica c.follow_to.ensures.place
 
 pub returns-clause-at : goal.returns-clause-at
@@ -49,7 +49,7 @@ returns-clause-at c =
     let s = c.follow_to.new.replica in
     let there : c.args.worker < length c.args.replicas.now.items =
     omega (arith, c.requires.exists, c.requires.at.one_each) in
-    let before = all_set (opening_in j) j.book.entries.items c.args.worker
+    let before = all_set (opening_in j) j.entries c.args.worker
     c.args.replicas.now.items s c.requires.at there (record {
       worker = c.follow_to.ensures.worker
           ∙ (c.requires.at.each c.args.worker c.index_mut-replica.result.now there

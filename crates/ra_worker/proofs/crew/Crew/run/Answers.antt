@@ -16,5 +16,6 @@ close-requires-clause-passes g c =
     rw c.take_passes-passes.ensures (all_last c.args.self.shared c.run_all.new.workers.items c.run_all.ensures)
 
 pub returns-clause-whole : goal.returns-clause-whole
-returns-clause-whole g c = all_whole c.args.self.shared c.run_all.new.workers.items c.close.result c.run_all.ensures
+returns-clause-whole g c = all_whole c.args.self.shared c.run_all.new.workers.items c.close.result
+    c.close.ensures.sound c.run_all.ensures
     c.close.ensures.opened (rw c.take_passes-passes.ensures at c.close.ensures.passes)
