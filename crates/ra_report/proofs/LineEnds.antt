@@ -15,10 +15,9 @@ use Rattle.ra_moves.specs.declared.steps.Step.{Step}
 use Rattle.ra_moves.specs.declared.verdicts.Verdict.{Verdict}
 use Rattle.ra_moves.specs.declared.verdicts.Verdict.TheVariants.{Done, Refused}
 use Rattle.ra_journal.specs.declared.entries.Entry.{Entry}
-use Rattle.ra_journal.specs.declared.journal.Journal.{Journal}
 use Rattle.ra_journal.specs.Entries.{entry_at}
 use Rattle.ra_journal.specs.Openings.{Opening}
-use Rattle.ra_journal.specs.Journals.{opening_in}
+use Rattle.ra_journal.specs.Journals.{History, opening_in}
 use Rattle.ra_token.specs.Lines.{lines_of, line_at, ends_line, body_of, HasNoEnd, FirstUnlike}
 use Rattle.ra_token.proofs.BodyLaws.{no_end_none, no_end_first, no_end_cons, no_end_both, ends_behind}
 use Rattle.ra_token.proofs.SplitLaws.{line_first, lines_append}
@@ -213,9 +212,9 @@ pub head_line_count : (o : Opening) (h : List Entry) → length (lines_of (repor
 unfolding report_head head_lines
 head_line_count o h = grind (arith, head_alone)
 
-pub head_line_count_of : (j : Journal) → length (lines_of (head_of j)) ≡ 10
+pub head_line_count_of : (j : History) → length (lines_of (head_of j)) ≡ 10
 unfolding head_of
-head_line_count_of j = head_line_count (opening_in j) j.book.entries.items
+head_line_count_of j = head_line_count (opening_in j) j.entries
 
 pub head_before : (o : Opening) (h : List Entry) (x : List ℕ) →
     lines_of (report_head o h ++ x) ≡ lines_of (report_head o h) ++ lines_of x

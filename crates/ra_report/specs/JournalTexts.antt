@@ -16,11 +16,10 @@ use Rattle.ra_moves.specs.declared.steps.Step.{Step}
 use Rattle.ra_moves.specs.declared.verdicts.Verdict.{Verdict}
 use Rattle.ra_moves.specs.declared.verdicts.Verdict.TheVariants.{Done, Refused}
 use Rattle.ra_journal.specs.declared.entries.Entry.{Entry}
-use Rattle.ra_journal.specs.declared.journal.Journal.{Journal}
 use Rattle.ra_journal.specs.Entries.{entry_at}
 use Rattle.ra_journal.specs.States.{state, state_at}
 use Rattle.ra_journal.specs.Best.{best_of}
-use Rattle.ra_journal.specs.Journals.{entries_in, start_in, tables_in, opening_in}
+use Rattle.ra_journal.specs.Journals.{History, opening_in}
 use Rattle.ra_journal.specs.Openings.{Opening}
 use Rattle.ra_report.specs.Texts.{space, line_end, number_text, number_line, parts_text, with_one, cause_text}
 pub use Rattle.ra_report.specs.Texts.{machine_word}
@@ -109,22 +108,22 @@ report_head o h =
     head_text (parts_at best) (pinned_bound_of o.tables o.start).total j best.here (drawing_in o.lots)
 
 -- the best state of a journal, its report, and the ten lines before the entries
-unfoldable pub best_state : Journal → List Machine
+unfoldable pub best_state : History → List Machine
 best_state j =
-    state (start_in j) (entries_in j) (best_of (opening_in j) (entries_in j))
+    state j.initial.items j.entries (best_of (opening_in j) j.entries)
 
 -- the parts of an assignment's cost, and the bound of the start with the load of the pinned processes
-abbrev pub parts_in : Journal → List Machine → Parts
-parts_in j a = parts_of (tables_in j) (start_in j) a
+abbrev pub parts_in : History → List Machine → Parts
+parts_in j a = parts_of j.instance.tables j.initial.items a
 
-abbrev pub bound_in : Journal → Bound
-bound_in j = pinned_bound_of (tables_in j) (start_in j)
+abbrev pub bound_in : History → Bound
+bound_in j = pinned_bound_of j.instance.tables j.initial.items
 
-unfoldable pub text_of : Journal → List ℕ
-text_of j = report_text (opening_in j) (entries_in j)
+unfoldable pub text_of : History → List ℕ
+text_of j = report_text (opening_in j) j.entries
 
-unfoldable pub head_of : Journal → List ℕ
-head_of j = report_head (opening_in j) (entries_in j)
+unfoldable pub head_of : History → List ℕ
+head_of j = report_head (opening_in j) j.entries
 
 -- the line for a report that was found right: the number of its entries
 abbrev pub accepted_line : ℕ → List ℕ

@@ -5,9 +5,8 @@ use Rattle.ra_bounds.specs.PinnedBounds.{pinned_bound_of}
 use Rattle.ra_moves.specs.declared.verdicts.Verdict.{Verdict}
 use Rattle.ra_moves.specs.declared.verdicts.Verdict.TheVariants.{Done, Refused}
 use Rattle.ra_journal.specs.declared.entries.Entry.{Entry}
-use Rattle.ra_journal.specs.declared.journal.Journal.{Journal}
 use Rattle.ra_journal.specs.Best.{best_of}
-use Rattle.ra_journal.specs.Journals.{entries_in, opening_in}
+use Rattle.ra_journal.specs.Journals.{History, opening_in}
 use Rattle.ra_journal.specs.Openings.{Opening}
 use Rattle.ra_journal.specs.States.{state_at}
 use Rattle.ra_model.specs.Situations.{parts_at}
@@ -39,5 +38,5 @@ summary_text o h =
     let j = best_of o h in
     summary_lines (parts_at (state_at o h j)) (pinned_bound_of o.tables o.start).total j h
 
-unfoldable pub summary_of : Journal → List ℕ
-summary_of j = summary_text (opening_in j) (entries_in j)
+unfoldable pub summary_of : History → List ℕ
+summary_of j = summary_text (opening_in j) j.entries
