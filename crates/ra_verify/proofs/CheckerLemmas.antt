@@ -1,21 +1,18 @@
 -- A checker that takes entries in.
 use Rattle.std.proofs.Common.{◌≡◌, ℕ, ◌+◌, ◌-◌, ◌<◌, ◌≤◌, true, List, [], ◌∷◌, ◌++◌, length, set, get_or, refl, sym, ap, ap₂, ◌∙◌, subst, arith}
 use Rattle.std.proofs.lemmas.List.{length_push, length-map, get_or-map, get_or_default}
-use Rattle.ra_base.specs.Listed.{Listed}
-use Rattle.ra_base.specs.declared.ids.Machine.{Machine}
 use Rattle.ra_draws.specs.declared.budgets.Lots.{Lots}
-use Rattle.ra_model.specs.declared.numbers.Instance.{Instance}
 use Rattle.ra_journal.specs.declared.entries.Entry.{Entry}
 use Rattle.ra_journal.specs.Committing.{next_entry}
 use Rattle.ra_journal.specs.Entries.{entry_at, worker_count, proposal_count}
 use Rattle.ra_journal.specs.Legal.{Legal}
 use Rattle.ra_journal.specs.Openings.{Opening}
-use Rattle.ra_journal.specs.Journals.{opening_in}
+use Rattle.ra_journal.specs.Journals.{History, opening_in}
 use Rattle.ra_journal.proofs.RoomLemmas.{AreNumbered, entries_few}
 use Rattle.ra_journal.proofs.Places.{entry_added}
 use Rattle.ra_report.specs.JournalTexts.{entry_line}
 use Rattle.ra_worker.specs.declared.replica.Replica.{Replica}
-use Rattle.ra_worker.proofs.OpeningLemmas.{same_parts}
+use Rattle.ra_worker.proofs.OpeningLemmas.{over_is}
 use Rattle.ra_worker.specs.declared.events.CoreReply.{CoreReply}
 use Rattle.ra_worker.specs.Core.{core_place_of, turn}
 use Rattle.ra_worker.specs.AllReplicas.{AreAt, core_of}
@@ -28,7 +25,7 @@ pub may_stand : (c : Checker) (e : Entry) (w q : ℕ) → IsOpen c → MayFollow
 may_stand c e w q ready legal own at =
     let j = c.journal in
     let next = last_legal (opening_in j) (checker_entries c) e legal in
-    let exists : w < worker_count j.lots.now = subst (λ k. k < worker_count j.lots.now) own next.numbered.worker in
+    let exists : w < worker_count j.lots = subst (λ k. k < worker_count j.lots) own next.numbered.worker in
     record {
       worker = exists;
       place = subst (λ k. k ≤ length (checker_entries c)) at next.placed.place;
@@ -48,9 +45,10 @@ unfolding core_of
 places_long h rs = length-map rs (λ (r : Replica). r.place)
 
 pub same_run : (c d : Checker) → IsSameRun c d → opening_in d.journal ≡ opening_in c.journal
-same_run c d same = same_parts d.journal.inst.now.tables c.journal.inst.now.tables d.journal.a0.now.items
-    c.journal.a0.now.items d.journal.lots.now c.journal.lots.now (ap (λ (x : Instance). x.tables) same.instance)
-    (ap (λ (x : Listed Machine). x.items) same.initial) same.lots
+same_run c d same = over_is c.journal d.journal same
+
+pub same_lots : (c d : Checker) → IsSameRun c d → d.journal.lots ≡ c.journal.lots
+same_lots c d same = ap (λ (j : History). j.lots) same
 
 pub taken : (c d : Checker) (w q : ℕ) (reply : CoreReply) → IsOpen c → MayStand c w q → IsSameRun c d →
     checker_entries d ≡
@@ -67,14 +65,14 @@ taken c d w q reply ready stands same journal reply_is was places =
     reply_is
     was in
     let legal : Legal (opening_in j) (checker_entries d) =
-    subst (λ (o : Opening). Legal o (checker_entries d)) (same_run c d same) d.journal.kept.legal in
+    subst (λ (o : Opening). Legal o (checker_entries d)) (same_run c d same) d.sound.legal in
     let there : w < length (checker_core c).places =
     omega (arith, places_long (checker_entries c) c.replicas.items, c.at.one_each, stands.worker) in
     record {
       entries = added;
       legal = subst (Legal (opening_in j)) added legal;
-      ready = subst (λ (l : Lots). NoneIsPast l (checker_entries d) (checker_core d)) (sym same.lots)
-          (none_past j.lots.now (checker_entries c) (checker_entries d) (checker_core c) (checker_core d) w q e ready
+      ready = subst (λ (l : Lots). NoneIsPast l (checker_entries d) (checker_core d)) (sym (same_lots c d same))
+          (none_past j.lots (checker_entries c) (checker_entries d) (checker_core c) (checker_core d) w q e ready
           added (next_own c w q)
           there stands.place places);
     }
@@ -123,19 +121,19 @@ open_start o m h rs at lots =
 
 -- an entry more leaves fewer proposals
 pub more_smaller : (c d : Checker) → HasTakenSomeEntry c d → IsSameRun c d →
-    proposal_count d.journal.lots.now - length (checker_entries d) < proposal_count c.journal.lots.now
+    proposal_count d.journal.lots - length (checker_entries d) < proposal_count c.journal.lots
     - length (checker_entries c)
 more_smaller c d more same =
     let j = d.journal in
     let long : length (checker_entries d) ≡ length (checker_entries c) + 1 =
     ap (λ (x : List Entry). length x) more.taken.entries
     ∙ omega (arith, length_push (checker_entries c) more.entry) in
-    let numbered : AreNumbered j.lots.now (checker_entries d) (length (checker_entries d)) = record {
-      each = λ k there. (j.kept.legal.each k there).numbered;
+    let numbered : AreNumbered j.lots (checker_entries d) (length (checker_entries d)) = record {
+      each = λ k there. (d.sound.legal.each k there).numbered;
     } in
     omega (
       arith,
       long,
-      entries_few j.lots.now (checker_entries d) (length (checker_entries d)) numbered,
-      ap proposal_count same.lots,
+      entries_few j.lots (checker_entries d) (length (checker_entries d)) numbered,
+      ap proposal_count (same_lots c d same),
     )

@@ -1,14 +1,13 @@
 -- What a report's head and its entry lines say of the wrong line.
-use Rattle.std.proofs.Common.{◌≡◌, ℕ, ◌+◌, ◌<◌, ◌≤◌, inl, inr, List, [], ◌++◌, length, drop, slice_get, Some, refl, sym, ap, ◌∙◌, subst, ⊎_elim, arith}
+use Rattle.std.proofs.Common.{◌≡◌, ℕ, ◌+◌, ◌<◌, ◌≤◌, inl, inr, List, [], ◌++◌, length, drop, slice_get, Some, sym, ap, ◌∙◌, subst, ⊎_elim, arith}
 use Rattle.std.proofs.lemmas.Bool.{cases_lt}
 use Rattle.std.proofs.lemmas.List.{append-nil}
 use Rattle.std.proofs.lemmas.Option.{slice_get_past}
 use Rattle.ra_token.specs.Lines.{lines_of, line_at, FirstUnlike}
 use Rattle.ra_journal.specs.declared.entries.Entry.{Entry}
-use Rattle.ra_journal.specs.declared.journal.Journal.{Journal}
 use Rattle.ra_journal.specs.Legal.{Whole}
 use Rattle.ra_journal.specs.Openings.{Opening}
-use Rattle.ra_journal.specs.Journals.{opening_in}
+use Rattle.ra_journal.specs.Journals.{History, opening_in}
 use Rattle.ra_report.specs.JournalTexts.{report_head, report_text, head_of}
 use Rattle.ra_report.proofs.LineEnds.{head_line_count}
 use Rattle.ra_verify.specs.Judging.{IsAccepted, IsUnfinished, HasUnlike, IsMisjudged}
@@ -36,26 +35,26 @@ head_at bytes head place n k is within =
     (cases_lt k n)
 
 -- the head of a journal's report
-pub head_is : (o : Opening) (j : Journal) → opening_in j ≡ o → head_of j ≡ report_head o j.book.entries.items
+pub head_is : (o : Opening) (j : History) → opening_in j ≡ o → head_of j ≡ report_head o j.entries
 unfolding head_of
-head_is o j same = ap (λ (p : Opening). report_head p j.book.entries.items) same
+head_is o j same = ap (λ (p : Opening). report_head p j.entries) same
 
-pub accepted : (o : Opening) (bytes head : List ℕ) (place lines n : ℕ) (j : Journal) →
+pub accepted : (o : Opening) (bytes head : List ℕ) (place lines n : ℕ) (j : History) →
     opening_in j ≡ o → IsHead bytes place lines head →
-    AreAllRight o bytes j.book.entries.items → IsAccepted j head n → NoneIsWrong o bytes
+    AreAllRight o bytes j.entries → IsAccepted j head n → NoneIsWrong o bytes
 accepted o bytes head place lines n j same is right judged = record {
   short = none_over bytes is.short;
-  journal = j.book.entries.items;
+  journal = j.entries;
   right = right;
-  whole = subst (λ (p : Opening). Whole p.lots j.book.entries.items) same judged.whole;
+  whole = subst (λ (p : Opening). Whole p.lots j.entries) same judged.whole;
   head = λ k within. head_at bytes head place lines k is within
       ∙ ap (line_at k) (judged.text ∙ head_is o j same)
-      ∙ sym (report_at o j.book.entries.items k within);
+      ∙ sym (report_at o j.entries k within);
 }
 
-pub reported : (o : Opening) (bytes head : List ℕ) (place lines n : ℕ) (j : Journal) →
+pub reported : (o : Opening) (bytes head : List ℕ) (place lines n : ℕ) (j : History) →
     opening_in j ≡ o → IsHead bytes place lines head →
-    AreAllRight o bytes j.book.entries.items → IsAccepted j head n → IsReport o bytes n
+    AreAllRight o bytes j.entries → IsAccepted j head n → IsReport o bytes n
 unfolding accepted
 reported o bytes head place lines n j same is right judged =
     is_report o bytes n (accepted o bytes head place lines n j same is right judged)
@@ -74,15 +73,15 @@ wrong_entry o bytes head place lines n h is next = inr (inl (record {
 }))
 
 -- what isn't whole
-cut_off : (o : Opening) (bytes head : List ℕ) (place lines n : ℕ) (j : Journal) →
-    opening_in j ≡ o → IsHead bytes place lines head → AreAllRight o bytes j.book.entries.items →
-    length (lines_of bytes) ≡ lines + length j.book.entries.items → IsUnfinished j lines n → IsCutOff o bytes n
+cut_off : (o : Opening) (bytes head : List ℕ) (place lines n : ℕ) (j : History) →
+    opening_in j ≡ o → IsHead bytes place lines head → AreAllRight o bytes j.entries →
+    length (lines_of bytes) ≡ lines + length j.entries → IsUnfinished j lines n → IsCutOff o bytes n
 cut_off o bytes head place lines n j same is right long unfinished = record {
   short = none_over bytes is.short;
-  journal = j.book.entries.items;
+  journal = j.entries;
   right = right;
   not_whole = λ whole. unfinished.not_whole
-      (subst (λ (p : Opening). Whole p.lots j.book.entries.items) (sym same) whole);
+      (subst (λ (p : Opening). Whole p.lots j.entries) (sym same) whole);
   number = omega (arith, unfinished.number, long);
 }
 
@@ -97,11 +96,11 @@ unlike_ten head report place few ten unlike = ⊎_elim
     ∙ sym (slice_get_past (lines_of report) place (omega (arith, ten, past))))))
     (cases_lt place 10)
 
-wrong_head : (o : Opening) (bytes head : List ℕ) (place lines n : ℕ) (j : Journal) →
+wrong_head : (o : Opening) (bytes head : List ℕ) (place lines n : ℕ) (j : History) →
     opening_in j ≡ o → IsHead bytes place lines head →
-    AreAllRight o bytes j.book.entries.items → HasUnlike j head n → IsWrongHead o bytes n
+    AreAllRight o bytes j.entries → HasUnlike j head n → IsWrongHead o bytes n
 wrong_head o bytes head place lines n j opened is right judged =
-    let h = j.book.entries.items in
+    let h = j.entries in
     let few : length (lines_of head) ≤ 10 =
     omega (arith, ap (λ (t : List ℕ). length (lines_of t)) is.text, is.first.given.number, is.first.few) in
     let same : head_of j ≡ report_head o h = head_is o j opened in
@@ -126,9 +125,9 @@ wrong_head o bytes head place lines n j opened is right judged =
       number = judged.number;
     }
 
-pub misjudged : (o : Opening) (bytes head : List ℕ) (place lines n : ℕ) (j : Journal) →
+pub misjudged : (o : Opening) (bytes head : List ℕ) (place lines n : ℕ) (j : History) →
     opening_in j ≡ o → IsHead bytes place lines head →
-    AreAllRight o bytes j.book.entries.items → length (lines_of bytes) ≡ lines + length j.book.entries.items →
+    AreAllRight o bytes j.entries → length (lines_of bytes) ≡ lines + length j.entries →
     IsMisjudged j head lines n → IsWrongLine o bytes (Some n)
 misjudged o bytes head place lines n j same is right long (inl unfinished) =
     inr (inr (inl (cut_off o bytes head place lines n j same is right long unfinished)))

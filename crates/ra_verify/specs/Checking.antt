@@ -5,7 +5,7 @@ use Rattle.ra_journal.specs.declared.entries.Entry.{Entry}
 use Rattle.ra_journal.specs.declared.replies.Reply.TheVariants.{Recorded, Stale}
 use Rattle.ra_journal.specs.Entries.{entry_at, worker_count}
 use Rattle.ra_journal.specs.Legal.{Legal}
-use Rattle.ra_journal.specs.Journals.{entries_in, initial_in, instance_in, lots_in, opening_in}
+use Rattle.ra_journal.specs.Journals.{opening_in, IsOverSame}
 use Rattle.ra_report.specs.JournalTexts.{entry_line}
 use Rattle.ra_worker.specs.declared.events.CoreReply.{CoreReply}
 use Rattle.ra_worker.specs.declared.events.CoreReply.TheVariants.{Took, Answer, Skipped}
@@ -23,14 +23,14 @@ pub record NoneIsPast (l : Lots) (h : List Entry) (c : Core) : Type 0 where
 
 -- the entries of a checker, and its core
 abbrev pub checker_entries : Checker → List Entry
-checker_entries c = entries_in c.journal
+checker_entries c = c.journal.entries
 
 abbrev pub checker_core : Checker → Core
-checker_core c = core_of (entries_in c.journal) c.replicas.items
+checker_core c = core_of c.journal.entries c.replicas.items
 
 -- a checker can take entries in
 abbrev pub IsOpen : Checker → Type 0
-IsOpen c = NoneIsPast (lots_in c.journal) (checker_entries c) (checker_core c)
+IsOpen c = NoneIsPast c.journal.lots (checker_entries c) (checker_core c)
 
 -- entry e may follow the entries of a checker
 abbrev pub MayFollow : Checker → Entry → Type 0
@@ -49,11 +49,9 @@ pub record HasTakenSomeEntry (before after : Checker) : Type 0 where
   pub entry : Entry
   pub taken : HasTakenEntry before after entry
 
--- a checker has the same instance, initial assignment and lots as another
-pub record IsSameRun (before after : Checker) : Type 0 where
-  pub instance : instance_in after.journal ≡ instance_in before.journal
-  pub initial : initial_in after.journal ≡ initial_in before.journal
-  pub lots : lots_in after.journal ≡ lots_in before.journal
+-- the journals of two checkers are over the same
+abbrev pub IsSameRun : Checker → Checker → Type 0
+IsSameRun before after = IsOverSame before.journal after.journal
 
 -- a checker has taken in an entry whose line this is
 pub record HasTakenLine (before after : Checker) (line : List ℕ) : Type 0 where
@@ -63,7 +61,7 @@ pub record HasTakenLine (before after : Checker) (line : List ℕ) : Type 0 wher
 
 -- a worker exists, and its replica hasn't gone past a place of the journal
 pub record MayStand (c : Checker) (w q : ℕ) : Type 0 where
-  pub worker : w < worker_count (lots_in c.journal)
+  pub worker : w < worker_count c.journal.lots
   pub place : q ≤ length (checker_entries c)
   pub ahead : core_place_of (checker_core c) w ≤ q
 

@@ -7,7 +7,7 @@ use Rattle.ra_token.specs.Lines.{lines_of}
 use Rattle.ra_token.specs.Reading.{Reads}
 use Rattle.ra_token.specs.LineStanding.{Standing}
 use Rattle.ra_journal.specs.declared.entries.Entry.{Entry}
-use Rattle.ra_journal.specs.Journals.{start_in, tables_in, opening_in}
+use Rattle.ra_journal.specs.Journals.{opening_in}
 use Rattle.ra_journal.specs.Openings.{Opening}
 use Rattle.ra_model.specs.Situations.{Situation, situation}
 use Rattle.ra_verify.specs.declared.checker.Checker.{Checker}
@@ -40,10 +40,10 @@ pub record AreAtStart (checker : Checker) (world : Situation) (bound : Bound) : 
   pub ready : IsOpen checker
   pub none : checker_entries checker ≡ []
   pub at_start :
-      world ≡ situation (tables_in checker.journal) (start_in checker.journal)
-      (start_in checker.journal)
+      world ≡ situation checker.journal.instance.tables checker.journal.initial.items
+      checker.journal.initial.items
   pub bounded :
-      bound ≡ pinned_bound_of (tables_in checker.journal) (start_in checker.journal)
+      bound ≡ pinned_bound_of checker.journal.instance.tables checker.journal.initial.items
 
 -- the first ten lines of a report were read, or all if it has fewer, and their number is told; or the first one that is
 -- over long is told

@@ -1,4 +1,4 @@
-ghost use Rattle.ra_journal.specs.Journals.{entries_in, opening_in};
+ghost use Rattle.ra_journal.specs.Journals.{opening_in, IsJournal};
 ghost use Rattle.ra_worker.specs.AllReplicas.{AreAt};
 
 use ra_journal::Journal;
@@ -9,7 +9,8 @@ use ra_worker::Replica;
 pub(crate) struct Checker<'a> {
     pub(crate) journal: Journal<'a>,
     pub(crate) replicas: Vec<Replica<'a>>,
-    pub ghost at: { AreAt (opening_in journal) (entries_in journal) replicas.items },
+    pub ghost sound: { IsJournal journal },
+    pub ghost at: { AreAt (opening_in journal) journal.entries replicas.items },
 }
 
 /// Frees all parts in one call, so that the end of an owner is short to prove.

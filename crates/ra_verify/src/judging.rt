@@ -3,7 +3,6 @@ ghost use Rattle.ra_model.specs.Situations.{situation};
 ghost use Rattle.ra_bounds.specs.PinnedBounds.{pinned_bound_of};
 ghost use Rattle.ra_token.specs.Lines.{FirstUnlike};
 ghost use Rattle.ra_journal.specs.Legal.{Whole};
-ghost use Rattle.ra_journal.specs.Journals.{entries_in, lots_in, start_in, tables_in};
 ghost use Rattle.ra_report.specs.JournalTexts.{head_of};
 ghost use Rattle.ra_verify.specs.Judging.{IsAccepted, IsMisjudged};
 ghost use Rattle.ra_verify.specs.declared.faults.VerifyFault.TheVariants as fault;
@@ -30,9 +29,9 @@ pub(crate) fn judge<'a>(
 ) -> Result<u64, VerifyFault>
     requires few { lines ≤ 10 }
     requires bound { bound.now ≡
-        pinned_bound_of (tables_in journal.now) (start_in journal.now) }
-    requires at_start { world.old ≡ situation (tables_in journal.now)
-        (start_in journal.now) (start_in journal.now) }
+        pinned_bound_of journal.now.instance.tables journal.now.initial.items }
+    requires at_start { world.old ≡ situation journal.now.instance.tables
+        journal.now.initial.items journal.now.initial.items }
     ensures accepted { IfOk result (IsAccepted journal.now head.now) }
     ensures wrong { IfErr result (λ why. (n : ℕ) × (why ≡ fault.Wrong n)
         × IsMisjudged journal.now head.now lines n) }
@@ -53,7 +52,7 @@ pub(crate) fn judge<'a>(
 
 /// Whether each worker has made all proposals of its budget.
 fn is_whole(journal: &Journal<'_>) -> bool
-    ensures { (result ≡ true) ↔ Whole (lots_in journal.now) (entries_in journal.now) }
+    ensures { (result ≡ true) ↔ Whole journal.now.lots journal.now.entries }
 {
     for w in 0..journal.lots().len() {
         if journal.made_by(w) != journal.lots().lot(w).budget {
@@ -72,12 +71,12 @@ fn first_unlike<'a, L: Ledger>(
     blank: Blank,
 ) -> Option<usize>
     requires bound { bound.now ≡
-        pinned_bound_of (tables_in journal.now) (start_in journal.now) }
+        pinned_bound_of journal.now.instance.tables journal.now.initial.items }
     requires name { blank.name ≡ L.name }
     requires parts { blank.parts ≡ L.parts }
     requires some { 0 < blank.parts }
-    requires at_start { world.old ≡ situation (tables_in journal.now)
-        (start_in journal.now) (start_in journal.now) }
+    requires at_start { world.old ≡ situation journal.now.instance.tables
+        journal.now.initial.items journal.now.initial.items }
     ensures same { IfNone result (head.now ≡ head_of journal.now) }
     ensures unlike { IfSome result (FirstUnlike head.now (head_of journal.now)) }
     ensures few { IfSome result (λ n. n ≤ 10) }

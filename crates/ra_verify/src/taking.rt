@@ -2,7 +2,7 @@ ghost use Rattle.std.specs.Prelude.{◌≡◌, ◌≢◌, ◌≤◌, ◌↔◌, 
 ghost use Rattle.ra_topology.specs.Starts.{IsFeasibleStart};
 ghost use Rattle.ra_journal.specs.declared.entries.Entry.{Entry as Recorded};
 ghost use Rattle.ra_journal.specs.Committing.{next_entry};
-ghost use Rattle.ra_journal.specs.Journals.{initial_in, instance_in, lots_in, opening_in, topology_in};
+ghost use Rattle.ra_journal.specs.Journals.{history, opening_in};
 ghost use Rattle.ra_report.specs.JournalTexts.{entry_line};
 ghost use Rattle.ra_verify.specs.Checking.{checker_entries, IsOpen, MayFollow, HasTakenEntry, HasTakenLine, IsSameRun, MayStand, is_recorded};
 
@@ -27,11 +27,8 @@ impl<'a> Checker<'a> {
         lots: &'a Lots,
     ) -> Result<Checker<'a>, NoMemory>
         requires { IsFeasibleStart inst.now.tables topo.now a0.now.items start }
-        ensures instance { IfOk result (λ c. instance_in c.journal ≡ inst.now) }
-        ensures topology { IfOk result (λ c. topology_in c.journal ≡ topo.now) }
-        ensures initial { IfOk result (λ c. initial_in c.journal ≡ a0.now) }
-        ensures lots { IfOk result (λ c. lots_in c.journal ≡ lots.now) }
-        ensures entries { IfOk result (λ c. checker_entries c ≡ []) }
+        ensures journal { IfOk result (λ c. c.journal ≡
+            history inst.now topo.now a0.now lots.now []) }
         ensures ready { IfOk result (λ c. IsOpen c) }
     {
         let journal = Journal::make(alloc, inst, topo, a0, start, lots)?;

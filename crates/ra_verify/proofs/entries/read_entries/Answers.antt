@@ -1,8 +1,9 @@
-use Rattle.std.proofs.Common.{◌+◌, Ok, true, List, length, IfSome, refl, sym, ap, subst, ◌∙◌, le_refl, le_trans, arith}
+use Rattle.std.proofs.Common.{Ok, List, length, IfSome, refl, sym, ap, subst, ◌∙◌, le_refl, le_trans, arith}
 use Rattle.std.proofs.lemmas.List.{length_push}
 use Rattle.ra_journal.specs.declared.entries.Entry.{Entry}
 use Rattle.ra_journal.specs.Journals.{opening_in}
 use Rattle.ra_journal.specs.Openings.{Opening}
+use Rattle.ra_worker.proofs.CoreLemmas.{over_then}
 use Rattle.ra_verify.specs.Checking.{checker_entries}
 use Rattle.ra_verify.specs.Reading.{AreLines, AreRead}
 use Rattle.ra_verify.proofs.EntryLemmas.{told_map, read_head_only}
@@ -25,13 +26,13 @@ loop-init g c =
       near = omega (arith, c.requires.near);
       room = c.requires.room;
       ready = c.requires.ready;
-      same = record { instance = refl; initial = refl; lots = refl };
+      same = refl;
       read = told_map (g.F.Files.held c.args.files.now c.args.reader.now.name)
           (λ bytes. AreLines bytes c.args.reader.now.place 10)
           (λ bytes. AreRead (opening_in j) bytes c.args.reader.now.place
-          j.book.entries.items)
+          j.entries)
           (λ bytes given. read_head_only (opening_in j) bytes c.args.reader.now.place
-          j.book.entries.items j.kept.legal c.requires.none given) c.requires.head;
+          j.entries c.args.checker.now.sound.legal c.requires.none given) c.requires.head;
     }
 
 pub loop-preserved : goal.loop-preserved
@@ -56,11 +57,7 @@ loop-preserved g c =
       );
       room = c.in_ok-read_entry.ensures.room ∙ l.invariant.room;
       ready = more.taken.ready;
-      same = record {
-        instance = e.same.instance ∙ l.invariant.same.instance;
-        initial = e.same.initial ∙ l.invariant.same.initial;
-        lots = e.same.lots ∙ l.invariant.same.lots;
-      };
+      same = over_then c.args.checker.now.journal j c.read_entry.new.checker.journal l.invariant.same e.same;
       read = subst (λ (o : Opening). IfSome (g.F.Files.held c.args.files.now c.args.reader.now.name)
           (λ bytes. AreRead o bytes c.read_entry.new.reader.place (checker_entries c.read_entry.new.checker)))
           (sym run)

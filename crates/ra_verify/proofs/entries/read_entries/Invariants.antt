@@ -23,4 +23,4 @@ invariant-loop g l = record {
 }
 
 abbrev pub decreases-loop : goal.decreases-loop
-decreases-loop g l = proposal_count l.checker.journal.lots.now - length (checker_entries l.checker)
+decreases-loop g l = proposal_count l.checker.journal.lots - length (checker_entries l.checker)

@@ -1,4 +1,4 @@
-use Rattle.std.proofs.Common.{◌≡◌, ◌+◌, Ok, Err, true, false, length, IfErr, refl, sym, ap, ◌∙◌, subst, arith}
+use Rattle.std.proofs.Common.{◌≡◌, ◌+◌, Ok, Err, true, length, IfErr, refl, sym, ap, ◌∙◌, subst, arith}
 use Rattle.ra_journal.specs.declared.entries.Entry.{Entry}
 use Rattle.ra_journal.specs.Legal.{Legal}
 use Rattle.ra_journal.specs.Journals.{opening_in}
@@ -18,8 +18,8 @@ next-requires-clause-near g c =
     omega (
       arith,
       c.requires.near,
-      few_entries (opening_in j) j.book.entries.items
-          j.kept.legal,
+      few_entries (opening_in j) j.entries
+          c.args.checker.now.sound.legal,
     )
 
 pub returns-in-Line-clause-entry : goal.returns-in-Line-clause-entry
@@ -35,7 +35,7 @@ returns-in-Line-clause-entry g c =
       more = λ is. let has = (taken.right (ok_is c.take_entry.result true is)).1 in
           record { entry = has.entry; taken = has.taken };
       read = told_taken told (opening_in j) c.args.reader.now.place c.next.new.self.place
-          292 j.book.entries.items (checker_entries c.take_entry.new.checker) c.as_slice.result.now c.in_ok-next.field-0
+          292 j.entries (checker_entries c.take_entry.new.checker) c.as_slice.result.now c.in_ok-next.field-0
           c.in-Line.is (λ is. e.long (ap Ok is))
           (λ is.
           let has = (taken.right (ok_is c.take_entry.result true is)).1 in
@@ -49,7 +49,7 @@ returns-in-Line-clause-entry g c =
       none = λ is. absurd (not_end c.take_entry.result (λ ok. (taken.right ok).0) is);
       end = over_all told (λ bytes is. absurd (not_end c.take_entry.result (λ ok. (taken.right ok).0) is));
       wrong = told_wrong told (opening_in j) c.args.reader.now.place c.next.new.self.place
-          292 74 j.book.entries.items c.as_slice.result.now c.in_ok-next.field-0 c.in-Line.is (λ is. e.long (ap Ok is))
+          292 74 j.entries c.as_slice.result.now c.in_ok-next.field-0 c.in-Line.is (λ is. e.long (ap Ok is))
           (omega arith)
           (λ n is.
           let why = subst (λ r.
@@ -80,14 +80,14 @@ returns-in-Last-clause-entry g c =
       none = λ is. absurd (cc);
       end = over_all told (λ bytes is. absurd (cc));
       wrong = told_last told (opening_in j) c.args.reader.now.place c.next.new.self.place
-          292 j.book.entries.items c.in_ok-next.field-0 c.in-Last.is
+          292 j.entries c.in_ok-next.field-0 c.in-Last.is
           (λ n is. sym (same_wrong (11 + length (checker_entries c.args.checker.now)) n
           (sym (ap Err c.wrong_entry.ensures)
           ∙ is)))
           c.requires.read e.next;
       fault = λ is. let at = c.wrong_entry.ensures in absurd (cc);
       memory = λ is. let at = c.wrong_entry.ensures in cc;
-      same = record { instance = refl; initial = refl; lots = refl };
+      same = refl;
       called = e.name;
       leaves = record { kept = e.kept; never_fall = e.never_fall };
     }

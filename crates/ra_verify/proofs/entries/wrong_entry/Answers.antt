@@ -9,8 +9,8 @@ overflow_add-result c =
     record {
       fits = omega (
         arith,
-        c.len.ensures,
-        few_entries (opening_in j) j.book.entries.items
-            j.kept.legal,
+        c.len.ensures.value,
+        few_entries (opening_in j) j.entries
+            c.args.checker.now.sound.legal,
       );
     }

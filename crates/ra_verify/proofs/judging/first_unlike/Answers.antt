@@ -16,21 +16,21 @@ replay-requires-clause-within g c =
     let journal = c.args.journal.now in
     omega (
       arith,
-      c.best_at.ensures,
-      best_within (opening_in journal) journal.book.entries.items (length journal.book.entries.items),
+      c.best_at.ensures.value,
+      best_within (opening_in journal) journal.entries (length journal.entries),
     )
 
 pub unlike_head-requires-clause-best : goal.unlike_head-requires-clause-best
 unfolding best_state
 unlike_head-requires-clause-best g c =
     c.assignment.ensures.value ∙ ap (λ (st : Situation). st.here) c.replay.ensures
-    ∙ ap (state c.args.journal.now.a0.now.items c.args.journal.now.book.entries.items) c.best_at.ensures
+    ∙ ap (state c.args.journal.now.initial.items c.args.journal.now.entries) c.best_at.ensures.value
 
 pub unlike_head-requires-clause-parts : goal.unlike_head-requires-clause-parts
 unlike_head-requires-clause-parts g c =
     let w = c.replay.new.world in
-    let i = c.args.journal.now.inst.now.tables in
-    let a0 = c.args.journal.now.a0.now.items in
+    let i = c.args.journal.now.instance.tables in
+    let a0 = c.args.journal.now.initial.items in
     let tables : w.tables ≡ i =
     ap (λ (st : Situation). st.tables) c.replay.ensures ∙ ap (λ (st : Situation). st.tables) c.requires.at_start in
     let start : w.start ≡ a0 =

@@ -8,20 +8,20 @@ use Rattle.ra_verify.proofs.judging.is_whole.Goals as goal
 pub made_by-requires : goal.made_by-requires
 unfolding worker_count
 made_by-requires c =
-    omega (arith, c.loop-w-test.true, c.len-w-end.ensures.value, ap (λ (l : Lots). length l.lots.items) c.lots.ensures)
+    omega (arith, c.loop-w-test.true, c.len-w-end.ensures.value, ap (λ (l : Lots). length l.lots.items) c.lots.ensures.value)
 
 pub returns-then-made_by-lot : goal.returns-then-made_by-lot
 unfolding worker_count
 returns-then-made_by-lot c =
-    let own : c.lot.result.now.budget ≡ budget c.args.journal.now.lots.now c.loop-w.w =
+    let own : c.lot.result.now.budget ≡ budget c.args.journal.now.lots c.loop-w.w =
     lot_budget c.lots-in-loop-w.result.now c.loop-w.w c.lot.result.now c.lot.ensures
-    ∙ ap (λ (l : Lots). budget l c.loop-w.w) c.lots-in-loop-w.ensures in
-    let exists : c.loop-w.w < worker_count c.args.journal.now.lots.now =
+    ∙ ap (λ (l : Lots). budget l c.loop-w.w) c.lots-in-loop-w.ensures.value in
+    let exists : c.loop-w.w < worker_count c.args.journal.now.lots =
     omega (
       arith,
       c.loop-w-test.true,
       c.len-w-end.ensures.value,
-      ap (λ (l : Lots). length l.lots.items) c.lots.ensures,
+      ap (λ (l : Lots). length l.lots.items) c.lots.ensures.value,
     ) in (
       λ no. absurd (cc),
       λ whole.
@@ -30,33 +30,32 @@ returns-then-made_by-lot c =
 
 pub loop-w-preserved : goal.loop-w-preserved
 loop-w-preserved c =
-    let own : c.lot.result.now.budget ≡ budget c.args.journal.now.lots.now c.loop-w.w =
+    let own : c.lot.result.now.budget ≡ budget c.args.journal.now.lots c.loop-w.w =
     lot_budget c.lots-in-loop-w.result.now c.loop-w.w c.lot.result.now c.lot.ensures
-    ∙ ap (λ (l : Lots). budget l c.loop-w.w) c.lots-in-loop-w.ensures in
-    let h = c.args.journal.now.book.entries.items in
+    ∙ ap (λ (l : Lots). budget l c.loop-w.w) c.lots-in-loop-w.ensures.value in
+    let h = c.args.journal.now.entries in
     λ v within. ⊎_elim
     (λ (before : v < c.loop-w.w). c.loop-w.invariant v before)
     (λ (last : c.loop-w.w ≤ v).
     let here : c.loop-w.w ≡ v = omega (arith, last, within) in
-    subst (λ w. entries_of h (length h) w ≡ budget c.args.journal.now.lots.now w) here
+    subst (λ w. entries_of h (length h) w ≡ budget c.args.journal.now.lots w) here
     (omega (arith, c.if-made_by-lot.false, c.made_by.ensures, own)))
     (cases_lt v c.loop-w.w)
 
 pub returns : goal.returns
 unfolding worker_count
-returns c =
-    let j = c.args.journal.now in (
-      λ yes. record {
-        each = λ w there.
-            c.loop-w.invariant w
-            (omega (
-              arith,
-              there,
-              c.loop-w-test.false,
-              c.len-w-end.ensures.value,
-              ap (λ (l : Lots). length l.lots.items) c.lots.ensures,
-            ));
-        no_other = λ k within. (j.kept.legal.each k within).numbered.worker;
-      },
-      λ whole. refl,
-    )
+returns c = (
+  λ yes. record {
+    each = λ w there.
+        c.loop-w.invariant w
+        (omega (
+          arith,
+          there,
+          c.loop-w-test.false,
+          c.len-w-end.ensures.value,
+          ap (λ (l : Lots). length l.lots.items) c.lots.ensures.value,
+        ));
+    no_other = λ k within. (c.lots.ensures.sound.legal.each k within).numbered.worker;
+  },
+  λ whole. refl,
+)

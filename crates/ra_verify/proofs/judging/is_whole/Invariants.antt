@@ -4,5 +4,5 @@ use Rattle.ra_journal.specs.Entries.{entries_of, budget}
 use Rattle.ra_verify.proofs.judging.is_whole.Given as goal
 
 abbrev pub invariant-loop-w : goal.invariant-loop-w
-invariant-loop-w l = (v : ℕ) → v < l.w → entries_of l.journal.book.entries.items (length l.journal.book.entries.items)
-    v ≡ budget l.journal.lots.now v
+invariant-loop-w l = (v : ℕ) → v < l.w → entries_of l.journal.entries (length l.journal.entries)
+    v ≡ budget l.journal.lots v

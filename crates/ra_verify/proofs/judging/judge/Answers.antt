@@ -10,8 +10,8 @@ overflow_add-result c =
       fits = omega (
         arith,
         c.requires.few,
-        c.len-entries.ensures,
-        few_entries (opening_in j) j.book.entries.items j.kept.legal,
+        c.len-entries.ensures.value,
+        few_entries (opening_in j) j.entries c.len-entries.ensures.sound.legal,
       );
     }
 
@@ -22,7 +22,7 @@ overflow_add-result-then-not-is_whole c =
       fits = omega (
         arith,
         c.requires.few,
-        c.len-entries.ensures,
-        few_entries (opening_in j) j.book.entries.items j.kept.legal,
+        c.len-entries.ensures.value,
+        few_entries (opening_in j) j.entries c.len-entries.ensures.sound.legal,
       );
     }

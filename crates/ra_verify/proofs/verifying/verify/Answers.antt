@@ -1,8 +1,5 @@
-use Rattle.std.proofs.Common.{◌≡◌, ℕ, Some, None, Err, IfOk, ap}
-use Rattle.ra_base.specs.Listed.{Listed}
-use Rattle.ra_base.specs.declared.ids.Machine.{Machine}
-use Rattle.ra_model.specs.declared.numbers.Instance.{Instance}
-use Rattle.ra_worker.proofs.OpeningLemmas.{same_parts}
+use Rattle.std.proofs.Common.{◌≡◌, ℕ, Some, None, Err, IfOk, ap, arith}
+use Rattle.ra_journal.specs.Journals.{opening_in}
 use Rattle.ra_verify.specs.WrongLines.{IsWrongLine, IsReport}
 use Rattle.ra_verify.specs.declared.faults.VerifyFault.TheVariants as fault
 use Rattle.ra_verify.proofs.CheckLemmas.{moved}
@@ -16,8 +13,7 @@ returns g c =
     let j = c.in_ok-checker.checker.journal in
     let named = c.in_ok-room.ensures.name in
     let e = c.in_ok-checker.ensures in
-    let same = same_parts _ _ _ _ _ _ (ap (λ (x : Instance). x.tables) e.instance)
-    (ap (λ (xs : Listed Machine). xs.items) e.initial) e.lots in
+    let same = ap (λ x. opening_in x) e.journal in
     let told = c.check.ensures in
     record {
       none_wrong =
@@ -30,3 +26,7 @@ returns g c =
       fault = rw named at told.fault;
       leaves = told.leaves;
     }
+
+-- no memory
+pub returns-in_err-room : goal.returns-in_err-room
+returns-in_err-room g c = grind arith
