@@ -46,22 +46,22 @@ pub run_told : (o : Opening) (run : Run) (sent : List ℕ → Type 0) → IsRun 
 unfolding text_of
 run_told o run sent is start text = record {
   start = start;
-  journal = run.journal.book.entries.items;
+  journal = run.journal.entries;
   legal = is.legal;
   whole = is.whole;
   text = subst sent
-      (ap (λ (p : Opening). report_text p run.journal.book.entries.items) is.opening) text;
+      (ap (λ (p : Opening). report_text p run.journal.entries) is.opening) text;
 }
 
 -- what the report asks for is what is known of a run
 pub best_told : (o : Opening) (run : Run) → IsRun o run → run.best.items ≡ best_state run.journal
 unfolding best_state
 best_told o run is = is.best
-    ∙ ap (λ (p : Opening). let h = run.journal.book.entries.items in state p.start h (best_of p h)) (sym is.opening)
+    ∙ ap (λ (p : Opening). let h = run.journal.entries in state p.start h (best_of p h)) (sym is.opening)
 
 -- the bound of the instance and the start is that of the run's journal
 pub bound_told : (o : Opening) (run : Run) (bound : Bound) → IsRun o run → bound ≡ pinned_bound_of o.tables o.start →
-    bound ≡ pinned_bound_of run.journal.inst.now.tables run.journal.a0.now.items
+    bound ≡ pinned_bound_of run.journal.instance.tables run.journal.initial.items
 bound_told o run bound is told = told ∙ ap (λ (p : Opening). pinned_bound_of p.tables p.start) (sym is.opening)
 
 -- the best place of a journal is the first of least objective

@@ -154,10 +154,10 @@ pub summarized : (o : Opening) (run : Run) (sent : List ℕ → Type 0) → IsRu
     worker_count o.lots ≡ 1 → sent (summary_of run.journal) → IsSummarized o sent
 unfolding summary_of
 summarized o run sent is one text =
-    let alone : run.journal.book.entries.items ≡ solo o =
-    (one_lot o one).no_other run.journal.book.entries.items (record { legal = is.legal; whole = is.whole }) in
+    let alone : run.journal.entries ≡ solo o =
+    (one_lot o one).no_other run.journal.entries (record { legal = is.legal; whole = is.whole }) in
     subst sent
-    (ap (λ (p : Opening). summary_text p run.journal.book.entries.items) is.opening
+    (ap (λ (p : Opening). summary_text p run.journal.entries) is.opening
     ∙ ap (λ (h : List Entry). summary_text o h) alone)
     text
 

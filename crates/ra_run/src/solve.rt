@@ -3,7 +3,6 @@ ghost use Rattle.std.specs.Option.{option_copied};
 ghost use Rattle.ra_io.specs.Outside.{reading, writing, Took};
 ghost use Rattle.ra_bounds.specs.PinnedBounds.{pinned_bound_of};
 ghost use Rattle.ra_model.specs.Assignments.{IsAssignment};
-ghost use Rattle.ra_journal.specs.Journals.{start_in, tables_in};
 ghost use Rattle.ra_journal.specs.Openings.{opening};
 ghost use Rattle.ra_report.specs.JournalTexts.{best_state, text_of};
 ghost use Rattle.ra_jobs.specs.Commands.{These, over};
@@ -168,8 +167,8 @@ fn report<R: Threads + Sync, O: Sink>(
     bound: &Bound,
     run: &Run<'_>,
 ) -> Result<(), WriteFault>
-    requires bound { bound.now ≡ pinned_bound_of (tables_in run.now.journal)
-        (start_in run.now.journal) }
+    requires bound { bound.now ≡ pinned_bound_of run.now.journal.instance.tables
+        run.now.journal.initial.items }
     requires best { run.now.best.items ≡ best_state run.now.journal }
     ensures whole { OnOk result (Took (writing O.Sink out.old out.new) (text_of run.now.journal)) }
     ensures part { OnErr result (BrokeOff (writing O.Sink out.old out.new) (text_of run.now.journal)) }

@@ -2,7 +2,6 @@ ghost use Rattle.std.specs.Prelude.{◌≡◌, ◌≢◌, ◌≤◌, None, OnOk,
 ghost use Rattle.ra_bounds.specs.PinnedBounds.{pinned_bound_of};
 ghost use Rattle.ra_io.specs.Outside.{LeavesFiles, Reading, writing, Took};
 ghost use Rattle.ra_journal.specs.Entries.{worker_count};
-ghost use Rattle.ra_journal.specs.Journals.{start_in, tables_in};
 ghost use Rattle.ra_journal.specs.Openings.{opening};
 ghost use Rattle.ra_model.specs.Assignments.{IsAssignment};
 ghost use Rattle.ra_model.specs.Broken.{first_broken};
@@ -239,10 +238,10 @@ fn summarize<O: Sink>(
     best: &Parts,
     run: &Run<'_>,
 ) -> Result<(), WriteFault>
-    requires parts { best.now ≡ parts_of (tables_in run.now.journal)
-        (start_in run.now.journal) run.now.best.items }
-    requires bound { bound.now ≡ pinned_bound_of (tables_in run.now.journal)
-        (start_in run.now.journal) }
+    requires parts { best.now ≡ parts_of run.now.journal.instance.tables
+        run.now.journal.initial.items run.now.best.items }
+    requires bound { bound.now ≡ pinned_bound_of run.now.journal.instance.tables
+        run.now.journal.initial.items }
     requires best { run.now.best.items ≡ best_state run.now.journal }
     ensures whole { OnOk result (Took (writing O.Sink out.old out.new) (summary_of run.now.journal)) }
     ensures part { OnErr result (BrokeOff (writing O.Sink out.old out.new) (summary_of run.now.journal)) }

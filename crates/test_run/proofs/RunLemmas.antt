@@ -13,9 +13,9 @@ use Rattle.ra_journal.specs.States.{state}
 pub best_told : (o : Opening) (run : Solved) → IsRun o run → run.best.items ≡ best_state run.journal
 unfolding best_state
 best_told o run is = is.best
-    ∙ ap (λ (p : Opening). let h = run.journal.book.entries.items in state p.start h (best_of p h)) (sym is.opening)
+    ∙ ap (λ (p : Opening). let h = run.journal.entries in state p.start h (best_of p h)) (sym is.opening)
 
 -- the bound of the instance and the start is that of its journal
 pub bound_told : (o : Opening) (run : Solved) (bound : Bound) → IsRun o run →
-    bound ≡ pinned_bound_of o.tables o.start → bound ≡ pinned_bound_of run.journal.inst.now.tables run.journal.a0.now.items
+    bound ≡ pinned_bound_of o.tables o.start → bound ≡ pinned_bound_of run.journal.instance.tables run.journal.initial.items
 bound_told o run bound is told = told ∙ ap (λ (p : Opening). pinned_bound_of p.tables p.start) (sym is.opening)

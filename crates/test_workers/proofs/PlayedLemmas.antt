@@ -4,10 +4,9 @@ use Rattle.std.proofs.lemmas.Bool.{cases_lt}
 use Rattle.std.proofs.lemmas.List.{length_push, length-map, length-set, get_or_append_left, get_or_push, get_or-set_same, set-get_or, map-set}
 use Rattle.ra_draws.specs.declared.budgets.Lots.{Lots}
 use Rattle.ra_journal.specs.declared.entries.Entry.{Entry}
-use Rattle.ra_journal.specs.declared.journal.Journal.{Journal}
 use Rattle.ra_journal.specs.Entries.{worker_count}
 use Rattle.ra_journal.specs.Openings.{Opening}
-use Rattle.ra_journal.specs.Journals.{opening_in}
+use Rattle.ra_journal.specs.Journals.{History, opening_in}
 use Rattle.ra_worker.specs.declared.replica.Replica.{Replica}
 use Rattle.ra_worker.specs.declared.events.CoreEvent.{CoreEvent}
 use Rattle.ra_worker.specs.declared.events.CoreEvent.TheVariants.{CatchUp, Commit}
@@ -153,18 +152,20 @@ turn_played o h g rs w v r s exists there is within place own g_is =
     (sym (ap (λ (x : Stepped). x.after) stepped))
 
 -- a journal with its replicas: no turn, and more turns
-pub plays_nothing : (j : Journal) (rs : List Replica) → StandIn j rs → PlaysOn j j rs rs
+pub plays_nothing : (j : History) (rs : List Replica) → StandIn j rs → PlaysOn j j rs rs
 plays_nothing j rs at = record {
   played = played_none (opening_in j) (core_in j rs);
   at = at;
   over = over_itself j;
+  sound = λ is. is;
 }
 
-pub plays_then : (j k g : Journal) (rs ss ts : List Replica) → PlaysOn j k rs ss → PlaysOn k g ss ts → PlaysOn j g rs ts
+pub plays_then : (j k g : History) (rs ss ts : List Replica) → PlaysOn j k rs ss → PlaysOn k g ss ts → PlaysOn j g rs ts
 plays_then j k g rs ss ts first second = record {
   played = played_then (opening_in j) (core_in j rs) (core_in k ss) (core_in g ts)
       first.played
       (subst (λ (o : Opening). IsPlayed o (core_in k ss) (core_in g ts)) (over_is j k first.over) second.played);
   at = second.at;
   over = over_then j k g first.over second.over;
+  sound = λ is. second.sound (first.sound is);
 }

@@ -1,6 +1,6 @@
 ghost use Rattle.std.specs.Prelude.{◌≡◌, ◌+◌, ◌<◌, ◌≤◌, ◌++◌, true, length};
 ghost use Rattle.ra_journal.specs.Entries.{worker_count};
-ghost use Rattle.ra_journal.specs.Journals.{lots_in, IsOverSame};
+ghost use Rattle.ra_journal.specs.Journals.{IsOverSame};
 ghost use Rattle.ra_worker.specs.Core.{AreNamed, event_at, worker_of_event};
 ghost use Rattle.ra_worker.specs.Turns.{StandIn, core_in};
 ghost use Rattle.test_workers.specs.Plays.{step_in, run_in};
@@ -21,7 +21,7 @@ pub fn play<'a>(
     replies: &mut Fixed<CoreReply>,
 )
     requires at { StandIn journal.old replicas.old.items }
-    requires named { AreNamed (lots_in journal.old) events.now.items }
+    requires named { AreNamed journal.old.lots events.now.items }
     requires room { length replies.old.items + length events.now.items ≤ replies.old.room }
     ensures core { core_in journal.new replicas.new.items ≡
         (run_in journal.old replicas.old.items events.now.items).last }
@@ -73,7 +73,7 @@ pub(crate) fn play_event<'a, L: Ledger>(
     requires parts { blank.parts ≡ L.parts }
     requires some { 0 < blank.parts }
     requires at { StandIn journal.old replicas.old.items }
-    requires named { worker_of_event event < worker_count (lots_in journal.old) }
+    requires named { worker_of_event event < worker_count journal.old.lots }
     ensures step { step_in journal.old replicas.old.items event ≡
         record { after = core_in journal.new replicas.new.items; reply = result } }
     ensures at { StandIn journal.new replicas.new.items }

@@ -1,6 +1,5 @@
 ghost use Rattle.std.specs.Prelude.{◌≡◌, ℕ, ◌+◌, ◌<◌, ◌≤◌, length};
 ghost use Rattle.ra_journal.specs.Entries.{worker_count, budget};
-ghost use Rattle.ra_journal.specs.Journals.{lots_in, entries_in};
 ghost use Rattle.ra_journal.specs.Legal.{Whole};
 ghost use Rattle.ra_worker.specs.Replicas.{worker_at, place_at};
 ghost use Rattle.ra_worker.specs.Turns.{StandsInJournal, StandIn, turn_in};
@@ -20,7 +19,7 @@ pub fn round_robin<'a>(
     batch: &mut Batch,
 )
     requires at { StandIn journal.old replicas.old.items }
-    ensures whole { Whole (lots_in journal.old) (entries_in journal.new) }
+    ensures whole { Whole journal.old.lots journal.new.entries }
     ensures played { PlaysOn journal.old journal.new replicas.old.items replicas.new.items }
 {
     let rounds = longest(journal.lots());
@@ -67,9 +66,9 @@ fn take_turn<'a>(
     w: u32,
 )
     requires at { StandIn journal.old replicas.old.items }
-    requires exists { w < worker_count (lots_in journal.old) }
-    ensures journal { entries_in journal.new ≡
-        (turn_in journal.old w (length (entries_in journal.old))).journal }
+    requires exists { w < worker_count journal.old.lots }
+    ensures journal { journal.new.entries ≡
+        (turn_in journal.old w (length journal.old.entries)).journal }
     ensures played { PlaysOn journal.old journal.new replicas.old.items replicas.new.items }
 {
     let replica = &mut replicas[w as usize];
@@ -80,7 +79,7 @@ fn take_turn<'a>(
 /// A replica takes in all entries that are new to it.
 fn catch_up_whole<'a>(journal: &Journal<'a>, replica: &mut Replica<'a>, batch: &mut Batch)
     requires at { StandsInJournal journal.now replica.old }
-    ensures place { place_at replica.new ≡ length (entries_in journal.now) }
+    ensures place { place_at replica.new ≡ length journal.now.entries }
     ensures worker { worker_at replica.new ≡ worker_at replica.old }
     ensures at { StandsInJournal journal.now replica.new }
 {

@@ -4,7 +4,6 @@ ghost use Rattle.ra_bounds.specs.PinnedBounds.{pinned_bound_of};
 ghost use Rattle.ra_model.specs.Assignments.{IsAssignment};
 ghost use Rattle.ra_model.specs.Broken.{first_broken};
 ghost use Rattle.ra_model.specs.Costs.{parts_of};
-ghost use Rattle.ra_journal.specs.Journals.{start_in, tables_in};
 ghost use Rattle.ra_report.specs.JournalTexts.{best_state};
 
 use ra_base::{Assignment, Parts};
@@ -72,8 +71,8 @@ fn write_at<R: Abort + Threads + Sync>(
     bound: &Bound,
     run: &Solved<'_>,
 ) -> Result<(), WriteFault>
-    requires bound { bound.now ≡ pinned_bound_of (tables_in run.now.journal)
-        (start_in run.now.journal) }
+    requires bound { bound.now ≡ pinned_bound_of run.now.journal.instance.tables
+        run.now.journal.initial.items }
     requires best { run.now.best.items ≡ best_state run.now.journal }
 {
     assert!(rt; 1 <= number && number <= 16);
@@ -98,8 +97,8 @@ fn write_told<R: Abort + Threads + Sync>(
     bound: &Bound,
     run: &Solved<'_>,
 ) -> Result<(), WriteFault>
-    requires bound { bound.now ≡ pinned_bound_of (tables_in run.now.journal)
-        (start_in run.now.journal) }
+    requires bound { bound.now ≡ pinned_bound_of run.now.journal.instance.tables
+        run.now.journal.initial.items }
     requires best { run.now.best.items ≡ best_state run.now.journal }
 {
     match told {

@@ -3,7 +3,7 @@ ghost use Rattle.std.specs.Prelude.{◌≡◌, ◌<◌, None};
 ghost use Rattle.ra_model.specs.Assignments.{IsAssignment};
 ghost use Rattle.ra_model.specs.Broken.{first_broken};
 ghost use Rattle.ra_model.specs.Costs.{parts_of};
-ghost use Rattle.ra_journal.specs.Journals.{initial_in, instance_in, lots_in, opening_in};
+ghost use Rattle.ra_journal.specs.Journals.{opening_in};
 ghost use Rattle.ra_journal.specs.Openings.{opening};
 ghost use Rattle.test_workers.specs.FirstPlans.{IsFirstPlan};
 
@@ -55,9 +55,9 @@ pub(super) fn first_plan<L: Ledger>(
 /// Hands in a worker's first plan, if the worker has some budget and has made no entry so far.
 pub(super) fn hand_in(journal: &mut Journal<'_>, worker: u32, plan: &Plan) -> Option<Reply>
     requires { IsFirstPlan (opening_in journal.old) worker plan.now }
-    ensures instance { instance_in journal.new ≡ instance_in journal.old }
-    ensures initial { initial_in journal.new ≡ initial_in journal.old }
-    ensures lots { lots_in journal.new ≡ lots_in journal.old }
+    ensures instance { journal.new.instance ≡ journal.old.instance }
+    ensures initial { journal.new.initial ≡ journal.old.initial }
+    ensures lots { journal.new.lots ≡ journal.old.lots }
 {
     let lots = journal.lots();
     if worker >= lots.len() {

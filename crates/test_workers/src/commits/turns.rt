@@ -1,5 +1,5 @@
 //! The answers to workers that take turns with the journal.
-ghost use Rattle.ra_journal.specs.Journals.{entries_in, opening_in};
+ghost use Rattle.ra_journal.specs.Journals.{opening_in};
 ghost use Rattle.ra_worker.specs.AllReplicas.{AreAt};
 
 use super::first::start_parts;
@@ -25,7 +25,7 @@ fn play_all<'a>(
     replicas: &mut Vec<Replica<'a>>,
     events: &[CoreEvent],
 ) -> Fixed<CoreReply>
-    requires at { AreAt (opening_in journal.old) (entries_in journal.old)
+    requires at { AreAt (opening_in journal.old) journal.old.entries
         replicas.old.items }
 {
     let mut batch = Batch::make(alloc).expect(rt, "no memory");

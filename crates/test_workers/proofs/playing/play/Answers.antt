@@ -20,7 +20,7 @@ loop-n-init c = record {
 pub push-requires : goal.push-requires
 push-requires c =
     let j = c.args.journal.now in
-    room_left (opening_in j) (core_of j.book.entries.items c.args.replicas.now.items)
+    room_left (opening_in j) (core_of j.entries c.args.replicas.now.items)
     c.args.events.now.items c.loop-n.n c.loop-n.replies.room c.args.replies.now.items c.loop-n.replies.items
     c.loop-n.invariant.replies (omega (arith, c.loop-n-test.true, c.len-n-end.ensures.value))
     (omega (arith, c.requires.room, c.loop-n.invariant.room))
@@ -30,9 +30,9 @@ loop-n-preserved c =
     let j = c.args.journal.now in
     let k = c.loop-n.journal in
     let inv = c.loop-n.invariant in
-    let start = core_of j.book.entries.items c.args.replicas.now.items in
-    let d = core_of k.book.entries.items c.loop-n.replicas.items in
-    let e = core_of c.play_event-reply.new.journal.book.entries.items c.play_event-reply.new.replicas.items in
+    let start = core_of j.entries c.args.replicas.now.items in
+    let d = core_of k.entries c.loop-n.replicas.items in
+    let e = core_of c.play_event-reply.new.journal.entries c.play_event-reply.new.replicas.items in
     let stepped = subst (λ (o : Opening). step o d c.event_of-event.result ≡ record {
       after = e;
       reply = c.play_event-reply.result;

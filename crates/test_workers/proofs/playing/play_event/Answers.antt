@@ -1,5 +1,5 @@
 use Rattle.std.proofs.Common.{◌≡◌, ◌<◌, length, refl, sym, ap, ◌∙◌, subst, arith}
-use Rattle.ra_worker.proofs.CoreLemmas.{all_set, stand_later, over_itself}
+use Rattle.ra_worker.proofs.CoreLemmas.{all_set, stand_later, over_itself, over_by}
 use Rattle.ra_journal.specs.Journals.{opening_in}
 use Rattle.test_workers.proofs.PlayLemmas.{named_catch_up, named_commit, step_catch_up, step_commit}
 use Rattle.test_workers.proofs.playing.play_event.Goals as goal
@@ -50,7 +50,7 @@ returns-in-CatchUp-clause-step g c =
       c.requires.at.one_each,
     ) in
     rw c.in-CatchUp.is
-    (step_catch_up (opening_in j) j.book.entries.items c.args.replicas.now.items
+    (step_catch_up (opening_in j) j.entries c.args.replicas.now.items
     c.in-CatchUp.worker c.catch_up-count.result c.index_mut-replica.result.now c.catch_up-count.new.replica
     there (sym c.index_mut-replica.ensures.value) c.catch_up-count.ensures.count c.catch_up-count.ensures.place)
 
@@ -63,7 +63,7 @@ returns-in-CatchUp-clause-at g c =
       named_catch_up c.args.event c.in-CatchUp.worker _ c.requires.named c.in-CatchUp.is,
       c.requires.at.one_each,
     ) in
-    all_set (opening_in j) j.book.entries.items c.in-CatchUp.worker
+    all_set (opening_in j) j.entries c.in-CatchUp.worker
     c.args.replicas.now.items c.catch_up-count.new.replica c.requires.at there (record {
       worker = c.catch_up-count.ensures.worker
           ∙ (c.requires.at.each c.in-CatchUp.worker c.index_mut-replica.result.now there
@@ -81,15 +81,19 @@ returns-in-Commit-clause-step g c =
       c.requires.at.one_each,
     ) in
     rw c.in-Commit.is
-    (step_commit (opening_in j) j.book.entries.items
-    c.hand_in.new.journal.book.entries.items c.args.replicas.now.items c.in-Commit.worker
+    (step_commit (opening_in j) j.entries
+    c.hand_in.new.journal.entries c.args.replicas.now.items c.in-Commit.worker
     c.index-replica.result.now.proposals.worker c.index-replica.result.now c.hand_in.result there
     (sym c.index-replica.ensures)
     (c.requires.at.each c.in-Commit.worker c.index-replica.result.now there
-    (sym c.index-replica.ensures)).worker c.hand_in.ensures.journal c.hand_in.ensures.reply)
+    (sym c.index-replica.ensures)).worker (ap (λ j. j.entries) c.hand_in.ensures.journal) c.hand_in.ensures.reply)
 
 pub returns-in-CatchUp-clause-over : goal.returns-in-CatchUp-clause-over
 returns-in-CatchUp-clause-over g c = over_itself c.args.journal.now
+
+pub returns-in-Commit-clause-over : goal.returns-in-Commit-clause-over
+returns-in-Commit-clause-over g c =
+    over_by c.args.journal.now c.hand_in.new.journal _ c.hand_in.ensures.journal
 
 pub returns-in-Commit-clause-at : goal.returns-in-Commit-clause-at
 returns-in-Commit-clause-at g c =

@@ -1,4 +1,4 @@
-use Rattle.std.proofs.Common.{◌≡◌, ℕ, ◌<◌, ◌≤◌, sym, ◌∙◌, subst, arith}
+use Rattle.std.proofs.Common.{◌≡◌, ℕ, ◌<◌, ◌≤◌, sym, ap, ◌∙◌, subst, arith}
 use Rattle.ra_draws.specs.declared.budgets.Lots.{Lots}
 use Rattle.ra_journal.specs.Entries.{worker_count, budget}
 use Rattle.ra_journal.specs.Legal.{Whole}
@@ -11,7 +11,7 @@ pub loop-round-init : goal.loop-round-init
 loop-round-init c =
     let j = c.args.journal.now in
     record {
-      made = none_made j.lots.now j.book.entries.items (worker_count j.lots.now);
+      made = none_made j.lots j.entries (worker_count j.lots);
       played = plays_nothing j c.args.replicas.now.items c.requires.at;
     }
 
@@ -27,9 +27,9 @@ pub returns-clause-whole : goal.returns-clause-whole
 returns-clause-whole c =
     let k = c.loop-round.journal in
     let inv = c.loop-round.invariant in
-    let far : (w : ℕ) → w < worker_count k.lots.now → budget k.lots.now w ≤ c.longest-rounds.result =
+    let far : (w : ℕ) → w < worker_count k.lots → budget k.lots w ≤ c.longest-rounds.result =
     subst (λ (m : Lots). (w : ℕ) → w < worker_count m → budget m w ≤ c.longest-rounds.result)
-    (c.lots.ensures ∙ sym inv.played.over.lots) c.longest-rounds.ensures in
-    let whole = whole_by (opening_in k) k.book.entries.items c.loop-round._round
-    k.kept.legal inv.made (λ w there. omega (arith, far w there, c.loop-round-test.false)) in
-    subst (λ (m : Lots). Whole m k.book.entries.items) inv.played.over.lots whole
+    (c.lots.ensures.value ∙ sym (ap (λ j. j.lots) inv.played.over)) c.longest-rounds.ensures in
+    let whole = whole_by (opening_in k) k.entries c.loop-round._round
+    (inv.played.sound c.lots.ensures.sound).legal inv.made (λ w there. omega (arith, far w there, c.loop-round-test.false)) in
+    subst (λ (m : Lots). Whole m k.entries) (ap (λ j. j.lots) inv.played.over) whole

@@ -1,6 +1,6 @@
-use Rattle.std.proofs.Common.{◌≡◌, ℕ, ◌<◌, length, set, sym, ap₂, ◌∙◌, arith}
+use Rattle.std.proofs.Common.{◌≡◌, ℕ, ◌<◌, length, set, sym, ap, ap₂, ◌∙◌, arith}
 use Rattle.ra_worker.specs.Turns.{turn_in}
-use Rattle.ra_worker.proofs.CoreLemmas.{all_set, stand_later}
+use Rattle.ra_worker.proofs.CoreLemmas.{all_set, over_by, stand_later}
 use Rattle.ra_journal.specs.Journals.{opening_in}
 use Rattle.test_workers.proofs.PlayedLemmas.{turn_played}
 use Rattle.test_workers.proofs.rounds.take_turn.Goals as goal
@@ -12,7 +12,7 @@ returns-clause-journal c =
     let own = c.catch_up_whole.ensures.worker
     ∙ (c.requires.at.each c.args.w c.index_mut-replica.result.now there
     (sym c.index_mut-replica.ensures.value)).worker in
-    c.hand_in-reply.ensures.journal ∙ ap₂ (λ (w q : ℕ). (turn_in c.args.journal.now w q).journal) own
+    ap (λ k. k.entries) c.hand_in-reply.ensures.journal ∙ ap₂ (λ (w q : ℕ). (turn_in c.args.journal.now w q).journal) own
     c.catch_up_whole.ensures.place
 
 pub returns-clause-played : goal.returns-clause-played
@@ -25,14 +25,15 @@ returns-clause-played c =
     omega (arith, c.requires.exists, c.requires.at.one_each) in
     let here = c.requires.at.each c.args.w r there (sym c.index_mut-replica.ensures.value) in
     let own = c.catch_up_whole.ensures.worker ∙ here.worker in
-    let before = all_set (opening_in j) j.book.entries.items c.args.w
+    let before = all_set (opening_in j) j.entries c.args.w
     c.args.replicas.now.items s c.requires.at there (record { worker = own; at = c.catch_up_whole.ensures.at }) in
     record {
-      played = turn_played (opening_in j) j.book.entries.items k.book.entries.items
+      played = turn_played (opening_in j) j.entries k.entries
           c.args.replicas.now.items c.args.w s.proposals.worker r s c.requires.exists there
           (sym c.index_mut-replica.ensures.value) here.at.place c.catch_up_whole.ensures.place own
-          c.hand_in-reply.ensures.journal;
+          (ap (λ x. x.entries) c.hand_in-reply.ensures.journal);
       at = stand_later j k s.proposals.worker s.place c.hand_in-reply.result (set c.args.replicas.now.items c.args.w s)
           before c.hand_in-reply.ensures;
-      over = c.hand_in-reply.ensures.over;
+      over = over_by j k _ c.hand_in-reply.ensures.journal;
+      sound = c.hand_in-reply.ensures.sound;
     }

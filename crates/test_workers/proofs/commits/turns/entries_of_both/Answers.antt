@@ -1,4 +1,5 @@
-use Rattle.ra_worker.proofs.OpeningLemmas.{opened_is}
+use Rattle.std.proofs.Common.{ap}
+use Rattle.ra_journal.specs.Journals.{opening_in}
 use Rattle.test_workers.proofs.TurnLemmas.{are_at_journal}
 use Rattle.test_workers.proofs.commits.turns.entries_of_both.Goals as goal
 
@@ -7,5 +8,5 @@ round_robin-requires g c =
     let made = rw c.expect-journal.ensures at c.make-2.ensures in
     record {
       at = are_at_journal _ c.expect-journal.result c.expect-replicas.result.items
-          (opened_is _ _ _ _ _ made) (rw c.expect-replicas.ensures at c.make_replicas.ensures);
+          (ap (λ j. opening_in j) made) (rw c.expect-replicas.ensures at c.make_replicas.ensures);
     }
