@@ -61,7 +61,8 @@ module _ (st : Situation) where
   service_is weight most cost is weighs greatest = is ∙ ap₂ (λ w m. w * m) weighs greatest
 
 module _ {st : Situation} {parts : Parts} (sound : IsSound st) (are : parts ≡ parts_at st) where
-  total_now : parts.total ≡ cost_at st
+  -- the cost now, as its parts tell it
+  pub total_now : parts.total ≡ cost_at st
   unfolding parts_of
   total_now = ap (λ (x : Parts). x.total) are
 

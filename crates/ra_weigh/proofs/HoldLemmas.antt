@@ -20,7 +20,7 @@ use Rattle.ra_moves.specs.declared.steps.Step.{Step}
 use Rattle.ra_moves.specs.Steps.{process_in, to_in}
 use Rattle.ra_moves.specs.Replacing.{applied}
 use Rattle.ra_moves.specs.Values.{gone, come}
-use Rattle.ra_moves.proofs.ValueLemmas.{use_elsewhere}
+use Rattle.ra_model.proofs.TallyLemmas.{use_share_elsewhere}
 use Rattle.ra_moves.specs.Touched.{service_in, moves_service}
 use Rattle.ra_moves.specs.Moving.{IsMove}
 use Rattle.ra_moves.specs.Laws.{OnlyWhere, AreLocal}
@@ -81,7 +81,7 @@ module _ (i : Tables) where
     use_falls : (m r : ℕ) → IsMove i a steps → ((j : ℕ) → j < length steps → to_in steps j ≢ m) →
         use_of i (applied a steps) m r ≤ use_of i a m r
     unfolding use_of come
-    use_falls m r move apart = grind (arith, tally_applied, total_zero, use_elsewhere)
+    use_falls m r move apart = grind (arith, tally_applied, total_zero, use_share_elsewhere)
 
     -- conflict
 

@@ -27,7 +27,8 @@ use Rattle.ra_topology.specs.Lists.{service_at, services_of, is_dependant, AreDe
 use Rattle.ra_topology.specs.Fits.{IsTopologyOf}
 use Rattle.ra_weigh.specs.declared.marks.Mark.TheVariants.{InNeighbourhood}
 use Rattle.ra_weigh.specs.Marks.{marked}
-use Rattle.ra_weigh.proofs.TestLemmas.{held_if, near_is}
+use Rattle.ra_model.proofs.BrokenLemmas.{held_if}
+use Rattle.ra_weigh.proofs.TestLemmas.{near_is}
 use Rattle.ra_weigh.proofs.StepLemmas.{need_there}
 use Rattle.ra_weigh.proofs.NextLemmas.{dependant_place, dependant_at}
 use Rattle.ra_weigh.specs.Nearness.{FindsNeeds, LeavesNone, KeepNear, FindsOne, LeavesOne, StaysNear}

@@ -1,27 +1,18 @@
 -- What the values after a move say of each test.
-use Rattle.std.proofs.Common.{◌≡◌, ◌≢◌, ℕ, ◌<◌, ◌≤◌, Bool, true, false, List, Some, None, sym, arith, lt-ltb, le-ltb, eq-eqb}
-use Rattle.std.proofs.lemmas.Bool.{cond-true, cond-false, and_from, and_left, and_right, not_from_true, not_from_false}
+use Rattle.std.proofs.Common.{◌≡◌, ◌≢◌, ℕ, ◌<◌, ◌≤◌, true, false, List, Some, None, arith, lt-ltb, le-ltb, eq-eqb}
+use Rattle.std.proofs.lemmas.Bool.{and_from, and_left, and_right, not_from_true, not_from_false}
 use Rattle.ra_base.specs.declared.ids.Machine.{Machine}
-use Rattle.ra_base.specs.declared.causes.Cause.{Cause}
 use Rattle.ra_base.specs.declared.causes.Cause.TheVariants.{Capacity, Transient, Conflict, Spread, Dependency, Closed}
 use Rattle.ra_model.specs.declared.raw.Tables.{Tables}
 use Rattle.ra_model.specs.Numbers.{transient_at, capacity_of, spread_of, need_of, neighbourhood_of, closed_at, service_of}
 use Rattle.ra_model.specs.Assignments.{machine_at}
 use Rattle.ra_model.specs.Usage.{use_of, transient_of}
 use Rattle.ra_model.specs.Services.{is_of, of_service, on_machine, in_neighbourhood, locations_of, in_location}
-use Rattle.ra_model.specs.Broken.{cause_if, capacity_test, transient_test, conflict_test, spread_test, near_of, far_test, closed_test}
+use Rattle.ra_model.specs.Broken.{capacity_test, transient_test, conflict_test, spread_test, near_of, far_test, closed_test}
+use Rattle.ra_model.proofs.BrokenLemmas.{failed_if, held_if}
 use Rattle.ra_weigh.specs.declared.marks.Mark.{Mark}
 use Rattle.ra_weigh.specs.declared.marks.Mark.TheVariants.{OnMachine, InLocation, InNeighbourhood}
 use Rattle.ra_weigh.specs.Marks.{mark_of, has_mark, marked}
-
--- a test that failed, and one that held
-pub failed_if : {failed : Bool} (cause : Cause) → failed ≡ true → Some cause ≡ cause_if failed cause
-unfolding cause_if
-failed_if {failed} cause is = sym (cond-true failed (Some cause) None is)
-
-pub held_if : {failed : Bool} (cause : Cause) → failed ≡ false → None ≡ cause_if failed cause
-unfolding cause_if
-held_if {failed} cause is = sym (cond-false failed (Some cause) None is)
 
 module _ (i : Tables) (a0 : List Machine) where
   module _ (b : List Machine) (m r : ℕ) where
