@@ -19,9 +19,7 @@ use Rattle.ra_moves.specs.declared.verdicts.Verdict.{Verdict}
 use Rattle.ra_moves.specs.declared.verdicts.Weighed.{Weighed}
 use Rattle.ra_moves.specs.declared.verdicts.Verdict.TheVariants.{Done, Refused}
 use Rattle.ra_model.specs.Broken.{cause_if}
-use Rattle.ra_model.specs.Situations.{Situation, cost_at, parts_at, IsSound}
-use Rattle.ra_model.specs.Costs.{parts_of}
-use Rattle.ra_base.specs.declared.costs.Parts.{Parts}
+use Rattle.ra_model.specs.Situations.{Situation, cost_at, IsSound}
 use Rattle.ra_model.proofs.BoundLemmas.{objective_under}
 use Rattle.ra_model.proofs.BrokenLemmas.{cause_free}
 use Rattle.ra_moves.specs.Judging.{judge, broken_by, rise_test, verdict_of, IsMoveBelow}
@@ -40,15 +38,6 @@ use Rattle.ra_plan.proofs.OptionSizes.{option_few, option_some, shift_steps, lea
 
 true_is_not : true ≡ false → ⊥
 true_is_not is = absurd (cc is)
-
-module _ {w : Situation} {parts : Parts} (sound : IsSound w) (are : parts ≡ parts_at w) where
-  -- the cost now, as its parts tell it
-  pub total_is : parts.total ≡ cost_at w
-  unfolding parts_of
-  total_is = ap (λ (x : Parts). x.total) are
-
-  pub total_few : parts.total < 2 ^ 114
-  total_few = omega (arith, total_is, objective_under w.tables w.start w.here sound.well_formed sound.small)
 
 pub machines_of : {m : ℕ} {i j : Tables} → m ≡ machine_count i → i ≡ j → m ≡ machine_count j
 machines_of is same = is ∙ ap (λ (t : Tables). machine_count t) same

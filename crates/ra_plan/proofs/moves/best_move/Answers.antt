@@ -7,7 +7,7 @@ use Rattle.ra_moves.specs.Judging.{IsMoveBelow}
 use Rattle.ra_plan.proofs.OptionSizes.{option_length}
 use Rattle.ra_plan.proofs.Bests.{option_in}
 use Rattle.ra_plan.proofs.moves.best_move.Goals as goal
-use Rattle.ra_plan.proofs.Bests.{total_is, total_few}
+use Rattle.ra_weigh.proofs.CostLaws.{total_now, total_few}
 use Rattle.ra_model.specs.Situations.{cost_at}
 
 pub loop-option-init : goal.loop-option-init
@@ -21,7 +21,7 @@ loop-option-preserved g c =
     rw option (option_length _ _ _ _ _) in
     let reads = rw size at c.cost_below-found.ensures.counted in
     let most : c.parts.result.total + c.from.result + 1 ≡ cost_at world + c.args.allowed + 1 =
-    omega (arith, total_is c.divisors-by.ensures.sound c.parts.ensures.value, c.from.ensures) in
+    omega (arith, total_now c.divisors-by.ensures.sound c.parts.ensures.value, c.from.ensures) in
     record {
       best = c.or_found-best.ensures.best world _ _ c.args.allowed _ c.loop-option.invariant.best
           (option_in world _ _ _ _ _ c.divisors-by.ensures.machines option)

@@ -4,7 +4,7 @@ use Rattle.ra_moves.specs.Options.{option_count}
 use Rattle.ra_moves.proofs.OptionLemmas.{shift_named}
 use Rattle.ra_plan.proofs.Bests.{shift_in, bound_fits}
 use Rattle.ra_plan.proofs.shifts.best_in_order.Goals as goal
-use Rattle.ra_plan.proofs.Bests.{total_is, total_few}
+use Rattle.ra_weigh.proofs.CostLaws.{total_now, total_few}
 
 pub loop-option-init : goal.loop-option-init
 loop-option-init c = c.none-best.ensures _ _ _ _
@@ -53,12 +53,12 @@ with_shift-best-requires-clause-bound c =
     bound_fits world c.args.words.now c.args.drawing c.args.allowed c.loop-option.option
     _ c.loop-option.best c.divisors.ensures.sound
     c.loop-option.invariant
-    (omega (arith, total_is c.divisors.ensures.sound c.parts.ensures.value, c.from.ensures)) c.ranges.allowed.fits
+    (omega (arith, total_now c.divisors.ensures.sound c.parts.ensures.value, c.from.ensures)) c.ranges.allowed.fits
 
 pub loop-option-preserved : goal.loop-option-preserved
 loop-option-preserved c =
     let world = c.args.world.now in
     c.with_shift-best.ensures _ _ c.args.allowed
-    (omega (arith, total_is c.divisors.ensures.sound c.parts.ensures.value, c.from.ensures)) c.loop-option.invariant
+    (omega (arith, total_now c.divisors.ensures.sound c.parts.ensures.value, c.from.ensures)) c.loop-option.invariant
     (shift_in world _ _ _ _
     c.divisors.ensures.machines c.requires.shift c.requires.named c.target-to.ensures.value)

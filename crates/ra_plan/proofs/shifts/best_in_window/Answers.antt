@@ -6,7 +6,7 @@ use Rattle.ra_plan.specs.Choosing.{IsBest}
 use Rattle.ra_plan.proofs.OptionSizes.{window_count}
 use Rattle.ra_plan.proofs.Marked.{window_of}
 use Rattle.ra_plan.proofs.shifts.best_in_window.Goals as goal
-use Rattle.ra_plan.proofs.Bests.{total_is, total_few}
+use Rattle.ra_weigh.proofs.CostLaws.{total_now, total_few}
 
 pub overflow_add-most : goal.overflow_add-most
 overflow_add-most c =
@@ -39,6 +39,6 @@ returns-in-Some c =
     subst (λ n. IsBest world c.args.words.now Two c.args.allowed n c.best_marked.result)
     (sym (window_count c.args.words.now (machine_count world.tables) c.requires.shift))
     (c.best_marked.ensures c.args.words.now c.args.allowed
-    (omega (arith, total_is c.divisors.ensures.sound c.parts.ensures.value, c.from.ensures))
+    (omega (arith, total_now c.divisors.ensures.sound c.parts.ensures.value, c.from.ensures))
     (window_of world c.args.words.now c.divisors.result.now.machines.number _ _
     c.divisors.ensures.machines c.requires.shift c.requires.named c.rest-first.ensures.value))
