@@ -177,6 +177,7 @@ impl<'a> Journal<'a> {
     }
 
     /// The entry at a place, counted from 0.
+    #[inline(always)]
     pub fn entry(&self, at: u64) -> Entry
         requires { at < length self.now.entries }
         ensures value { result ≡ entry_at self.now.entries at }

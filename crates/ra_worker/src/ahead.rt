@@ -71,6 +71,7 @@ impl Ahead {
     }
 
     /// The next plan of this round, whose plan 0 is `first`.
+    #[inline(never)]
     pub(crate) fn next<'p>(&'p self, first: &'p Plan) -> &'p Plan
         requires { self.now.at ≤ 63 }
         ensures first { self.now.at ≡ 0 → result.now ≡ first.now }
