@@ -24,12 +24,14 @@ use Rattle.ra_journal.specs.States.{state, after_made, kept_cost, cost_then, cos
 use Rattle.ra_journal.specs.Best.{best_place, best_of}
 use Rattle.ra_journal.specs.Legal.{Legal, IsLegalAt}
 use Rattle.ra_journal.specs.Keeping.{IsStart, AreMadeBy, IsKept}
+use Rattle.ra_journal.specs.Quiet.{IsAfterDone, done_then}
 use Rattle.ra_journal.specs.Recording.{IsAdded, AreChangedBy, AreTouchedVersions, IsTakenIn, IsBestKept}
 use Rattle.ra_journal.specs.Openings.{Opening}
 use Rattle.ra_journal.proofs.AddedLemmas.{entries_added, state_added, kept_added, version_added}
 use Rattle.ra_journal.proofs.BestLemmas.{best_added, same_cost, best_within}
 use Rattle.ra_journal.proofs.NextLemmas.{next_legal}
 use Rattle.ra_journal.proofs.Places.{same_added}
+use Rattle.ra_journal.proofs.QuietLemmas.{done_added}
 use Rattle.ra_journal.proofs.StandingLemmas.{unbroken_if_done, done_no_repeat}
 use Rattle.ra_journal.proofs.EndLemmas.{sound_at}
 
@@ -45,6 +47,7 @@ pub record IsRecorded (i : Tables) (e : Entry) (weighed : Weighed) (before after
   pub best_at : after.best_at ≡ cond (ltb after.kept before.best_cost) (suc (length before.entries.items))
       before.best_at
   pub best_cost : after.best_cost ≡ cond (ltb after.kept before.best_cost) after.kept before.best_cost
+  pub last : after.done ≡ done_then before.done (suc (length before.entries.items)) e.verdict
 
 longer : (b c : Book) (e : Entry) → IsAdded b c e → length c.entries.items ≡ suc (length b.entries.items)
 longer b c e added = omega (arith, ap (λ xs. length xs) added.entries, length_push b.entries.items e)
@@ -108,6 +111,7 @@ record IsKeptAt (o : Opening) (g : List Entry) (n : ℕ) (f : Book) : Type 0 whe
   cost : f.kept ≡ kept_cost o g n
   best_at : f.best_at ≡ best_place o g n
   best_cost : f.best_cost ≡ cost_of_state o g f.best_at
+  done : IsAfterDone g f.done
 
 best_cost_is : (better : Bool) (o : Opening) (g : List Entry) (n p x y : ℕ) →
     x ≡ cost_of_state o g n → y ≡ cost_of_state o g p → cond better x y ≡ cost_of_state o g (cond better n p)
@@ -152,6 +156,7 @@ module _ (o : Opening) (e : Entry) (weighed : Weighed) (b f : Book) where
         best_cost = recorded.best_cost ∙ best_cost_is (ltb f.kept b.best_cost) o g (suc n) b.best_at f.kept b.best_cost
             costs (kept.best_cost ∙ same_cost o h g n b.best_at (same_added h e) there)
             ∙ ap (cost_of_state o g) (sym recorded.best_at);
+        done = done_added h e b.done f.done kept.done recorded.last;
       }
 
   pub kept_more : IsStart o → IsKept o b → IsNext o b.entries.items e weighed → IsRecorded o.tables e weighed b f →
@@ -177,4 +182,5 @@ module _ (o : Opening) (e : Entry) (weighed : Weighed) (b f : Book) where
         cost = at.cost ∙ ap₂ (kept_cost o) is long;
         best_at = at.best_at ∙ ap₂ (best_place o) is long;
         best_cost = at.best_cost ∙ ap (λ (h : List Entry). cost_of_state o h f.best_at) is;
+        done = subst (λ (h : List Entry). IsAfterDone h f.done) is at.done;
       }

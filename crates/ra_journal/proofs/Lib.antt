@@ -11,6 +11,7 @@ pub mod Offers
 pub mod StandingLemmas
 pub mod EndLemmas
 pub mod HeldLemmas
+pub mod QuietLemmas
 pub mod KeepingLemmas
 pub mod RecordingLemmas
 pub mod NewerLemmas
@@ -20,5 +21,4 @@ pub mod PackingLemmas
 pub mod SoloLemmas
 pub mod Refusals
 pub mod RisesLemmas
-pub mod QuietLemmas
 pub mod AllowedLemmas

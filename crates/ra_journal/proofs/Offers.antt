@@ -26,26 +26,13 @@ option_few Shift a x m d o = omega arith
 option_few Swap a x m d o = omega arith
 option_few Chain a x m d o = omega arith
 
--- each option has a step
-option_some : (k : MoveKind) (a : List Machine) (x : List ℕ) (m : ℕ) (d : Drawing) (o : ℕ) →
-    0 < length (option_of k a x m d o).steps
-unfolding option_of shift_of swap_of chain_of
-option_some Shift a x m d o = omega arith
-option_some Swap a x m d o = omega arith
-option_some Chain a x m d o = omega arith
-
-pub plan_some : (st : Situation) (x : List ℕ) (d : Drawing) (rise : ℕ) →
-    0 < length (plan_of st x d rise).steps
-unfolding plan_of option_at
-plan_some st x d rise = grind (arith, option_some)
-
 pub plan_offered : (st : Situation) (x : List ℕ) (d : Drawing) (rise : ℕ) → WellFormed st.tables →
     IsAssignment st.tables st.here → IsOffered st.tables st.here (plan_of st x d rise).steps
 unfolding plan_of option_at
 plan_offered st x d rise limits fits = grind (arith, option_stands, distinct_from_none, option_few, option_reaches)
 
 -- a machine that a step leaves is an end of the move
-pub left_is_end : (steps : List Step) (j : ℕ) → j < length steps → touches_machine steps (from_in steps j) ≡ true
+left_is_end : (steps : List Step) (j : ℕ) → j < length steps → touches_machine steps (from_in steps j) ≡ true
 unfolding touches_machine
 left_is_end steps j within = or_left _ _ (is_named_at (length steps) j (from_in steps) (from_in steps j) within refl)
 

@@ -28,6 +28,7 @@ use Rattle.ra_journal.specs.Legal.{Legal}
 use Rattle.ra_journal.specs.Committing.{next_number, newer_since, IsCommit}
 use Rattle.ra_journal.specs.Keeping.{IsStart, IsKept}
 use Rattle.ra_journal.specs.Packing.{IsSmall}
+use Rattle.ra_journal.specs.Quiet.{done_then}
 use Rattle.ra_journal.specs.SmallSteps.{AreSmallSteps}
 use Rattle.ra_journal.specs.Recording.{AreChangesOf, AreChangedBy, AreTouchedVersions, IsTakenIn}
 use Rattle.ra_journal.specs.Openings.{Opening}
@@ -50,13 +51,13 @@ module _ (i : Tables) (steps : List Step) where
   pub taken_done : (weighed : Weighed) (verdict : Verdict) (cost number : ℕ) (before after : Book) → verdict ≡ Done cost → after.entries ≡ before.entries → after.made ≡ before.made →
       number ≡ length before.entries.items → AreTouchedVersions i (Some steps) number before.versions after.versions →
       AreChangedBy i steps weighed before.greatest after.greatest → after.kept ≡ cost → after.best_at ≡ before.best_at →
-      after.best_cost ≡ before.best_cost → IsTakenIn i steps weighed verdict before after
-  unfolding steps_made cost_then
-  taken_done weighed verdict cost number before after is entries made long versions put kept best_at best_cost = grind arith
+      after.best_cost ≡ before.best_cost → after.done ≡ number → IsTakenIn i steps weighed verdict before after
+  unfolding steps_made cost_then done_then
+  taken_done weighed verdict cost number before after is entries made long versions put kept best_at best_cost last = grind arith
 
   pub taken_refused : (weighed : Weighed) (verdict : Verdict) (cause : Cause) (before : Book) → verdict ≡ Refused cause → IsTableOf i before.versions →
       IsTakenIn i steps weighed verdict before before
-  unfolding steps_made cost_then
+  unfolding steps_made cost_then done_then
   taken_refused weighed verdict cause before is sized = rw is (record {
     entries = refl;
     made = refl;
@@ -66,6 +67,7 @@ module _ (i : Tables) (steps : List Step) where
     kept = refl;
     best_at = refl;
     best_cost = refl;
+    last = refl;
   })
 
 module _ (o : Opening) where

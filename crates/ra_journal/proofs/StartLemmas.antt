@@ -25,7 +25,7 @@ pub kept_start : (o : Opening) (book : Book) → book.entries.items ≡ [] → b
     AreZero (machine_count o.tables) (service_count o.tables) book.versions →
     book.greatest.counts ≡ replicate (service_count o.tables) 0 → book.greatest.limit ≡ process_count o.tables →
     book.made ≡ replicate 16 0 → book.kept ≡ objective o.tables o.start o.start → book.best_at ≡ 0 →
-    book.best_cost ≡ objective o.tables o.start o.start →
+    book.best_cost ≡ objective o.tables o.start o.start → book.done ≡ 0 →
     IsKept o book
 unfolding state kept_cost cost_of_state best_of
-kept_start o book entries room zero_versions counts limit made kept best_at best_cost = grind (arith, version_few, length-replicate, get_or-replicate, moved_none, worker_below, none_made, best_start)
+kept_start o book entries room zero_versions counts limit made kept best_at best_cost done = grind (arith, version_few, length-replicate, get_or-replicate, moved_none, worker_below, none_made, best_start)

@@ -15,6 +15,7 @@ use Rattle.ra_journal.specs.States.{kept_cost, cost_of_state, state_at}
 use Rattle.ra_journal.specs.Best.{best_of}
 use Rattle.ra_journal.specs.Legal.{Legal}
 use Rattle.ra_journal.specs.Openings.{Opening}
+use Rattle.ra_journal.specs.Quiet.{IsAfterDone}
 
 -- the initial list is an assignment of a well formed instance, and breaks nothing
 pub record IsStart (o : Opening) : Type 0 where
@@ -40,6 +41,7 @@ pub record IsKept (o : Opening) (book : Book) : Type 0 where
   pub cost : book.kept ≡ kept_cost o book.entries.items (length book.entries.items)
   pub best_at : book.best_at ≡ best_of o book.entries.items
   pub best_cost : book.best_cost ≡ cost_of_state o book.entries.items book.best_at
+  pub done : IsAfterDone book.entries.items book.done
 
 -- all that a journal has: its topology is that of its instance, and its book keeps what it is to keep
 pub record IsKeptJournal (o : Opening) (topo : TopologyLists) (book : Book) : Type 0 where

@@ -27,6 +27,7 @@ use Rattle.ra_journal.specs.declared.replies.Reply.TheVariants.{Recorded}
 use Rattle.ra_journal.specs.Committing.{newer_since, next_entry, IsCommit}
 use Rattle.ra_journal.specs.Entries.{steps_made}
 use Rattle.ra_journal.specs.Keeping.{IsKept}
+use Rattle.ra_journal.specs.Quiet.{done_then}
 use Rattle.ra_journal.specs.States.{cost_then}
 use Rattle.ra_journal.specs.Openings.{Opening}
 
@@ -56,6 +57,7 @@ pub record IsAdded (before after : Book) (e : Entry) : Type 0 where
   pub kept : after.kept ≡ before.kept
   pub best_at : after.best_at ≡ before.best_at
   pub best_cost : after.best_cost ≡ before.best_cost
+  pub done : after.done ≡ before.done
 
 -- the moved counts of a weighing are changes of these
 pub record AreChangesOf (moved : MovedCounts) (weighed : Weighed) : Type 0 where
@@ -78,7 +80,8 @@ pub record AreTouchedVersions (i : Tables) (made : Option (List Step)) (number :
   pub each : (g : Guard)
       → version_in after g ≡ (if touches i made g then number else version_in before g)
 
--- the last entry of a book, which has these steps and this verdict, is taken into its versions, moved counts and cost
+-- the last entry of a book, which has these steps and this verdict, is taken into its versions, moved counts, cost and
+-- place of what was done last
 pub record IsTakenIn (i : Tables) (steps : List Step) (weighed : Weighed) (verdict : Verdict)
     (before after : Book) : Type 0 where
   pub entries : after.entries ≡ before.entries
@@ -92,6 +95,7 @@ pub record IsTakenIn (i : Tables) (steps : List Step) (weighed : Weighed) (verdi
   pub kept : after.kept ≡ cost_then before.kept verdict
   pub best_at : after.best_at ≡ before.best_at
   pub best_cost : after.best_cost ≡ before.best_cost
+  pub last : after.done ≡ done_then before.done (length before.entries.items) verdict
 
 -- the state after all entries becomes the best one if it costs less than the best so far
 pub record IsBestKept (before after : Book) : Type 0 where
@@ -106,3 +110,4 @@ pub record IsBestKept (before after : Book) : Type 0 where
   pub best_cost :
       after.best_cost ≡
       (if nat_lt before.kept before.best_cost then before.kept else before.best_cost)
+  pub done : after.done ≡ before.done

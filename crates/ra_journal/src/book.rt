@@ -18,6 +18,8 @@ pub(crate) struct Book {
     pub(crate) best_at: u64,
     /// The cost of the state at that place.
     pub(crate) best_cost: u128,
+    /// One more than the place of the last entry that is done, and 0 if none is.
+    pub(crate) done: u64,
 }
 
 /// Frees all lists in one call, so that the end of an owner is short to prove.
@@ -31,6 +33,7 @@ impl Drop for Book {
             made: _,
             best_at: _,
             best_cost: _,
+            done: _,
         } = self;
     }
 }

@@ -47,7 +47,8 @@ impl<'a> Model for Journal<'a> {
 }
 
 impl<'a> Journal<'a> {
-    ghost use Rattle.std.specs.Prelude.{◌≡◌, ◌-◌, ◌<◌, ◌≤◌, true, min, [], length, option_copied, IfSome, IfOk};
+    ghost use Rattle.std.specs.Bool.{Decides};
+    ghost use Rattle.std.specs.Prelude.{◌≡◌, ◌-◌, ◌<◌, ◌≤◌, min, [], length, option_copied, IfSome, IfOk};
     ghost use Rattle.ra_journal.specs.Batches.{batch_from};
     ghost use Rattle.ra_journal.specs.Best.{best_of};
     ghost use Rattle.ra_journal.specs.Committing.{AreHeld};
@@ -80,6 +81,7 @@ impl<'a> Journal<'a> {
             made: [0; 16],
             best_at: 0,
             best_cost: start.total,
+            done: 0,
         };
         Ok(Journal {
             inst,
@@ -150,12 +152,11 @@ impl<'a> Journal<'a> {
         }
     }
 
-    /// Whether it is known at once that all entries from a place on are refused, so that the state there equals the
-    /// state after all entries.
+    /// Whether all entries from a place on are refused, so that the state there equals the state after all entries.
     pub fn is_quiet_from(&self, at: u64) -> bool
-        ensures { result ≡ true → AreRefused self.now.entries at (length self.now.entries) }
+        ensures { Decides result (AreRefused self.now.entries at (length self.now.entries)) }
     {
-        self.book.versions.is_at_most(at)
+        self.book.done <= at
     }
 
     /// Fills a batch with the entries from a place on, as many as it has room for, and gives their number.

@@ -94,7 +94,8 @@ fn add(book: &mut Book, entry: &Entry)
     book.entries.push(entry);
 }
 
-/// Takes the last entry, which is this plan's and has this verdict, into the versions, the moved counts and the cost.
+/// Takes the last entry, which is this plan's and has this verdict, into the versions, the moved counts, the cost and
+/// the place of what was done last.
 fn take_in(
     inst: &Instance,
     topo: &Topology,
@@ -116,6 +117,7 @@ fn take_in(
             touch(inst, topo, &mut book.versions, &plan.mv, held, version);
             change_counts(&mut book.greatest, &plan.weighed);
             book.kept = *cost;
+            book.done = version;
         }
         Verdict::Refused { .. } => {}
     }

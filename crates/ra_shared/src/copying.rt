@@ -15,7 +15,7 @@ pub(crate) trait Copying {
         ensures { copied self.new journal.now.entries place };
 }
 
-/// A batch takes the entries from the place on, or none if it is known at once that all of them are refused.
+/// A batch takes the entries from the place on, or none if all of them are refused.
 impl Copying for Batch {
     ghost copied = { λ batch seen place. CopiesUnlessQuiet place seen batch };
 

@@ -111,8 +111,7 @@ impl<'a> Shared<'a> {
     }
 
     /// Hands in a plan as `commit` does, and in that turn fills the batch with the entries from the plan's place on.
-    /// The batch is empty if all of these are known at once to be refused: they change nothing, so the worker may skip
-    /// them.
+    /// The batch is empty if all of these are refused: they change nothing, so the worker may skip them.
     pub fn commit_and_copy<R: Wait>(
         &self,
         rt: &R,

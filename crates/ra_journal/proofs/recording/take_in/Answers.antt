@@ -10,7 +10,7 @@ returns-in-Done c = taken_done c.args.inst.now.tables c.args.plan.now.mv.steps c
       each = λ a0 a moves unbroken weighed before.
           c.change_counts.ensures.counts (situation c.args.inst.now.tables a0 a) c.args.plan.now.mv.steps moves unbroken
           weighed before;
-    }) refl refl refl
+    }) refl refl refl refl
 
 pub returns-in-Refused : goal.returns-in-Refused
 returns-in-Refused c = taken_refused c.args.inst.now.tables c.args.plan.now.mv.steps c.args.plan.now.weighed

@@ -21,7 +21,7 @@ invariant_of-result c =
       start = record { limits = c.args.inst.now.well_formed; fits = c.requires.fits; unbroken = c.requires.unbroken };
       kept = kept_start (opening i c.args.a0.now.items c.args.lots.now) _ c.in_ok-entries.ensures.items
           (c.in_ok-entries.ensures.room ∙ c.proposals.ensures.value) zero_versions c.in_ok-greatest.ensures.counts
-          c.in_ok-greatest.ensures.limit refl cost refl cost;
+          c.in_ok-greatest.ensures.limit refl cost refl cost refl;
     }
 
 pub returns : goal.returns
