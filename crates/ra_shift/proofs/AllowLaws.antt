@@ -1,14 +1,14 @@
 -- A shift is refused for no cause exactly if its conditions are met.
-use Rattle.std.proofs.Common.{◌≡◌, ◌≢◌, ◌↔◌, ℕ, ◌<◌, true, false, List, [], ◌∷◌, None, eqb, sym, refl, ap, ◌∙◌, arith, eq-eqb, ne_eqb}
+use Rattle.std.proofs.Common.{◌≡◌, ◌≢◌, ◌↔◌, ℕ, ◌<◌, true, false, List, [], ◌∷◌, None, eqb, refl, arith, eq-eqb, ne_eqb}
 use Rattle.std.proofs.lemmas.Bool.{both_ways, false≢true}
 use Rattle.ra_base.specs.Searches.{or_else, first}
 use Rattle.ra_base.specs.Sums.{is_named}
 use Rattle.ra_base.specs.declared.ids.Machine.{Machine}
 use Rattle.ra_base.proofs.Searches.{left_none, right_none, both_none, first_none_at}
-use Rattle.ra_model.specs.Numbers.{machine_count, process_count, service_of, closed_at}
+use Rattle.ra_model.specs.Numbers.{machine_count, process_count}
 use Rattle.ra_model.specs.Limits.{WellFormed, Small}
 use Rattle.ra_model.specs.Assignments.{IsAssignment, machine_at}
-use Rattle.ra_model.specs.Broken.{cause_if, first_broken}
+use Rattle.ra_model.specs.Broken.{cause_if}
 use Rattle.ra_model.specs.Situations.{Situation, broken_at, IsFeasible, IsSound}
 use Rattle.ra_model.proofs.TallyLemmas.{fits_set}
 use Rattle.ra_model.proofs.BrokenLemmas.{cause_none, cause_free, feasible_from_unbroken, unbroken_from_feasible}

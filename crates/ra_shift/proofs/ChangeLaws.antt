@@ -1,5 +1,5 @@
 -- What a shift changes: the costs of its two machines, those of its own way, and how many processes have moved.
-use Rattle.std.proofs.Common.{◌≡◌, ℕ, ℤ, Bool, pos, ◌+◌, ◌-◌, ◌^◌, ◌<◌, ◌≤◌, ◌-ℤ◌, true, false, cond, eqb, not, List, [], ◌∷◌, None, Some, refl, ap, ap₂, sym, ◌∙◌, arith}
+use Rattle.std.proofs.Common.{◌≡◌, ℕ, ℤ, Bool, pos, ◌+◌, ◌-◌, ◌^◌, ◌<◌, ◌≤◌, ◌-ℤ◌, true, false, cond, eqb, not, List, [], ◌∷◌, None, Some, refl, sym, arith}
 use Rattle.std.proofs.lemmas.Int.{ints}
 use Rattle.ra_base.specs.Sums.{one_if, is_named}
 use Rattle.ra_base.specs.declared.costs.MovedCount.{MovedCount}
@@ -20,7 +20,6 @@ use Rattle.ra_cells.specs.Marks.{away}
 use Rattle.ra_world.proofs.CostLaws.{process_set, machine_set}
 use Rattle.ra_world.proofs.RenewalLaws.{load_stays, balance_stays}
 use Rattle.ra_moves.specs.Steps.{process_in, step_at}
-use Rattle.ra_moves.specs.Replacing.{applied}
 use Rattle.ra_moves.specs.Judging.{broken_by}
 use Rattle.ra_moves.specs.Options.{leaving}
 use Rattle.ra_moves.specs.Touched.{service_in}

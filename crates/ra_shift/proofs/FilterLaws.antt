@@ -1,13 +1,11 @@
 -- The filter's sum is the change of the cost.
-use Rattle.std.proofs.Common.{◌≡◌, ◌≢◌, ℕ, ◌+◌, ◌-◌, ◌*◌, ◌<◌, ◌≤◌, Option, Some, None, eqb, not, List, refl, ap, ap₂, sym, ◌∙◌, ⊎_elim, arith, eq-eqb, ne_eqb, mul-le-mul_left}
+use Rattle.std.proofs.Common.{◌≡◌, ◌≢◌, ℕ, ◌+◌, ◌-◌, ◌*◌, ◌^◌, ◌<◌, ◌≤◌, Option, Some, None, List, refl, ap, ap₂, sym, ◌∙◌, arith, eq-eqb, ne_eqb, mul-le-mul_left}
 use Rattle.std.proofs.Math.Nat.{mul-sub}
-use Rattle.std.proofs.lemmas.Bool.{cases_eq, cond-true, cond-false}
-use Rattle.ra_base.specs.Sums.{one_if}
 use Rattle.ra_base.specs.declared.ids.Machine.{Machine}
 use Rattle.ra_base.proofs.Sums.{total_balance, total_of_sum, total_same}
 use Rattle.ra_base.proofs.Greatest.{greatest_same}
 use Rattle.ra_model.specs.declared.raw.Tables.{Tables}
-use Rattle.ra_model.specs.Numbers.{resource_count, machine_count, service_count, process_count, balance_count, service_of, requirement_of, safety_of, first_of, second_of, target_of, load_weight_of, balance_weight_of, process_weight_of, process_cost_of, machine_weight_of, way_cost_of, service_weight_of}
+use Rattle.ra_model.specs.Numbers.{resource_count, machine_count, process_count, balance_count, service_of, requirement_of, first_of, second_of, target_of, balance_weight_of, process_weight_of, process_cost_of, machine_weight_of, way_cost_of}
 use Rattle.ra_model.specs.Limits.{WellFormed}
 use Rattle.ra_model.specs.Assignments.{IsAssignment, machine_at}
 use Rattle.ra_model.specs.Usage.{use_of}
@@ -15,11 +13,12 @@ use Rattle.ra_model.specs.Services.{moved_of}
 use Rattle.ra_model.specs.Costs.{available, process_share, way_share, service_cost, objective}
 use Rattle.ra_model.specs.MachineCosts.{load_share, row_load, row_left, balance_share, row_balance, machine_load, machine_balance}
 use Rattle.ra_model.specs.Situations.{Situation, cost_at, moved_at, service_cost_at, IsSound}
-use Rattle.ra_model.proofs.BoundLemmas.{moved_within}
+use Rattle.ra_model.proofs.BoundLemmas.{moved_within, objective_under}
 use Rattle.ra_cells.specs.Marks.{away}
+use Rattle.ra_moves.specs.Replacing.{after_move}
 use Rattle.ra_moves.specs.Weighing.{local_cost}
 use Rattle.ra_rows.specs.FilterRows.{load_asked, load_row, first_asked, first_row, second_asked, second_row}
-use Rattle.ra_shift.specs.Arriving.{BreaksNothing, cost_after, service_now, cost_added, cost_taken, sum_at, IsCostBelow, IsSumBelow}
+use Rattle.ra_shift.specs.Arriving.{steps_to, room_below, BreaksNothing, cost_after, service_now, cost_added, cost_taken, sum_at, IsCostBelow, IsSumBelow}
 use Rattle.ra_shift.specs.Conditions.{shifted, HasRoom}
 use Rattle.ra_shift.specs.Sharing.{use_without, use_with, row_cost_with, cost_of, way_cost}
 use Rattle.ra_shift.specs.Filter.{load_above, balance_above, saved, filter_sum, moved_away, service_away, base_added, base_taken, IsFiltered}
@@ -234,13 +233,22 @@ module _ (w : Situation) (p to : ℕ) where
   pub broken_cost : (bound : ℕ) → (BreaksNothing w p to → ⊥) → IsCostBelow w p to bound None
   broken_cost bound broken = grind arith
 
-  -- one that adds a sum below what is left has that cost
-  pub summed_cost : (bound taken added room n : ℕ) (sum : Option ℕ) → IsSound w →
-      p < process_count w.tables → to < machine_count w.tables → machine_at w.start p ≢ to →
-      taken ≡ cost_taken w p → added ≡ cost_added w p → room ≡ bound + taken - added → IsSumBelow w p to room sum →
-      sum ≡ Some n → BreaksNothing w p to → (taken ≤ added + n) × IsCostBelow w p to bound (Some (added + n - taken))
-  summed_cost bound taken added room n sum sound known reach apart taken_is added_is room_is sums sum_is free =
-      grind (arith, filtered_at)
+  module _ (taken added n : ℕ) (sound : IsSound w) (known : p < process_count w.tables)
+      (reach : to < machine_count w.tables) (apart : machine_at w.start p ≢ to) (taken_is : taken ≡ cost_taken w p)
+      (added_is : added ≡ cost_added w p) (n_is : n ≡ sum_at w p to) (free : BreaksNothing w p to) where
+    -- one that adds a sum has the cost that follows
+    pub cost_summed : added + n ≡ cost_after w p to + taken
+    cost_summed = omega (arith, filtered_at sound known reach free apart, taken_is, added_is, n_is)
+
+    pub summed_few : added + n < 2 ^ 114 + taken
+    summed_few = omega (
+      arith,
+      cost_summed,
+      objective_under w.tables w.start (after_move w (steps_to w p to)).here sound.well_formed sound.small,
+    )
+
+    pub summed_below : (bound : ℕ) → n < room_below w p bound → IsCostBelow w p to bound (Some (added + n - taken))
+    summed_below bound low = grind (arith, cost_summed)
 
   pub sum_some : (bound sum : ℕ) → sum < bound → sum ≡ sum_at w p to →
       IsSumBelow w p to bound (Some sum)

@@ -1,6 +1,5 @@
 -- The filter's amounts from the numbers that are read for them.
-use Rattle.std.proofs.Common.{◌≡◌, ◌≢◌, ℕ, ◌+◌, ◌-◌, ◌*◌, ◌<◌, List, length, slice_index, Some, None, cond, eqb, ap, ap₂, sym, refl, ◌∙◌, ⊎_elim, arith, eq-eqb, ne_eqb}
-use Rattle.std.proofs.lemmas.Bool.{cases_eq, cond-true, cond-false}
+use Rattle.std.proofs.Common.{◌≡◌, ◌≢◌, ℕ, ◌+◌, ◌-◌, ◌*◌, ◌<◌, List, length, slice_index, Some, None, refl, arith, eq-eqb}
 use Rattle.std.proofs.Math.Nat.{mul-sub}
 use Rattle.ra_base.specs.declared.ids.Machine.{Machine}
 use Rattle.ra_model.specs.declared.raw.BalanceRow.{BalanceRow}

@@ -1,5 +1,5 @@
 -- What the operations on sixteen numbers side by side hold at each lane.
-use Rattle.std.proofs.Common.{◌≡◌, ◌↔◌, ℕ, zero, suc, ◌+◌, ◌-◌, ◌*◌, ◌%◌, ◌^◌, ◌<◌, ◌≤◌, List, [], ◌∷◌, Bool, true, false, min, cond, leb, ltb, length, get_or, map, replicate, refl, sym, ap, ap₂, subst, ◌∙◌, ⊎_elim, arith, w32, Fits}
+use Rattle.std.proofs.Common.{◌≡◌, ◌↔◌, ℕ, zero, suc, ◌+◌, ◌-◌, ◌*◌, ◌%◌, ◌^◌, ◌<◌, ◌≤◌, List, [], ◌∷◌, Bool, true, false, min, cond, leb, ltb, length, get_or, map, replicate, refl, sym, ap, ap₂, ◌∙◌, ⊎_elim, arith, w32, Fits}
 use Rattle.std.specs.Int.{bit_at}
 use Rattle.std.specs.Simd.Lanes.{zip2, sel_l, mask_l, top, chunk, Each1}
 use Rattle.std.proofs.lemmas.Simd.{length-zip2, get_or-zip2, get_or-replicate, length-sel_l, get_or-sel_l, bit_mask_l, tops_compared, mask_l-lt, get_or-chunk, Each1-get_or}

@@ -1,5 +1,5 @@
 -- Places of a ring.
-use Rattle.std.proofs.Common.{◌≡◌, ℕ, ◌+◌, ◌*◌, ◌/◌, ◌%◌, ◌<◌, ◌≤◌, List, length, get_or, take, drop, sym, ap, subst, ◌∙◌, arith}
+use Rattle.std.proofs.Common.{◌≡◌, ℕ, ◌+◌, ◌*◌, ◌/◌, ◌%◌, ◌<◌, ◌≤◌, List, length, take, drop, ap, ◌∙◌, arith}
 use Rattle.std.proofs.Math.Nat.{mod-add-div', mod-eq_of_lt}
 use Rattle.std.proofs.lemmas.Simd.{length-chunk, get_or-chunk}
 use Rattle.ra_shift.specs.Windows.{IsRingPart}

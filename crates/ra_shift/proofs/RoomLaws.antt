@@ -1,6 +1,6 @@
 -- Where one process goes to another machine: use and transient use of that machine and of the others.
-use Rattle.std.proofs.Common.{◌≡◌, ◌≢◌, ℕ, ◌+◌, ◌<◌, ◌≤◌, IsTrue, List, eqb, refl, sym, ⊎_elim, arith, eq-eqb, ne_eqb}
-use Rattle.std.proofs.lemmas.Bool.{cond-true, cond-false, cases_eq, or_left, or_right, or_from}
+use Rattle.std.proofs.Common.{◌≡◌, ◌≢◌, ℕ, ◌+◌, ◌<◌, ◌≤◌, IsTrue, List, eqb, refl, arith, eq-eqb}
+use Rattle.std.proofs.lemmas.Bool.{cond-true, or_left, or_right, or_from}
 use Rattle.std.proofs.Common.{◌↔◌, Bool, true, false, not, Option, Some, None, IfSome, IfNone, is_some}
 use Rattle.ra_base.specs.declared.causes.Cause.{Cause}
 use Rattle.ra_base.specs.declared.ids.Machine.{Machine}

@@ -1,4 +1,4 @@
-ghost use Rattle.std.specs.Prelude.{◌≡◌, ◌≢◌, ◌+◌, ◌*◌, ◌^◌, ◌<◌, ◌≤◌, ◌↔◌, ◌-◌, None, Some, IfSome, true, false};
+ghost use Rattle.std.specs.Prelude.{◌≡◌, ◌≢◌, ℕ, ◌+◌, ◌*◌, ◌^◌, ◌<◌, ◌≤◌, ◌↔◌, ◌-◌, None, Some, IfSome, true, false};
 ghost use Rattle.ra_model.specs.Numbers.{resource_count, machine_count, process_count, service_of, transient_at, capacity_of, service_count, process_weight_of, process_cost_of};
 ghost use Rattle.ra_shift.specs.Filter.{service_away};
 ghost use Rattle.ra_model.specs.Assignments.{machine_at};
@@ -147,7 +147,8 @@ impl<'w, 'a> Shift<'w, 'a> {
         self.is_admitted(to)
     }
 
-    /// The cost after the shift to a machine, if it breaks nothing and costs less than a bound.
+    /// The cost after the shift to a machine, if it breaks nothing and costs less than a bound. What the machine adds is
+    /// found before the search for a broken constraint.
     #[inline(always)]
     pub fn cost_below(&self, to: Machine, bound: u128) -> Option<u128>
         requires machine { to.0 < machine_count self.now.world.now.tables }
@@ -155,26 +156,11 @@ impl<'w, 'a> Shift<'w, 'a> {
         ensures { IsCostBelow self.now.world.now self.now.process.0 to.0 bound result }
     {
         if to.0 != self.home.0 {
-            self.cost_away(to, bound)
+            let sum = self.sum_below(to, self.room_below(bound))?;
+            self.cost_adding(to, sum, &mut None)
         } else {
             self.cost_home(to, bound)
         }
-    }
-
-    /// The cost after the shift to a machine other than the initial one, if it breaks nothing and costs less than a
-    /// bound. What the machine adds is known before the search for a broken constraint.
-    #[inline(always)]
-    fn cost_away(&self, to: Machine, bound: u128) -> Option<u128>
-        requires machine { to.0 < machine_count self.now.world.now.tables }
-        requires bound { bound ≤ 2 ^ 120 }
-        requires apart { to.0 ≢ self.now.home.0 }
-        ensures { IsCostBelow self.now.world.now self.now.process.0 to.0 bound result }
-    {
-        let sum = self.sum_below(to, self.room_below(bound))?;
-        if !self.fits(to, &mut None) {
-            return None;
-        }
-        Some(self.added + sum - self.taken)
     }
 
     /// The cost after the shift to a machine, if it breaks nothing and costs less than a bound. What the machine adds
@@ -205,6 +191,21 @@ impl<'w, 'a> Shift<'w, 'a> {
         if sum >= room {
             return None;
         }
+        self.cost_adding(to, sum, lacking)
+    }
+
+    /// The cost after the shift to a machine other than the initial one, if it breaks nothing. It is below each bound
+    /// that leaves room for what the machine adds.
+    #[inline(always)]
+    fn cost_adding(&self, to: Machine, sum: u128, lacking: &mut Option<u32>) -> Option<u128>
+        requires machine { to.0 < machine_count self.now.world.now.tables }
+        requires apart { to.0 ≢ self.now.home.0 }
+        requires sum { sum ≡ sum_at self.now.world.now self.now.process.0 to.0 }
+        requires lacking { Lacks self.now.world.now self.now.process.0 lacking.old }
+        ensures below { (bound : ℕ) → sum < room_below self.now.world.now self.now.process.0 bound
+            → IsCostBelow self.now.world.now self.now.process.0 to.0 bound result }
+        ensures lacking { Lacks self.now.world.now self.now.process.0 lacking.new }
+    {
         if !self.fits(to, lacking) {
             return None;
         }

@@ -1,5 +1,4 @@
 use Rattle.std.proofs.Common.{◌≡◌, ◌+◌, ◌^◌, ◌<◌, get_or, ap, ◌∙◌, arith, inl}
-use Rattle.ra_shift.specs.declared.blocks.Term.{Term}
 use Rattle.ra_shift.specs.Windows.{lacking}
 use Rattle.ra_shift.proofs.blocks.block.Goals as goal
 use Rattle.ra_shift.proofs.SumLemmas.{lacking_within, lacking_from, lacking_past, next_sum}

@@ -1,6 +1,5 @@
 -- The costs of the row that was made.
 use Rattle.std.proofs.Common.{◌∙◌, ap, slice_index}
-use Rattle.ra_model.specs.declared.raw.Tables.{Tables}
 use Rattle.ra_shift.specs.Sharing.{row_cost_with, use_without}
 use Rattle.ra_shift.proofs.ChangeLaws.{row_cost_same}
 use Rattle.ra_shift.proofs.costs.cost_without.Goals as goal

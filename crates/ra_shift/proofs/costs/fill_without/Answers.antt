@@ -1,7 +1,6 @@
 -- One more number, and what the numbers are.
 use Rattle.std.proofs.Common.{◌∙◌, ◌-◌, ap, length-set, slice_index, arith, rules}
 use Rattle.ra_model.specs.Numbers.{resource_count}
-use Rattle.ra_model.specs.declared.raw.Tables.{Tables}
 use Rattle.ra_shift.proofs.ReadLaws.{filled_more, used_without, used_covers}
 use Rattle.ra_shift.proofs.costs.fill_without.Goals as goal
 

@@ -3,7 +3,6 @@ use Rattle.std.proofs.Common.{◌≡◌, ◌∙◌, ◌+◌, ◌-◌, ap, sym, a
 use Rattle.ra_base.specs.Sums.{total}
 use Rattle.ra_base.proofs.Sums.{total_none}
 use Rattle.ra_model.specs.Numbers.{balance_count}
-use Rattle.ra_model.specs.declared.raw.Tables.{Tables}
 use Rattle.ra_rows.specs.FilterRows.{first_asked, first_row, second_asked, second_row}
 use Rattle.ra_shift.specs.Filter.{balance_above}
 use Rattle.ra_shift.proofs.FilterReads.{more_sum, row_in}

@@ -1,5 +1,5 @@
 -- The numbers are those of the resource.
-use Rattle.std.proofs.Common.{◌∙◌, ◌*◌, ◌-◌, ap, ℕ}
+use Rattle.std.proofs.Common.{◌∙◌, ◌*◌, ◌-◌, ap}
 use Rattle.ra_shift.proofs.FilterReads.{load_more_is}
 use Rattle.ra_shift.proofs.filter.load_more.Goals as goal
 

@@ -2,8 +2,6 @@
 use Rattle.std.proofs.Common.{◌∙◌, ◌*◌, Some, None, ap, ap₂}
 use Rattle.ra_base.specs.declared.costs.MovedCount.{MovedCount}
 use Rattle.ra_model.specs.Numbers.{service_count, service_weight_of}
-use Rattle.ra_model.specs.declared.raw.Tables.{Tables}
-use Rattle.ra_cells.specs.MovedCounts.{MovedCounts}
 use Rattle.ra_cells.specs.Replaced.{greatest_with}
 use Rattle.ra_shift.proofs.FilterReads.{with_one}
 use Rattle.ra_shift.proofs.filter.service_with.Goals as goal

@@ -1,4 +1,4 @@
-use Rattle.std.proofs.Common.{ap, get_or, ◌+◌, ◌%◌, ◌^◌, arith}
+use Rattle.std.proofs.Common.{◌+◌, ◌%◌, ◌^◌, arith}
 use Rattle.ra_shift.proofs.LaneLemmas.{HasLanes-zip2, HasLanes-lacking}
 use Rattle.ra_shift.proofs.lanes.add_lacking.Goals as goal
 

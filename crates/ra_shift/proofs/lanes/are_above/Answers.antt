@@ -1,4 +1,4 @@
-use Rattle.std.proofs.Common.{◌↔◌, ◌<◌, ℕ, get_or, IsTrue, eqb, leb, sym, subst, arith, eq-eqb, w32}
+use Rattle.std.proofs.Common.{leb, arith, eq-eqb, w32}
 use Rattle.std.proofs.lemmas.Bool.{eqb-true}
 use Rattle.std.proofs.lemmas.Simd.{bitmask_splat}
 use Rattle.ra_shift.proofs.LaneLemmas.{above_from_none, none_from_above}

@@ -1,5 +1,4 @@
-use Rattle.std.proofs.Common.{◌≡◌, ◌↔◌, ◌≤◌, ◌<◌, ◌^◌, get_or, leb, sym, subst, arith, w32}
-use Rattle.std.specs.Int.{bit_at}
+use Rattle.std.proofs.Common.{leb, arith, w32}
 use Rattle.std.proofs.lemmas.Simd.{bitmask_splat}
 use Rattle.ra_shift.proofs.LaneLemmas.{bit_at-mask_l, mask_below}
 use Rattle.ra_shift.proofs.lanes.small_lanes.Goals as goal

@@ -1,4 +1,4 @@
-use Rattle.std.proofs.Common.{replicate, refl, get_or, ap, ◌*◌, ◌%◌, ◌^◌}
+use Rattle.std.proofs.Common.{replicate, refl, ◌*◌, ◌%◌, ◌^◌}
 use Rattle.std.proofs.lemmas.Simd.{get_or-replicate}
 use Rattle.ra_shift.proofs.LaneLemmas.{HasLanes-zip2}
 use Rattle.ra_shift.proofs.lanes.weigh.Goals as goal

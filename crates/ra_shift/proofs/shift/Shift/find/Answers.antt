@@ -1,5 +1,5 @@
 -- The first test that fails gives the cause, and a shift that passes all of them breaks nothing.
-use Rattle.std.proofs.Common.{◌≢◌, ◌∙◌, ℕ, ◌<◌, ◌≤◌, Some, ap, ap₂, sym, arith}
+use Rattle.std.proofs.Common.{◌≢◌, ◌∙◌, ◌<◌, ◌≤◌, Some, ap, ap₂, sym, arith}
 use Rattle.std.proofs.lemmas.Bool.{both_ways}
 use Rattle.ra_base.specs.declared.causes.Cause.TheVariants.{Conflict, Spread}
 use Rattle.ra_model.specs.Numbers.{service_of, spread_of}

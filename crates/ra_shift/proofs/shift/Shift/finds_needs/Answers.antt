@@ -2,7 +2,6 @@
 use Rattle.std.proofs.Common.{◌≢◌, ℕ, ◌<◌, ◌∙◌, ap, refl, arith, below_more}
 use Rattle.ra_model.specs.Numbers.{service_count, service_of, neighbourhood_of}
 use Rattle.ra_model.specs.Services.{in_neighbourhood}
-use Rattle.ra_model.specs.declared.raw.Tables.{Tables}
 use Rattle.ra_topology.specs.Lists.{service_at}
 use Rattle.ra_shift.proofs.AllowLaws.{refused}
 use Rattle.ra_shift.proofs.ReadLaws.{needs_there, needs_within, needs_hold, needs_lack}

@@ -1,7 +1,6 @@
 -- The locations without the process, and that of the machine where it comes as the first.
 use Rattle.std.proofs.Common.{◌∙◌, ap}
 use Rattle.ra_model.specs.Numbers.{location_of}
-use Rattle.ra_model.specs.declared.raw.Tables.{Tables}
 use Rattle.ra_shift.proofs.SpreadLaws.{keeps_with}
 use Rattle.ra_shift.proofs.shift.Shift.locations_with.Goals as goal
 

@@ -1,7 +1,6 @@
 -- The parts of the sum, and a part that is too much already.
 use Rattle.std.proofs.Common.{◌∙◌, ◌+◌, ap, arith}
 use Rattle.ra_model.specs.Numbers.{machine_weight_of, way_cost_of}
-use Rattle.ra_model.specs.declared.raw.Tables.{Tables}
 use Rattle.ra_shift.proofs.FilterLaws.{sum_none, sum_some, sum_load, sum_without_way, sum_parts}
 use Rattle.ra_shift.proofs.shift.Shift.sum_below.Goals as goal
 
