@@ -11,7 +11,7 @@ use Rattle.ra_journal.specs.Journals.{History, opening_in}
 use Rattle.ra_journal.proofs.RoomLemmas.{AreNumbered, entries_few}
 use Rattle.ra_journal.proofs.Places.{entry_added}
 use Rattle.ra_report.specs.JournalTexts.{entry_line}
-use Rattle.ra_worker.specs.declared.replica.Replica.{Replica}
+use Rattle.ra_worker.specs.Replicas.{Progress}
 use Rattle.ra_worker.proofs.OpeningLemmas.{over_is}
 use Rattle.ra_worker.specs.declared.events.CoreReply.{CoreReply}
 use Rattle.ra_worker.specs.Core.{core_place_of, turn}
@@ -40,9 +40,9 @@ next_own : (c : Checker) (w q : ℕ) →
 unfolding next_entry
 next_own c w q = refl
 
-places_long : (h : List Entry) (rs : List Replica) → length (core_of h rs).places ≡ length rs
+places_long : (h : List Entry) (rs : List Progress) → length (core_of h rs).places ≡ length rs
 unfolding core_of
-places_long h rs = length-map rs (λ (r : Replica). r.place)
+places_long h rs = length-map rs (λ (r : Progress). r.place)
 
 pub same_run : (c d : Checker) → IsSameRun c d → opening_in d.journal ≡ opening_in c.journal
 same_run c d same = over_is c.journal d.journal same
@@ -102,18 +102,18 @@ only_taken c d f e entry at has legal own q at_is entry_is =
     ∙ sym (one_next_entry (opening_in j) (checker_entries c) e f legal has.legal own q))
 
 -- before the first entry
-start_place : (o : Opening) (h : List Entry) (rs : List Replica) (w : ℕ) →
+start_place : (o : Opening) (h : List Entry) (rs : List Progress) (w : ℕ) →
     AreAt o [] rs → w < length rs → core_place_of (core_of h rs) w ≡ 0
 unfolding core_place_of core_of
 start_place o h [] w at there = absurd (omega (arith, there))
 start_place o h (r ∷ rs) w at there =
-    let here : Replica = get_or (r ∷ rs) w r in
+    let here : Progress = get_or (r ∷ rs) w r in
     let same : get_or (r ∷ rs) w here ≡ here = get_or_default (r ∷ rs) w here r there in
     let place : here.place ≤ 0 = (at.each w here there same).at.place in
-    get_or-map (λ (x : Replica). x.place) (r ∷ rs) w here 0 there ∙ ap (λ (x : Replica). x.place) same
+    get_or-map (λ (x : Progress). x.place) (r ∷ rs) w here 0 there ∙ ap (λ (x : Progress). x.place) same
     ∙ omega (arith, place)
 
-pub open_start : (o : Opening) (m : Lots) (h : List Entry) (rs : List Replica) → AreAt o [] rs → m ≡ o.lots →
+pub open_start : (o : Opening) (m : Lots) (h : List Entry) (rs : List Progress) → AreAt o [] rs → m ≡ o.lots →
     NoneIsPast m h (core_of h rs)
 open_start o m h rs at lots =
     none_past_start m h (core_of h rs)

@@ -5,12 +5,11 @@ use Rattle.std.proofs.lemmas.List.{length_push, length-set, get_or-set_same, get
 use Rattle.ra_guards.specs.declared.newest.Newer.{Newer}
 use Rattle.ra_journal.specs.declared.entries.Entry.{Entry}
 use Rattle.ra_journal.specs.Committing.{next_entry, next_move, newer_since, committed, committed_by}
-use Rattle.ra_journal.specs.Openings.{Opening, opening}
+use Rattle.ra_journal.specs.Openings.{Opening}
 use Rattle.ra_journal.specs.Journals.{History, opening_in, IsOverSame}
 use Rattle.ra_journal.proofs.Places.{SameBelow, same_fewer, same_added, same_state, same_entries_of}
-use Rattle.ra_worker.specs.declared.replica.Replica.{Replica}
 use Rattle.ra_worker.specs.Skipping.{has_used, is_behind, is_skipped}
-use Rattle.ra_worker.specs.Replicas.{IsAt}
+use Rattle.ra_worker.specs.Replicas.{Progress, IsAt}
 use Rattle.ra_worker.specs.declared.events.CoreReply.{CoreReply}
 use Rattle.ra_worker.specs.Core.{core_place_of, Turn, answered, turn}
 use Rattle.ra_worker.specs.AllReplicas.{IsAtOf, AreAt, core_of}
@@ -51,7 +50,7 @@ module _ (o : Opening) (h : List Entry) where
           (λ skipped. record { each = λ j before. refl }) (λ handed. committed_same)
 
     -- one replica is brought to another state
-    pub all_set : (rs : List Replica) (s : Replica) →
+    pub all_set : (rs : List Progress) (s : Progress) →
         AreAt o h rs → w < length rs → IsAtOf o h w s → AreAt o h (set rs w s)
     all_set rs s at there here = record {
       one_each = length-set rs w s ∙ at.one_each;
@@ -66,7 +65,7 @@ module _ (o : Opening) (h : List Entry) where
     }
 
   -- a replica stays at a state when entries are added
-  at_later : (g : List Entry) (r : Replica) → SameBelow (length h) h g →
+  at_later : (g : List Entry) (r : Progress) → SameBelow (length h) h g →
       length h ≤ length g → IsAt o h r → IsAt o g r
   at_later g r same longer at =
       let here = same_fewer r.place (length h) h g at.place same in
@@ -74,10 +73,10 @@ module _ (o : Opening) (h : List Entry) where
         opening = at.opening;
         place = omega (arith, at.place, longer);
         state = at.state ∙ same_state o.start r.place h g here;
-        number = at.number ∙ same_entries_of r.place r.proposals.worker h g here;
+        number = at.number ∙ same_entries_of r.place r.worker h g here;
       }
 
-  pub all_later : (g : List Entry) (w q : ℕ) (rs : List Replica) →
+  pub all_later : (g : List Entry) (w q : ℕ) (rs : List Progress) →
       AreAt o h rs → g ≡ (turn o h w q).journal → AreAt o g rs
   all_later g w q rs at g_is = rw g_is (record {
     one_each = at.one_each;
@@ -88,18 +87,18 @@ module _ (o : Opening) (h : List Entry) where
   })
 
 -- the place of a replica in the core
-pub place_there : (h : List Entry) (rs : List Replica) (w : ℕ) (r : Replica) → w < length rs → get_or rs w r ≡ r →
+pub place_there : (h : List Entry) (rs : List Progress) (w : ℕ) (r : Progress) → w < length rs → get_or rs w r ≡ r →
     core_place_of (core_of h rs) w ≡ r.place
 unfolding core_place_of core_of
 place_there h rs w r within is =
-    get_or-map (λ (x : Replica). x.place) rs w r 0 within ∙ ap (λ (x : Replica). x.place) is
+    get_or-map (λ (x : Progress). x.place) rs w r 0 within ∙ ap (λ (x : Progress). x.place) is
 
 -- and the places where one replica is brought to another
-pub places_set : (h g : List Entry) (rs : List Replica) (w q : ℕ) (s : Replica) → s.place ≡ q →
+pub places_set : (h g : List Entry) (rs : List Progress) (w q : ℕ) (s : Progress) → s.place ≡ q →
     (core_of g (set rs w s)).places ≡ set (core_of h rs).places w q
 unfolding core_of
 places_set h g rs w q s place =
-    map-set (λ (x : Replica). x.place) rs w s ∙ ap (λ (k : ℕ). set (map (λ (x : Replica). x.place) rs) w k) place
+    map-set (λ (x : Progress). x.place) rs w s ∙ ap (λ (k : ℕ). set (map (λ (x : Progress). x.place) rs) w k) place
 
 -- a journal is over what it is over, and over what another is that is over the same
 pub over_by : (j k : History) (h : List Entry) → k ≡ record j { entries = h } → IsOverSame j k
@@ -114,7 +113,7 @@ over_then j k g first second =
     second ∙ ap (λ (x : History). let y : History = record x { entries = g.entries } in y) first
 
 -- the replicas stay at states of a journal with which a worker has taken its turn
-pub stand_later : (j k : History) (w q : ℕ) (said : CoreReply) (rs : List Replica) → StandIn j rs →
+pub stand_later : (j k : History) (w q : ℕ) (said : CoreReply) (rs : List Progress) → StandIn j rs →
     TakesTurn j k w q said → StandIn k rs
 stand_later j k w q said rs at turned =
     subst (λ (x : History). StandIn x rs) (sym turned.journal)

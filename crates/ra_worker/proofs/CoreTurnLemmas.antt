@@ -7,15 +7,14 @@ use Rattle.ra_journal.specs.Batches.{batch_from}
 use Rattle.ra_journal.specs.Committing.{next_number, committed}
 use Rattle.ra_journal.specs.Entries.{entries_of, budget}
 use Rattle.ra_journal.specs.Openings.{Opening}
-use Rattle.ra_worker.specs.declared.replica.Replica.{Replica}
 use Rattle.ra_worker.specs.Skipping.{has_used, is_behind, is_skipped}
-use Rattle.ra_worker.specs.Replicas.{IsAt, HasTaken}
+use Rattle.ra_worker.specs.Replicas.{Progress, IsAt, HasTaken}
 use Rattle.ra_worker.proofs.TurnLemmas.{some_left, batch_long, not_behind}
 use Rattle.ra_worker.specs.declared.events.CoreReply.TheVariants.{Skipped, Answer}
 use Rattle.ra_worker.specs.Core.{answered, turn}
 
 -- a replica that has taken in a whole batch
-pub taken_place : (h b : List Entry) (r s : Replica) (count : ℕ) → b ≡ batch_from h r.place →
+pub taken_place : (h b : List Entry) (r s : Progress) (count : ℕ) → b ≡ batch_from h r.place →
     count ≡ min 1024 (length h - r.place) → HasTaken r s b (length b) → s.place ≡ r.place + count
 taken_place h b r s count b_is count_is taken =
     taken.place ∙ ap (λ n. r.place + n) (ap (λ (x : List Entry). length x) b_is ∙ batch_long h r.place ∙ sym count_is)
@@ -44,12 +43,12 @@ module _ (l : Lots) (h : List Entry) (w q made most next : ℕ) where
 
 module _ (o : Opening) (h : List Entry) where
   -- the next proposal of a worker that is not skipped is within its budget
-  pub next_within : (r : Replica) → IsAt o h r →
-      is_skipped o.lots h r.proposals.worker r.place ≡ false →
-      r.proposals.number < budget r.proposals.lots.now r.proposals.worker
+  pub next_within : (r : Progress) → IsAt o h r →
+      is_skipped o.lots h r.worker r.place ≡ false →
+      r.next < budget r.lots r.worker
   unfolding is_skipped
   next_within r at not_skipped =
-      let w = r.proposals.worker in
+      let w = r.worker in
       let parts = or_parts (has_used o.lots h w) (is_behind h w r.place) not_skipped in
       rw (ap (λ (p : Opening). p.lots) at.opening) (omega (
         arith,

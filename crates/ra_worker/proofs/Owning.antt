@@ -12,9 +12,9 @@ use Rattle.ra_shared.specs.declared.shared.Shared.{Shared}
 use Rattle.ra_shared.specs.Copies.{CopiesUnlessQuiet}
 use Rattle.ra_shared.specs.Shares.{start_of, HasCommitted}
 use Rattle.ra_shared.proofs.Quiet.{made_more}
+use Rattle.ra_worker.proofs.OpeningLemmas.{passed_worker}
 use Rattle.ra_worker.proofs.TurnLemmas.{batch_long}
-use Rattle.ra_worker.specs.declared.replica.Replica.{Replica}
-use Rattle.ra_worker.specs.Replicas.{IsNextPlan, IsAt, ArePassed, HasPassed}
+use Rattle.ra_worker.specs.Replicas.{Progress, IsNextPlan, IsAt, ArePassed, HasPassed}
 use Rattle.ra_worker.specs.declared.worker.Worker.{Worker}
 use Rattle.ra_worker.specs.Working.{IsAtWork, IsQuiet, HasNextBatch, IsAtOrAfterOwn, HasOwn, shown_in}
 use Rattle.ra_worker.proofs.Seen.{own_count}
@@ -44,7 +44,7 @@ nothing_copied q seen batch copied none = ⊎_elim
     copied
 
 module _ (s : Shared) (w w' : Worker) (plan : Plan) (reply : Reply) (work : IsAtWork s w) (own : HasOwn w)
-    (left : w.replica.proposals.number < budget w.replica.proposals.lots.now w.replica.proposals.worker)
+    (left : w.replica.next < budget w.replica.lots w.replica.worker)
     (next : IsNextPlan w.replica plan) (same : w'.replica ≡ w.replica)
     (done : HasCommitted s plan w.pass w'.pass reply) where
   pub handed : IsAtWork s w'
@@ -70,8 +70,8 @@ module _ (s : Shared) (w w' : Worker) (plan : Plan) (reply : Reply) (work : IsAt
         let h = seen_by w'.pass in
         let r = w'.replica in
         let at = handed.at in
-        let place : plan.q ≡ r.place = next.place ∙ sym (ap (λ (x : Replica). x.place) same) in
-        let made : entries_of h (length h) r.proposals.worker ≡ length (mine_of w'.pass) =
+        let place : plan.q ≡ r.place = next.place ∙ sym (ap (λ (x : Progress). x.place) same) in
+        let made : entries_of h (length h) r.worker ≡ length (mine_of w'.pass) =
         subst (λ (v : ℕ). entries_of h (length h) v ≡ length (mine_of w'.pass)) (sym handed.same)
         (own_count h (mine_of w'.pass) w'.pass.number done.rest.own) in
         record {
@@ -79,19 +79,19 @@ module _ (s : Shared) (w w' : Worker) (plan : Plan) (reply : Reply) (work : IsAt
           from = at.place;
           within = omega arith;
           refused = subst (λ (q : ℕ). AreRefused h q (length h)) place refused;
-          own = omega (arith, made, grown, own.number, ap (λ (x : Replica). x.proposals.number) same);
+          own = omega (arith, made, grown, own.number, ap (λ (x : Progress). x.next) same);
         }
 
     -- and after that its replica has all that it has made
     pub own_passed : (after : Worker) → after.pass ≡ w'.pass →
-        after.replica.proposals.number ≡ w'.replica.proposals.number + 1 → HasOwn after
+        after.replica.next ≡ w'.replica.next + 1 → HasOwn after
     own_passed after kept number = record {
       number = rw kept
-          (omega (arith, number, grown, own.number, ap (λ (x : Replica). x.proposals.number) same));
+          (omega (arith, number, grown, own.number, ap (λ (x : Progress). x.next) same));
     }
 
   pub place_grows : w'.replica.place < length (seen_by w'.pass)
-  place_grows = omega (arith, later, shown.within, ap (λ (x : Replica). x.place) same)
+  place_grows = omega (arith, later, shown.within, ap (λ (x : Progress). x.place) same)
 
 -- a worker that has passed over what it has seen
 pub work_passed : (s : Shared) (w after : Worker) (to : ℕ) → IsAtWork s w → IsQuiet w →
@@ -102,6 +102,6 @@ work_passed s w after to work quiet is passed same =
     let at = passed.at h (subst (λ (n : ℕ). ArePassed r n h) (sym is) quiet) in
     record {
       rest = rw same work.rest;
-      same = rw same (passed.worker ∙ work.same);
+      same = rw same (passed_worker passed ∙ work.same);
       at = rw same (subst (λ (p : Opening). IsAt p h after.replica) work.at.opening at);
     }

@@ -64,7 +64,7 @@ module _ {X Y : Type 0} (f : X → Y) where
 -- workers that are made of new passes may run
 own_none : (o : Opening) (w : Worker) → HasNotBegun o w → notes_made_by w.pass ≡ [] → HasOwn w
 own_none o w fresh none =
-    let v = w.replica.proposals.worker in
+    let v = w.replica.worker in
     let at = fresh.at [] in
     record {
       number = omega (
@@ -80,11 +80,11 @@ module _ (s : Shared) where
   -- a worker's run, when it has used its budget
   pub has_run : (first w : Worker) → IsAtWork s w → HasOwn w → w.pass.number ≡ first.pass.number →
       first.pass.left ≤ w.pass.left + 2 * w.replica.place →
-      w.replica.proposals.number ≡ budget w.replica.proposals.lots.now w.replica.proposals.worker → HasRun s first w
+      w.replica.next ≡ budget w.replica.lots w.replica.worker → HasRun s first w
   has_run first w work own number turns used = record {
     rest = work.rest;
     number = number;
-    made = sym own.number ∙ used ∙ ap (λ (o : Opening). budget o.lots w.replica.proposals.worker) work.at.opening
+    made = sym own.number ∙ used ∙ ap (λ (o : Opening). budget o.lots w.replica.worker) work.at.opening
         ∙ ap (λ n. budget (start_of s).lots n) (work.same ∙ number);
     turns = omega (arith, turns, place_few s w work);
   }

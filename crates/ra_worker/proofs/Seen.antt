@@ -13,8 +13,7 @@ use Rattle.ra_journal.proofs.Places.{SameBelow, same_fewer, same_state, same_ent
 use Rattle.ra_journal.proofs.RoomLemmas.{entries_few}
 use Rattle.ra_turn.specs.Notes.{by}
 use Rattle.ra_shared.specs.Books.{KnowsOwn}
-use Rattle.ra_worker.specs.declared.replica.Replica.{Replica}
-use Rattle.ra_worker.specs.Replicas.{IsAt}
+use Rattle.ra_worker.specs.Replicas.{Progress, IsAt}
 
 -- a legal journal has at most as many entries as all budgets together
 pub legal_few : (o : Opening) (h : List Entry) → Legal o h → length h ≤ proposal_count o.lots
@@ -37,14 +36,14 @@ module _ (h g : List Entry) where
   prefix_entries n w p within = sym (same_entries_of n w h g (same_fewer n (length h) h g within (prefix_same p)))
 
 -- a replica stays at a state
-pub prefix_at : (o : Opening) (h g : List Entry) (r : Replica) → IsPrefix h g → IsAt o h r → IsAt o g r
+pub prefix_at : (o : Opening) (h g : List Entry) (r : Progress) → IsPrefix h g → IsAt o h r → IsAt o g r
 prefix_at o h g r p at =
     let here = same_fewer r.place (length h) h g at.place (prefix_same h g p) in
     record {
       opening = at.opening;
       place = omega (arith, at.place, prefix_long h g p);
       state = at.state ∙ same_state o.start r.place h g here;
-      number = at.number ∙ same_entries_of r.place r.proposals.worker h g here;
+      number = at.number ∙ same_entries_of r.place r.worker h g here;
     }
 
 -- more entries before a later place

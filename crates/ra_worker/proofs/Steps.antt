@@ -1,5 +1,5 @@
 -- One step of a worker after another: it hands in its next plan, and catches up.
-use Rattle.std.proofs.Common.{◌≡◌, ℕ, ◌+◌, ◌*◌, ◌<◌, ◌≤◌, false, List, length, refl, sym, ap, ◌∙◌, subst, le-ltb, arith}
+use Rattle.std.proofs.Common.{◌≡◌, ℕ, ◌+◌, ◌<◌, ◌≤◌, false, List, length, refl, sym, ap, ◌∙◌, subst, le-ltb, arith}
 use Rattle.std.proofs.lemmas.Bool.{or_from, lt-leb}
 use mathlib.Core.List.{IsPrefix}
 use Rattle.ra_draws.specs.declared.budgets.Lots.{Lots}
@@ -9,7 +9,7 @@ use Rattle.ra_journal.specs.declared.replies.Reply.{Reply}
 use Rattle.ra_journal.specs.declared.replies.Reply.TheVariants.{Recorded, Stale}
 use Rattle.ra_journal.specs.Batches.{batch_from}
 use Rattle.ra_journal.specs.Committing.{next_number, IsCommit}
-use Rattle.ra_journal.specs.Entries.{entries_of, budget, proposal_count, worker_count}
+use Rattle.ra_journal.specs.Entries.{entries_of, budget, proposal_count}
 use Rattle.ra_journal.specs.Openings.{Opening}
 use Rattle.ra_journal.proofs.RoomLemmas.{AreNumbered, entries_fewer}
 use Rattle.ra_turn.specs.Passes.{seen_by, notes_made_by}
@@ -19,10 +19,9 @@ use Rattle.ra_shared.specs.Books.{KnowsOwn, IsLegalSeen, IsCommitOf, opening_by}
 use Rattle.ra_shared.specs.Laws.{IsRecorded, IsStale}
 use Rattle.ra_shared.specs.Shares.{start_of, IsCommitted, IsAtRest}
 use Rattle.ra_shared.proofs.Handing.{recorded_stands, stale_stands}
-use Rattle.ra_worker.specs.declared.replica.Replica.{Replica}
 use Rattle.ra_worker.specs.Skipping.{has_used, is_behind, is_skipped}
-use Rattle.ra_worker.specs.Replicas.{IsNextPlan, AreNextOfSomeJournal, HasTaken}
-use Rattle.ra_worker.proofs.TurnLemmas.{may_commit, batch_next, batch_long, taken_at}
+use Rattle.ra_worker.specs.Replicas.{Progress, IsNextPlan, AreNextOfSomeJournal, HasTaken}
+use Rattle.ra_worker.proofs.TurnLemmas.{may_commit, some_budget, batch_next, batch_long, taken_at}
 use Rattle.ra_worker.specs.declared.worker.Worker.{Worker}
 use Rattle.ra_worker.specs.Working.{IsAtWork, HasOwn, HasTurnsToSpare, IsAtOrAfterOwn, HasTurned, HasMovedOn, MayGoOn, shown_in}
 use Rattle.ra_worker.proofs.Seen.{legal_few, prefix_long, prefix_at, prefix_entries, entries_grow, own_count}
@@ -81,21 +80,21 @@ module _ (o : Opened) (n : ℕ) (plan : Plan) where
 module _ (s : Shared) (w : Worker) where
   -- all that it has made is counted by its replica
   counted : IsAtWork s w → HasOwn w →
-      entries_of (seen_by w.pass) (length (seen_by w.pass)) w.replica.proposals.worker ≡ w.replica.proposals.number
+      entries_of (seen_by w.pass) (length (seen_by w.pass)) w.replica.worker ≡ w.replica.next
   counted work own =
       rw work.same (own_count (seen_by w.pass) (notes_made_by w.pass) w.pass.number work.rest.own ∙ sym own.number)
 
   -- it may hand in its next plan
   pub next_commit : (plan : Plan) → IsAtWork s w → HasOwn w →
-      w.replica.proposals.number < budget w.replica.proposals.lots.now w.replica.proposals.worker →
+      w.replica.next < budget w.replica.lots w.replica.worker →
       IsNextPlan w.replica plan → IsCommitOf (start_of s) (seen_by w.pass) w.pass.number plan
   next_commit plan work own left next =
       let o = start_of s in
       let h = seen_by w.pass in
-      let v = w.replica.proposals.worker in
-      let within : w.replica.proposals.number < budget o.lots v =
-      subst (λ (p : Opening). w.replica.proposals.number < budget p.lots v) work.at.opening left in
-      let all : entries_of h (length h) v ≡ w.replica.proposals.number = counted work own in
+      let v = w.replica.worker in
+      let within : w.replica.next < budget o.lots v =
+      subst (λ (p : Opening). w.replica.next < budget p.lots v) work.at.opening left in
+      let all : entries_of h (length h) v ≡ w.replica.next = counted work own in
       let free : is_skipped o.lots h v w.replica.place ≡ false =
       not_skipped o.lots h v w.replica.place (omega (arith, within, all)) (omega (arith, all, work.at.number)) in
       subst (λ n. IsCommit (opening_by o) h n plan) work.same
@@ -114,7 +113,7 @@ module _ (s : Shared) (w : Worker) where
 
   module _ (w' : Worker) (plan : Plan) (reply : Reply) where
     shown_handed : IsAtWork s w → HasOwn w →
-        w.replica.proposals.number < budget w.replica.proposals.lots.now w.replica.proposals.worker →
+        w.replica.next < budget w.replica.lots w.replica.worker →
         IsNextPlan w.replica plan → IsAtRest s w'.pass → w'.pass.number ≡ w.pass.number →
         IsPrefix (seen_by w.pass) (seen_by w'.pass) → IsCommitted (start_of s) w.pass.number plan.q (seen_by w.pass)
         (notes_made_by w.pass) (seen_by w'.pass) (notes_made_by w'.pass) reply →
@@ -131,7 +130,7 @@ module _ (s : Shared) (w : Worker) where
         done
 
     pub behind_handed : IsAtWork s w → HasOwn w →
-        w.replica.proposals.number < budget w.replica.proposals.lots.now w.replica.proposals.worker →
+        w.replica.next < budget w.replica.lots w.replica.worker →
         IsNextPlan w.replica plan → IsAtRest s w'.pass → w'.pass.number ≡ w.pass.number →
         IsPrefix (seen_by w.pass) (seen_by w'.pass) → IsCommitted (start_of s) w.pass.number plan.q (seen_by w.pass)
         (notes_made_by w.pass) (seen_by w'.pass) (notes_made_by w'.pass) reply → IsAtOrAfterOwn (shown_in reply) w'
@@ -146,7 +145,7 @@ module _ (s : Shared) (w : Worker) where
 
     -- the entry that is shown is one that its replica had not taken in
     pub later_handed : IsAtWork s w → HasOwn w →
-        w.replica.proposals.number < budget w.replica.proposals.lots.now w.replica.proposals.worker →
+        w.replica.next < budget w.replica.lots w.replica.worker →
         IsNextPlan w.replica plan → IsAtRest s w'.pass → w'.pass.number ≡ w.pass.number →
         IsPrefix (seen_by w.pass) (seen_by w'.pass) → IsCommitted (start_of s) w.pass.number plan.q (seen_by w.pass)
         (notes_made_by w.pass) (seen_by w'.pass) (notes_made_by w'.pass) reply → w.replica.place ≤ shown_in reply
@@ -178,8 +177,8 @@ module _ (s : Shared) (w : Worker) where
   own_past shown work behind past =
       let h = seen_by w.pass in
       let n = w.pass.number in
-      let here : w.replica.proposals.number ≡ entries_of h w.replica.place n =
-      subst (λ v. w.replica.proposals.number ≡ entries_of h w.replica.place v) work.same work.at.number in
+      let here : w.replica.next ≡ entries_of h w.replica.place n =
+      subst (λ v. w.replica.next ≡ entries_of h w.replica.place v) work.same work.at.number in
       record {
         number = omega (
           arith,
@@ -198,29 +197,27 @@ module _ (s : Shared) (w : Worker) where
 
   -- a worker with some budget left hasn't seen all proposals of the run
   pub place_fewer : IsAtWork s w → HasOwn w →
-      w.replica.proposals.number < budget w.replica.proposals.lots.now w.replica.proposals.worker →
+      w.replica.next < budget w.replica.lots w.replica.worker →
       w.replica.place < proposal_count (start_of s).lots
   place_fewer work own left =
       let o = start_of s in
       let h = seen_by w.pass in
-      let v = w.replica.proposals.worker in
-      let within : w.replica.proposals.number < budget o.lots v =
-      subst (λ (p : Opening). w.replica.proposals.number < budget p.lots v) work.at.opening left in
-      let exists : v < worker_count o.lots =
-      subst (λ (p : Opening). v < worker_count p.lots) work.at.opening w.replica.proposals.drawn.worker in
+      let v = w.replica.worker in
+      let within : w.replica.next < budget o.lots v =
+      subst (λ (p : Opening). w.replica.next < budget p.lots v) work.at.opening left in
       let numbered : AreNumbered o.lots h (length h) = record {
         each = λ j there. (work.rest.legal.each j there).numbered;
       } in
       omega (
         arith,
         work.at.place,
-        entries_fewer o.lots h (length h) v numbered exists
+        entries_fewer o.lots h (length h) v numbered (some_budget o.lots v _ within)
             (omega (arith, within, counted work own)),
       )
 
   -- so it has a turn to spare besides those for what it has not taken in
   pub room_left : MayGoOn s w →
-      w.replica.proposals.number < budget w.replica.proposals.lots.now w.replica.proposals.worker → HasTurnsToSpare s 1 w
+      w.replica.next < budget w.replica.lots w.replica.worker → HasTurnsToSpare s 1 w
   room_left may left = record { turns = omega (arith, may.turns, place_fewer may.work may.own left) }
 
   -- and it may go on after that turn
@@ -279,7 +276,7 @@ pub moved_taken : (w w' taken : Worker) → w'.replica ≡ w.replica → w'.pass
     w'.pass.left + 1 ≡ w.pass.left → taken.pass ≡ w'.pass → w'.replica.place < taken.replica.place → HasMovedOn w taken
 moved_taken w w' taken same number turn kept place = rw kept (record {
   number = number;
-  turns = omega (arith, turn, place, ap (λ (r : Replica). r.place) same);
+  turns = omega (arith, turn, place, ap (λ (r : Progress). r.place) same);
   fewer = omega (arith, turn);
 })
 

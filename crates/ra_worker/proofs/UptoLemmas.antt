@@ -1,5 +1,5 @@
 -- A replica that takes in one entry after another of a journal that it can read.
-use Rattle.std.proofs.Common.{◌≡◌, ◌^◌, ◌<◌, List, length, refl, sym, ap, ◌∙◌, subst, arith}
+use Rattle.std.proofs.Common.{◌≡◌, ◌^◌, ◌<◌, List, length, sym, ap, ◌∙◌, subst, arith}
 use Rattle.ra_draws.specs.declared.budgets.Lots.{Lots}
 use Rattle.ra_model.specs.Limits.{WellFormed}
 use Rattle.ra_model.specs.Assignments.{IsAssignment}
@@ -9,13 +9,12 @@ use Rattle.ra_journal.specs.Entries.{entry_at, entries_of, budget}
 use Rattle.ra_journal.specs.Legal.{Legal}
 use Rattle.ra_journal.specs.Openings.{Opening}
 use Rattle.ra_journal.proofs.RoomLemmas.{AreNumbered, entries_few, proposals_few}
-use Rattle.ra_worker.specs.declared.replica.Replica.{Replica}
 use Rattle.ra_worker.specs.Following.{IsJudged}
-use Rattle.ra_worker.specs.Replicas.{IsAt}
+use Rattle.ra_worker.specs.Replicas.{Progress, IsAt}
 use Rattle.ra_worker.proofs.FollowingLemmas.{entry_judged}
 use Rattle.ra_worker.proofs.OpeningLemmas.{world_is}
 
-module _ (o : Opening) (h : List Entry) (r : Replica) where
+module _ (o : Opening) (h : List Entry) (r : Progress) where
   -- the entry at the place of a replica was judged at its state
   pub here_judged : (e : Entry) →
       WellFormed o.tables → IsAssignment o.tables o.start → Legal o h → IsAt o h r → r.place < length h →
@@ -27,18 +26,18 @@ module _ (o : Opening) (h : List Entry) (r : Replica) where
 
   -- if that entry is of its worker, the worker has some budget left
   pub here_left : (e : Entry) →
-      Legal o h → IsAt o h r → r.place < length h → e ≡ entry_at h r.place → e.worker ≡ r.proposals.worker →
-      r.proposals.number < budget r.proposals.lots.now r.proposals.worker
+      Legal o h → IsAt o h r → r.place < length h → e ≡ entry_at h r.place → e.worker ≡ r.worker →
+      r.next < budget r.lots r.worker
   here_left e legal at within e_is own =
       let numbered = (legal.each r.place within).numbered in
-      let here : (entry_at h r.place).worker ≡ r.proposals.worker = ap (λ (x : Entry). x.worker) (sym e_is) ∙ own in
+      let here : (entry_at h r.place).worker ≡ r.worker = ap (λ (x : Entry). x.worker) (sym e_is) ∙ own in
       let left : entries_of h r.place (entry_at h r.place).worker < budget o.lots (entry_at h r.place).worker =
       omega (arith, numbered.number, numbered.budget) in
-      let number : r.proposals.number ≡ entries_of h r.place r.proposals.worker = at.number in
-      let lots : r.proposals.lots.now ≡ o.lots = ap (λ (x : Opening). x.lots) at.opening in
-      let some : entries_of h r.place r.proposals.worker < budget o.lots r.proposals.worker =
+      let number : r.next ≡ entries_of h r.place r.worker = at.number in
+      let lots : r.lots ≡ o.lots = ap (λ (x : Opening). x.lots) at.opening in
+      let some : entries_of h r.place r.worker < budget o.lots r.worker =
       subst (λ w. entries_of h r.place w < budget o.lots w) here left in
-      omega (arith, number, some, ap (λ (m : Lots). budget m r.proposals.worker) lots)
+      omega (arith, number, some, ap (λ (m : Lots). budget m r.worker) lots)
 
   -- and there are few entries
   pub here_few : Legal o h → r.place < length h → r.place < 2 ^ 63

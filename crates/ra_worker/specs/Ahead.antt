@@ -1,8 +1,7 @@
 -- What a worker plans ahead: the plans of the proposals after its next one, which are right as long as no move is done.
 use Rattle.std.specs.Prelude.{◌≡◌, ℕ, ◌+◌, ◌<◌, ◌≤◌, slice_index_or}
 use Rattle.ra_moves.specs.declared.verdicts.Plan.{Plan}
-use Rattle.ra_worker.specs.declared.replica.Replica.{Replica}
-use Rattle.ra_worker.specs.Replicas.{place_at, next_at, budget_at, IsPlanAt, IsNextPlan}
+use Rattle.ra_worker.specs.Replicas.{Progress, budget_at, IsPlanAt, IsNextPlan}
 use Rattle.ra_worker.specs.declared.ahead.Ahead.{Ahead}
 
 -- a plan, handed in at a later place
@@ -32,15 +31,15 @@ pub record HasPlaced (before after : Ahead) (place : ℕ) : Type 0 where
 
 -- at most 63 plans were made ahead, those of a replica's proposals from number n on; each is the plan that would be made
 -- at its place
-pub record AreAhead (r : Replica) (n : ℕ) (ahead : Ahead) : Type 0 where
+pub record AreAhead (r : Progress) (n : ℕ) (ahead : Ahead) : Type 0 where
   pub few : ahead.made ≤ 63
   pub within : n + ahead.made ≤ budget_at r
   pub each :
       (j : ℕ) (d : Plan) → j < ahead.made
-      → IsPlanAt r (n + j) (moved_to (place_at r) (ahead_at ahead j d))
+      → IsPlanAt r (n + j) (moved_to r.place (ahead_at ahead j d))
 
 -- the plans of a round, whose plan 0 is of proposal n, are right: the next of them is of the replica's next proposal
-pub record PlansStand (r : Replica) (n : ℕ) (first : Plan) (ahead : Ahead) : Type 0 where
-  pub next : next_at r ≡ n + ahead.at
+pub record PlansStand (r : Progress) (n : ℕ) (first : Plan) (ahead : Ahead) : Type 0 where
+  pub next : r.next ≡ n + ahead.at
   pub fresh : ahead.at ≡ 0 → IsNextPlan r first
   pub later : AreAhead r (n + 1) ahead

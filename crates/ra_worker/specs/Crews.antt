@@ -12,7 +12,7 @@ use Rattle.ra_worker.specs.Running.{MayRun}
 
 -- a worker that hasn't begun: its replica is the one of its pass's worker, and at a state of every journal
 pub record HasNotBegun (o : Opening) (w : Worker) : Type 0 where
-  pub worker : w.replica.proposals.worker ≡ w.pass.number
+  pub worker : w.replica.worker ≡ w.pass.number
   pub at : (h : List Entry) → IsAt o h w.replica
 
 -- worker n may run

@@ -1,5 +1,5 @@
 -- The run of 1 to 16 workers, after it has ended.
-use Rattle.std.specs.Prelude.{◌≡◌, List}
+use Rattle.std.specs.Prelude.{◌≡◌}
 use Rattle.ra_model.specs.Costs.{parts_of}
 use Rattle.ra_journal.specs.Best.{best_of}
 use Rattle.ra_journal.specs.Legal.{Legal, Whole}

@@ -1,21 +1,20 @@
 -- The turns of workers with a journal, whose replicas are at its states.
 use Rattle.std.specs.Prelude.{◌≡◌, ℕ, List}
 use Rattle.ra_journal.specs.Journals.{History, opening_in, IsJournal}
-use Rattle.ra_worker.specs.declared.replica.Replica.{Replica}
-use Rattle.ra_worker.specs.Replicas.{IsAt}
+use Rattle.ra_worker.specs.Replicas.{Progress, IsAt}
 use Rattle.ra_worker.specs.declared.events.CoreReply.{CoreReply}
 use Rattle.ra_worker.specs.Core.{Core, Turn, turn}
 use Rattle.ra_worker.specs.AllReplicas.{AreAt, core_of}
 
 -- a replica is at a state of a journal, and so is each of the replicas of its workers, one for each in order
-abbrev pub StandsInJournal : History → Replica → Type 0
+abbrev pub StandsInJournal : History → Progress → Type 0
 StandsInJournal j r = IsAt (opening_in j) j.entries r
 
-abbrev pub StandIn : History → List Replica → Type 0
+abbrev pub StandIn : History → List Progress → Type 0
 StandIn j rs = AreAt (opening_in j) j.entries rs
 
 -- the core that consists of a journal and the replicas' places
-abbrev pub core_in : History → List Replica → Core
+abbrev pub core_in : History → List Progress → Core
 core_in j rs = core_of j.entries rs
 
 -- what a journal becomes and replies, if worker w takes its turn with a proposal that is planned at place q

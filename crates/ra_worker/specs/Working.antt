@@ -15,14 +15,14 @@ use Rattle.ra_worker.specs.declared.worker.Worker.{Worker}
 -- has seen
 pub record IsAtWork (s : Shared) (w : Worker) : Type 0 where
   pub rest : IsAtRest s w.pass
-  pub same : w.replica.proposals.worker ≡ w.pass.number
+  pub same : w.replica.worker ≡ w.pass.number
   pub at :
       IsAt (opening_by (start_of s)) (seen_by w.pass)
       w.replica
 
 -- it has taken in all entries that it has made
 pub record HasOwn (w : Worker) : Type 0 where
-  pub number : w.replica.proposals.number ≡ length (notes_made_by w.pass)
+  pub number : w.replica.next ≡ length (notes_made_by w.pass)
 
 -- an entry that it has seen: no entry of its own comes after that place
 pub record IsAtOrAfterOwn (shown : ℕ) (w : Worker) : Type 0 where

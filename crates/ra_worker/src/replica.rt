@@ -10,7 +10,7 @@ ghost use Rattle.ra_journal.specs.Openings.{opening};
 ghost use Rattle.ra_journal.specs.Refusing.{IsRefused};
 ghost use Rattle.ra_topology.specs.Starts.{IsFeasibleStart};
 ghost use Rattle.ra_worker.specs.Following.{IsJudged};
-ghost use Rattle.ra_worker.specs.Replicas.{tables_at, start_at, lots_at, worker_at, next_at, budget_at, place_at, IsPlanAt, IsNextPlan, HasFollowed, IsAt, AreNextOfSomeJournal, HasTaken, HasPassed};
+ghost use Rattle.ra_worker.specs.Replicas.{beginning, budget_at, IsPlanAt, IsNextPlan, followed, IsAt, AreNextOfSomeJournal, HasTaken, HasPassed};
 
 use crate::following::follow;
 use crate::proposals::Proposals;
@@ -23,6 +23,7 @@ use ra_plan::plan;
 use ra_topology::Topology;
 use ra_world::World;
 use std::alloc::Global;
+use std::marker::Model;
 use std::sync::ledger::Ledger;
 
 /// A worker's own data: the world, which it brings from one state of the journal to the next, and its proposals. It
@@ -44,6 +45,19 @@ impl Drop for Replica<'_> {
     }
 }
 
+impl<'a> Model for Replica<'a> {
+    ghost use Rattle.std.specs.Coded.{codes};
+    ghost use Rattle.ra_draws.specs.contracts.budgets.Lots as l;
+    ghost use Rattle.ra_worker.specs.Replicas.{Progress, progress};
+
+    ghost Value = { Progress };
+
+    ghost coded = { Prim.hlevel (codes, l.the_row.coded) };
+
+    ghost view = { λ r.
+        progress r.world r.proposals.lots.now r.proposals.worker r.proposals.number r.place };
+}
+
 impl<'a> Replica<'a> {
     /// The replica of a worker at place 0, over a feasible initial assignment whose cost has these parts.
     pub fn make(
@@ -57,8 +71,8 @@ impl<'a> Replica<'a> {
     ) -> Result<Replica<'a>, NoMemory>
         requires start { IsFeasibleStart inst.now.tables topo.now a0.now.items start }
         requires worker { worker < worker_count lots.now }
-        ensures place { IfOk result (λ replica. place_at replica ≡ 0) }
-        ensures worker { IfOk result (λ replica. worker_at replica ≡ worker) }
+        ensures value { IfOk result (λ replica.
+            replica ≡ beginning (opening inst.now.tables a0.now.items lots.now) worker) }
         ensures at { IfOk result (λ replica. (h : List Recorded) →
             IsAt (opening inst.now.tables a0.now.items lots.now) h replica) }
     {
@@ -73,21 +87,22 @@ impl<'a> Replica<'a> {
 
     /// How many entries the replica has taken in.
     pub fn place(&self) -> u64
-        ensures { result ≡ place_at self.now }
+        ensures { result ≡ self.now.place }
     {
         self.place
     }
 
     /// The number of its worker's next proposal, counted from 0.
     pub fn next(&self) -> u64
-        ensures { result ≡ next_at self.now }
+        ensures { result ≡ self.now.next }
     {
         self.proposals.number
     }
 
     /// How many proposals its worker has left.
     pub fn left(&self) -> u64
-        ensures { result ≡ budget_at self.now - next_at self.now }
+        ensures value { result ≡ budget_at self.now - self.now.next }
+        ensures within { self.now.next ≤ budget_at self.now }
     {
         self.proposals.budget() - self.proposals.number
     }
@@ -101,15 +116,15 @@ impl<'a> Replica<'a> {
 
     /// The worker.
     pub fn worker(&self) -> u32
-        ensures value { result ≡ worker_at self.now }
-        ensures exists { result < worker_count (lots_at self.now) }
+        ensures value { result ≡ self.now.worker }
+        ensures exists { result < worker_count self.now.lots }
     {
         self.proposals.worker
     }
 
     /// The lots of the workers.
     pub fn lots(&self) -> &Lots
-        ensures { result.now ≡ lots_at self.now }
+        ensures { result.now ≡ self.now.lots }
     {
         self.proposals.lots
     }
@@ -117,12 +132,12 @@ impl<'a> Replica<'a> {
     /// Plans its worker's next proposal. The plan has the proposal's number, and how many entries the replica has taken
     /// in.
     pub fn offer<L: Ledger>(&self, steps: &mut Steps<L>) -> Plan
-        requires left { next_at self.now < budget_at self.now }
+        requires left { self.now.next < budget_at self.now }
         ensures next { IsNextPlan self.now result }
-        ensures counted_one { drawing_in (lots_at self.now) ≡ One →
-            steps.new ≤ steps.old + 24 * resource_count (tables_at self.now) }
-        ensures counted_two { drawing_in (lots_at self.now) ≡ Two →
-            steps.new ≤ steps.old + 384 * resource_count (tables_at self.now) }
+        ensures counted_one { drawing_in self.now.lots ≡ One →
+            steps.new ≤ steps.old + 24 * resource_count self.now.world.tables }
+        ensures counted_two { drawing_in self.now.lots ≡ Two →
+            steps.new ≤ steps.old + 384 * resource_count self.now.world.tables }
     {
         self.offer_at(self.proposals.number, steps)
     }
@@ -130,14 +145,14 @@ impl<'a> Replica<'a> {
     /// Plans one of its worker's next 64 proposals, as if no move were done before it. The plan has the proposal's
     /// number, and how many entries the replica has taken in.
     pub fn offer_at<L: Ledger>(&self, number: u64, steps: &mut Steps<L>) -> Plan
-        requires from { next_at self.now ≤ number }
-        requires near { number < next_at self.now + 64 }
+        requires from { self.now.next ≤ number }
+        requires near { number < self.now.next + 64 }
         requires left { number < budget_at self.now }
         ensures plan { IsPlanAt self.now number result }
-        ensures counted_one { drawing_in (lots_at self.now) ≡ One →
-            steps.new ≤ steps.old + 24 * resource_count (tables_at self.now) }
-        ensures counted_two { drawing_in (lots_at self.now) ≡ Two →
-            steps.new ≤ steps.old + 384 * resource_count (tables_at self.now) }
+        ensures counted_one { drawing_in self.now.lots ≡ One →
+            steps.new ≤ steps.old + 24 * resource_count self.now.world.tables }
+        ensures counted_two { drawing_in self.now.lots ≡ Two →
+            steps.new ≤ steps.old + 384 * resource_count self.now.world.tables }
     {
         let lots = self.proposals.lots;
         let rise = allowed(lots, self.proposals.worker, number);
@@ -156,8 +171,8 @@ impl<'a> Replica<'a> {
     /// guards are untouched.
     pub fn is_refused(&self, plan: &Plan) -> bool
         requires { plan.now.k < budget_at self.now }
-        ensures { Decides result (IsRefused (tables_at self.now)
-            (allowed (lots_at self.now) (worker_at self.now) plan.now.k) plan.now) }
+        ensures { Decides result (IsRefused self.now.world.tables
+            (allowed self.now.lots self.now.worker plan.now.k) plan.now) }
     {
         is_refused(
             self.world.instance(),
@@ -173,7 +188,7 @@ impl<'a> Replica<'a> {
         requires told { AreNextOfSomeJournal self.old batch.now }
         ensures taken { HasTaken self.old self.new batch.now (length batch.now) }
         ensures counted { steps.new ≤
-            steps.old + length batch.now * (3 * resource_count (tables_at self.old)) }
+            steps.old + length batch.now * (3 * resource_count self.old.world.tables) }
     {
         // What is known of every world.
         let _known = self.world.instance();
@@ -186,7 +201,7 @@ impl<'a> Replica<'a> {
     /// Skips entries of the journal up to a place. They are refused, so they change nothing, and one of them is its
     /// worker's next proposal.
     pub fn pass_over(&mut self, to: u64)
-        requires left { next_at self.old < budget_at self.old }
+        requires left { self.old.next < budget_at self.old }
         ensures { HasPassed self.old self.new to }
     {
         self.proposals.advance();
@@ -196,11 +211,11 @@ impl<'a> Replica<'a> {
     /// Takes in one entry, which was judged at the state that the replica represents.
     pub fn take_entry<L: Ledger>(&mut self, entry: &Entry, steps: &mut Steps<L>)
         requires judged { IsJudged self.old.world entry.now.mv.steps entry.now.verdict }
-        requires left { entry.now.worker ≡ worker_at self.old →
-            next_at self.old < budget_at self.old }
-        requires few { place_at self.old < 2 ^ 63 }
-        ensures followed { HasFollowed self.old self.new entry.now }
-        ensures counted { steps.new ≤ steps.old + 3 * resource_count (tables_at self.old) }
+        requires left { entry.now.worker ≡ self.old.worker →
+            self.old.next < budget_at self.old }
+        requires few { self.old.place < 2 ^ 63 }
+        ensures followed { self.new ≡ followed self.old entry.now }
+        ensures counted { steps.new ≤ steps.old + 3 * resource_count self.old.world.tables }
     {
         follow(&mut self.world, &entry.mv, &entry.verdict, steps);
         count_own(&mut self.proposals, entry.worker);

@@ -1,7 +1,6 @@
 ghost use Rattle.std.specs.Prelude.{◌≡◌, ◌+◌, ◌-◌, ◌<◌, ◌≤◌, min, false, length, slice_set};
 ghost use Rattle.ra_journal.specs.Entries.{worker_count};
 ghost use Rattle.ra_worker.specs.Skipping.{is_skipped};
-ghost use Rattle.ra_worker.specs.Replicas.{worker_at, place_at};
 ghost use Rattle.ra_worker.specs.Core.{core_place_of};
 ghost use Rattle.ra_worker.specs.Turns.{StandsInJournal, StandIn, core_in, TakesTurn};
 
@@ -45,10 +44,10 @@ fn follow_to<'a, L: Ledger>(
     requires parts { blank.parts ≡ L.parts }
     requires some { 0 < blank.parts }
     requires at { StandsInJournal journal.now replica.old }
-    requires ahead { place_at replica.old ≤ place }
+    requires ahead { replica.old.place ≤ place }
     requires within { place ≤ length journal.now.entries }
-    ensures place { place_at replica.new ≡ place }
-    ensures worker { worker_at replica.new ≡ worker_at replica.old }
+    ensures place { replica.new.place ≡ place }
+    ensures worker { replica.new.worker ≡ replica.old.worker }
     ensures at { StandsInJournal journal.now replica.new }
 {
     let mut steps = Steps::<L>::make(blank);
@@ -69,9 +68,9 @@ pub fn catch_up<'a, L: Ledger>(
     requires parts { blank.parts ≡ L.parts }
     requires some { 0 < blank.parts }
     requires at { StandsInJournal journal.now replica.old }
-    ensures count { result ≡ min 1024 (length journal.now.entries - place_at replica.old) }
-    ensures place { place_at replica.new ≡ place_at replica.old + result }
-    ensures worker { worker_at replica.new ≡ worker_at replica.old }
+    ensures count { result ≡ min 1024 (length journal.now.entries - replica.old.place) }
+    ensures place { replica.new.place ≡ replica.old.place + result }
+    ensures worker { replica.new.worker ≡ replica.old.worker }
     ensures at { StandsInJournal journal.now replica.new }
 {
     let mut steps = Steps::<L>::make(blank);
@@ -92,7 +91,7 @@ pub fn hand_in<'a, L: Ledger>(
     requires parts { blank.parts ≡ L.parts }
     requires some { 0 < blank.parts }
     requires at { StandsInJournal journal.old replica.now }
-    ensures { TakesTurn journal.old journal.new (worker_at replica.now) (place_at replica.now)
+    ensures { TakesTurn journal.old journal.new replica.now.worker replica.now.place
         result }
 {
     if skipped(journal, replica) {
@@ -106,7 +105,7 @@ pub fn hand_in<'a, L: Ledger>(
 fn skipped(journal: &Journal<'_>, replica: &Replica<'_>) -> bool
     requires at { StandsInJournal journal.now replica.now }
     ensures { result ≡ is_skipped journal.now.lots journal.now.entries
-        (worker_at replica.now) (place_at replica.now) }
+        replica.now.worker replica.now.place }
 {
     let made = journal.made_by(replica.worker());
     let budget = replica.budget();
@@ -125,8 +124,8 @@ fn commit_next<'a, L: Ledger>(
     requires some { 0 < blank.parts }
     requires at { StandsInJournal journal.old replica.now }
     requires not_skipped { is_skipped journal.old.lots journal.old.entries
-        (worker_at replica.now) (place_at replica.now) ≡ false }
-    ensures { TakesTurn journal.old journal.new (worker_at replica.now) (place_at replica.now)
+        replica.now.worker replica.now.place ≡ false }
+    ensures { TakesTurn journal.old journal.new replica.now.worker replica.now.place
         result }
 {
     let mut steps = Steps::<L>::make(blank);

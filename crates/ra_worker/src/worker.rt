@@ -1,8 +1,7 @@
 ghost use Rattle.std.specs.Prelude.{◌≡◌, ◌+◌, ◌*◌, ◌<◌, ◌≤◌, true, false, length, IfOk};
 ghost use mathlib.Core.List.{IsPrefix};
-ghost use Rattle.ra_journal.specs.Entries.{budget};
 ghost use Rattle.ra_turn.specs.Passes.{seen_by, notes_made_by};
-ghost use Rattle.ra_worker.specs.Replicas.{next_at, budget_at, place_at, IsPlanAt, IsNextPlan, AreNextOfSomeJournal, HasTaken, HasPassed};
+ghost use Rattle.ra_worker.specs.Replicas.{budget_at, IsPlanAt, IsNextPlan, AreNextOfSomeJournal, HasTaken, HasPassed};
 ghost use Rattle.ra_worker.specs.Ahead.{AreAhead, PlansStand};
 ghost use Rattle.ra_worker.specs.Working.{IsAtWork, IsQuiet, HasNextBatch, HasOwn, HasTurnsToSpare, IsAtOrAfterOwn, HasMovedOn, HasTurned, shown_in};
 
@@ -68,17 +67,15 @@ impl<'a> Worker<'a> {
 
     /// Whether some of its budget is left.
     pub(crate) fn has_left(&self) -> bool
-        ensures left { result ≡ true → self.now.replica.proposals.number <
-            budget self.now.replica.proposals.lots.now self.now.replica.proposals.worker }
-        ensures used { result ≡ false → self.now.replica.proposals.number ≡
-            budget self.now.replica.proposals.lots.now self.now.replica.proposals.worker }
+        ensures left { result ≡ true → self.now.replica.next < budget_at self.now.replica }
+        ensures used { result ≡ false → self.now.replica.next ≡ budget_at self.now.replica }
     {
         self.replica.left() > 0
     }
 
     /// Plans its next proposal.
     pub(crate) fn plan_next(&self) -> Plan
-        requires { next_at self.now.replica < budget_at self.now.replica }
+        requires { self.now.replica.next < budget_at self.now.replica }
         ensures { IsNextPlan self.now.replica result }
     {
         self.plan_at(self.replica.next())
@@ -87,9 +84,9 @@ impl<'a> Worker<'a> {
     /// Plans ahead after the plan of its next proposal: as many plans as this round has, up to the first one that may
     /// be done.
     pub(crate) fn plan_ahead(&self, first: &Plan, ahead: &mut Ahead)
-        requires left { next_at self.now.replica < budget_at self.now.replica }
+        requires left { self.now.replica.next < budget_at self.now.replica }
         requires first { IsNextPlan self.now.replica first.now }
-        ensures { PlansStand self.now.replica (next_at self.now.replica) first.now ahead.new }
+        ensures { PlansStand self.now.replica self.now.replica.next first.now ahead.new }
     {
         let most = ahead.begin();
         if most > 0 && self.replica.is_refused(first) {
@@ -100,10 +97,10 @@ impl<'a> Worker<'a> {
     /// Plans a number of proposals after its next one, up to the first one that may be done.
     fn plan_more(&self, more: u64, ahead: &mut Ahead)
         requires few { more ≤ 63 }
-        requires left { next_at self.now.replica + more < budget_at self.now.replica }
+        requires left { self.now.replica.next + more < budget_at self.now.replica }
         requires none { ahead.old.made ≡ 0 }
         ensures at { ahead.new.at ≡ ahead.old.at }
-        ensures ahead { AreAhead self.now.replica (next_at self.now.replica + 1) ahead.new }
+        ensures ahead { AreAhead self.now.replica (self.now.replica.next + 1) ahead.new }
     {
         let _fits = self.replica.budget();
         let first = self.replica.next() + 1;
@@ -119,8 +116,8 @@ impl<'a> Worker<'a> {
 
     /// Plans one of its next 64 proposals.
     fn plan_at(&self, number: u64) -> Plan
-        requires from { next_at self.now.replica ≤ number }
-        requires near { number < next_at self.now.replica + 64 }
+        requires from { self.now.replica.next ≤ number }
+        requires near { number < self.now.replica.next + 64 }
         requires left { number < budget_at self.now.replica }
         ensures { IsPlanAt self.now.replica number result }
     {
@@ -134,14 +131,13 @@ impl<'a> Worker<'a> {
         requires work { IsAtWork shared.now self.old }
         requires own { HasOwn self.old }
         requires plan { IsNextPlan self.old.replica plan.now }
-        requires left { self.old.replica.proposals.number <
-            budget self.old.replica.proposals.lots.now self.old.replica.proposals.worker }
+        requires left { self.old.replica.next < budget_at self.old.replica }
         requires turns { HasTurnsToSpare shared.now 1 self.old }
         ensures work { IsAtWork shared.now self.new }
         ensures own { HasOwn self.new }
         ensures moved { HasMovedOn self.old self.new }
         ensures quiet { result ≡ true →
-            HasPassed self.old.replica self.new.replica (place_at self.new.replica) }
+            HasPassed self.old.replica self.new.replica self.new.replica.place }
     {
         let reply = shared.commit_and_copy(rt, &mut self.pass, plan, &mut self.batch);
         let copied = self.batch.len();
@@ -158,8 +154,7 @@ impl<'a> Worker<'a> {
     /// Skips all that its pass has seen: the part that its replica hasn't taken in is refused.
     fn pass_over(&mut self, _shared: &Shared<'a>)
         requires work { IsAtWork _shared.now self.old }
-        requires left { self.old.replica.proposals.number <
-            budget self.old.replica.proposals.lots.now self.old.replica.proposals.worker }
+        requires left { self.old.replica.next < budget_at self.old.replica }
         requires quiet { IsQuiet self.old }
         ensures work { IsAtWork _shared.now self.new }
         ensures pass { self.new.pass ≡ self.old.pass }
@@ -231,8 +226,8 @@ fn offer_at<L: Ledger>(replica: &Replica<'_>, number: u64, blank: Blank) -> Plan
     requires name { blank.name ≡ L.name }
     requires parts { blank.parts ≡ L.parts }
     requires some { 0 < blank.parts }
-    requires from { next_at replica.now ≤ number }
-    requires near { number < next_at replica.now + 64 }
+    requires from { replica.now.next ≤ number }
+    requires near { number < replica.now.next + 64 }
     requires left { number < budget_at replica.now }
     ensures { IsPlanAt replica.now number result }
 {

@@ -12,6 +12,6 @@ use Rattle.ra_worker.proofs.Runs.{ready_as}
 
 -- the only worker of a journal
 pub may_run : (s : Shared) (o : Opening) (w : Worker) → opening_by (start_of s) ≡ o →
-    w.replica.proposals.worker ≡ 0 → ((h : List Entry) → IsAt o h w.replica) → IsNew s 0 w.pass → MayRun s w
+    w.replica.worker ≡ 0 → ((h : List Entry) → IsAt o h w.replica) → IsNew s 0 w.pass → MayRun s w
 may_run s o w opened own at new =
     (ready_as s o w 0 opened (record { worker = own ∙ sym new.number; at = at }) new).may

@@ -6,7 +6,7 @@ use Rattle.ra_draws.specs.declared.budgets.Lots.{Lots}
 use Rattle.ra_journal.specs.declared.entries.Entry.{Entry}
 use Rattle.ra_journal.specs.Entries.{worker_count}
 use Rattle.ra_journal.specs.Openings.{Opening}
-use Rattle.ra_worker.specs.declared.replica.Replica.{Replica}
+use Rattle.ra_worker.specs.Replicas.{Progress}
 use Rattle.ra_worker.specs.declared.events.CoreEvent.{CoreEvent}
 use Rattle.ra_worker.specs.declared.events.CoreEvent.TheVariants.{CatchUp, Commit}
 use Rattle.ra_worker.specs.declared.events.CoreReply.{CoreReply}
@@ -22,8 +22,8 @@ stepped_catch_up : (c d : Core) (w p q n : ℕ) → core_place_of c w ≡ p → 
 unfolding caught_up
 stepped_catch_up c d w p q n place n_is q_is journal places = rw (place, ← n_is, ← q_is, ← journal, ← places) refl
 
-pub step_catch_up : (o : Opening) (h : List Entry) (rs : List Replica) (w count : ℕ)
-    (r s : Replica) → w < length rs → get_or rs w r ≡ r → count ≡ min 1024 (length h - r.place) →
+pub step_catch_up : (o : Opening) (h : List Entry) (rs : List Progress) (w count : ℕ)
+    (r s : Progress) → w < length rs → get_or rs w r ≡ r → count ≡ min 1024 (length h - r.place) →
     s.place ≡ r.place + count → step o (core_of h rs) (CatchUp w) ≡ record {
       after = core_of h (set rs w s);
       reply = Took count;
@@ -31,7 +31,7 @@ pub step_catch_up : (o : Opening) (h : List Entry) (rs : List Replica) (w count 
 unfolding step core_of
 step_catch_up o h rs w count r s within is count_is place =
     stepped_catch_up (core_of h rs) (core_of h (set rs w s)) w r.place s.place count (place_there h rs w r within is)
-    count_is place refl (map-set (λ (x : Replica). x.place) rs w s)
+    count_is place refl (map-set (λ (x : Progress). x.place) rs w s)
 
 stepped_commit : (o : Opening) (c d : Core) (w p : ℕ) (reply : CoreReply) →
     core_place_of c w ≡ p → d.journal ≡ (turn o c.journal w p).journal →
@@ -40,8 +40,8 @@ stepped_commit : (o : Opening) (c d : Core) (w p : ℕ) (reply : CoreReply) →
 unfolding handed_in
 stepped_commit o c d w p reply place journal reply_is places = rw (place, ← journal, ← reply_is, ← places) refl
 
-pub step_commit : (o : Opening) (h g : List Entry) (rs : List Replica) (w v : ℕ)
-    (r : Replica) (reply : CoreReply) → w < length rs → get_or rs w r ≡ r → v ≡ w →
+pub step_commit : (o : Opening) (h g : List Entry) (rs : List Progress) (w v : ℕ)
+    (r : Progress) (reply : CoreReply) → w < length rs → get_or rs w r ≡ r → v ≡ w →
     g ≡ (turn o h v r.place).journal → reply ≡ (turn o h v r.place).reply →
     step o (core_of h rs) (Commit w) ≡ record { after = core_of g rs; reply = reply }
 unfolding step core_of

@@ -1,5 +1,5 @@
 -- What some turns make of a core: none of them, one more, and more after those.
-use Rattle.std.proofs.Common.{◌≡◌, ℕ, zero, suc, ◌+◌, ◌-◌, ◌<◌, ◌≤◌, min, List, [], ◌∷◌, ◌++◌, set, get_or, map, length, refl, sym, ap, ◌∙◌, subst, ⊎_elim, add-one, arith}
+use Rattle.std.proofs.Common.{◌≡◌, ℕ, zero, suc, ◌+◌, ◌-◌, ◌<◌, ◌≤◌, min, List, [], ◌∷◌, ◌++◌, set, get_or, map, length, refl, sym, ap, ◌∙◌, subst, ⊎_elim, arith}
 use Rattle.std.proofs.lemmas.Bool.{cases_lt}
 use Rattle.std.proofs.lemmas.List.{length_push, length-map, length-set, get_or_append_left, get_or_push, get_or-set_same, set-get_or, map-set}
 use Rattle.ra_draws.specs.declared.budgets.Lots.{Lots}
@@ -7,7 +7,7 @@ use Rattle.ra_journal.specs.declared.entries.Entry.{Entry}
 use Rattle.ra_journal.specs.Entries.{worker_count}
 use Rattle.ra_journal.specs.Openings.{Opening}
 use Rattle.ra_journal.specs.Journals.{History, opening_in}
-use Rattle.ra_worker.specs.declared.replica.Replica.{Replica}
+use Rattle.ra_worker.specs.Replicas.{Progress}
 use Rattle.ra_worker.specs.declared.events.CoreEvent.{CoreEvent}
 use Rattle.ra_worker.specs.declared.events.CoreEvent.TheVariants.{CatchUp, Commit}
 use Rattle.ra_worker.specs.Core.{Core, AreNamed, core_place_of, turn, Stepped, caught_up, step, event_at, core_after, run, worker_of_event}
@@ -125,22 +125,22 @@ played_to_end o (suc n) h places w exists there within left =
     (record { journal = h; places = set next w (length h) }) more rest)
 
 -- a replica that is brought there
-caught_all : (o : Opening) (h : List Entry) (rs : List Replica) (w : ℕ) (r s : Replica) →
+caught_all : (o : Opening) (h : List Entry) (rs : List Progress) (w : ℕ) (r s : Progress) →
     w < worker_count o.lots → w < length rs → get_or rs w r ≡ r → r.place ≤ length h → s.place ≡ length h →
     IsPlayed o (core_of h rs) (core_of h (set rs w s))
 unfolding core_of core_place_of
 caught_all o h rs w r s exists there is within place =
-    let places = map (λ (x : Replica). x.place) rs in
+    let places = map (λ (x : Progress). x.place) rs in
     let at : get_or places w 0 ≡ r.place = place_there h rs w r there is in
-    let after : set places w (length h) ≡ map (λ (x : Replica). x.place) (set rs w s) =
-    ap (λ p. set places w p) (sym place) ∙ sym (map-set (λ (x : Replica). x.place) rs w s) in
+    let after : set places w (length h) ≡ map (λ (x : Progress). x.place) (set rs w s) =
+    ap (λ p. set places w p) (sym place) ∙ sym (map-set (λ (x : Progress). x.place) rs w s) in
     subst (λ x. IsPlayed o (record { journal = h; places = places }) (record { journal = h; places = x })) after
     (played_to_end o (length h) h places w exists
-    (omega (arith, there, length-map rs (λ (x : Replica). x.place))) (omega (arith, at, within)) (omega arith))
+    (omega (arith, there, length-map rs (λ (x : Progress). x.place))) (omega (arith, at, within)) (omega arith))
 
 -- and hands in its proposal there
-pub turn_played : (o : Opening) (h g : List Entry) (rs : List Replica) (w v : ℕ)
-    (r s : Replica) → w < worker_count o.lots → w < length rs → get_or rs w r ≡ r → r.place ≤ length h →
+pub turn_played : (o : Opening) (h g : List Entry) (rs : List Progress) (w v : ℕ)
+    (r s : Progress) → w < worker_count o.lots → w < length rs → get_or rs w r ≡ r → r.place ≤ length h →
     s.place ≡ length h →
     v ≡ w → g ≡ (turn o h v s.place).journal → IsPlayed o (core_of h rs) (core_of g (set rs w s))
 unfolding worker_of_event
@@ -152,7 +152,7 @@ turn_played o h g rs w v r s exists there is within place own g_is =
     (sym (ap (λ (x : Stepped). x.after) stepped))
 
 -- a journal with its replicas: no turn, and more turns
-pub plays_nothing : (j : History) (rs : List Replica) → StandIn j rs → PlaysOn j j rs rs
+pub plays_nothing : (j : History) (rs : List Progress) → StandIn j rs → PlaysOn j j rs rs
 plays_nothing j rs at = record {
   played = played_none (opening_in j) (core_in j rs);
   at = at;
@@ -160,7 +160,7 @@ plays_nothing j rs at = record {
   sound = λ is. is;
 }
 
-pub plays_then : (j k g : History) (rs ss ts : List Replica) → PlaysOn j k rs ss → PlaysOn k g ss ts → PlaysOn j g rs ts
+pub plays_then : (j k g : History) (rs ss ts : List Progress) → PlaysOn j k rs ss → PlaysOn k g ss ts → PlaysOn j g rs ts
 plays_then j k g rs ss ts first second = record {
   played = played_then (opening_in j) (core_in j rs) (core_in k ss) (core_in g ts)
       first.played

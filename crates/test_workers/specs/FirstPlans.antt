@@ -1,5 +1,5 @@
 -- Plans of first proposals at the start of a journal.
-use Rattle.std.specs.Prelude.{◌≡◌, ℕ, List}
+use Rattle.std.specs.Prelude.{◌≡◌, ℕ}
 use Rattle.ra_draws.specs.Shown.{drawing_in}
 use Rattle.ra_model.specs.Situations.{situation}
 use Rattle.ra_moves.specs.declared.verdicts.Plan.{Plan}

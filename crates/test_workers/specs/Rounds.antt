@@ -6,7 +6,7 @@ use Rattle.ra_journal.specs.Committing.{next_number}
 use Rattle.ra_journal.specs.Entries.{worker_count, budget}
 use Rattle.ra_journal.specs.Journals.{History, opening_in, IsJournal, IsOverSame}
 use Rattle.ra_journal.specs.Openings.{Opening}
-use Rattle.ra_worker.specs.declared.replica.Replica.{Replica}
+use Rattle.ra_worker.specs.Replicas.{Progress}
 use Rattle.ra_worker.specs.declared.events.CoreEvent.{CoreEvent}
 use Rattle.ra_worker.specs.Core.{Core, AreNamed, run}
 use Rattle.ra_worker.specs.Turns.{StandIn, core_in}
@@ -26,7 +26,7 @@ pub record IsPlayed (o : Opening) (before after : Core) : Type 0 where
   pub last : after ≡ (run o before events).last
 
 -- a journal with the replicas of its workers is what some turns make of another
-pub record PlaysOn (old new : History) (before after : List Replica) : Type 0 where
+pub record PlaysOn (old new : History) (before after : List Progress) : Type 0 where
   pub played :
       IsPlayed (opening_in old) (core_in old before)
       (core_in new after)

@@ -1,7 +1,6 @@
 ghost use Rattle.std.specs.Prelude.{◌≡◌, ℕ, ◌+◌, ◌<◌, ◌≤◌, length};
 ghost use Rattle.ra_journal.specs.Entries.{worker_count, budget};
 ghost use Rattle.ra_journal.specs.Legal.{Whole};
-ghost use Rattle.ra_worker.specs.Replicas.{worker_at, place_at};
 ghost use Rattle.ra_worker.specs.Turns.{StandsInJournal, StandIn, turn_in};
 ghost use Rattle.test_workers.specs.Rounds.{HaveAllMade, PlaysOn};
 
@@ -79,8 +78,8 @@ fn take_turn<'a>(
 /// A replica takes in all entries that are new to it.
 fn catch_up_whole<'a>(journal: &Journal<'a>, replica: &mut Replica<'a>, batch: &mut Batch)
     requires at { StandsInJournal journal.now replica.old }
-    ensures place { place_at replica.new ≡ length journal.now.entries }
-    ensures worker { worker_at replica.new ≡ worker_at replica.old }
+    ensures place { replica.new.place ≡ length journal.now.entries }
+    ensures worker { replica.new.worker ≡ replica.old.worker }
     ensures at { StandsInJournal journal.now replica.new }
 {
     let length = journal.len();

@@ -1,6 +1,7 @@
-use Rattle.std.proofs.Common.{arith}
+use Rattle.std.proofs.Common.{ap, arith}
 use Rattle.ra_journal.specs.Entries.{worker_count}
 use Rattle.ra_journal.specs.Openings.{opening}
+use Rattle.ra_worker.specs.Replicas.{Progress}
 use Rattle.ra_worker.proofs.AllLemmas.{first_more, first_all}
 use Rattle.ra_worker.proofs.all.make_replicas.Goals as goal
 
@@ -12,7 +13,7 @@ pub loop-worker-preserved : goal.loop-worker-preserved
 loop-worker-preserved c =
     rw c.in_ok-push.ensures.items
     (first_more (opening c.args.inst.now.tables c.args.a0.now.items c.args.lots.now) c.loop-worker.worker
-    c.loop-worker.replicas.items c.in_ok-replica.replica c.loop-worker.invariant c.in_ok-replica.ensures.worker
+    c.loop-worker.replicas.items c.in_ok-replica.replica c.loop-worker.invariant (ap (λ (r : Progress). r.worker) c.in_ok-replica.ensures.value)
     c.in_ok-replica.ensures.at)
 
 pub returns : goal.returns

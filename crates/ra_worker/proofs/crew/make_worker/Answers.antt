@@ -1,6 +1,6 @@
-use Rattle.std.proofs.Common.{◌≡◌, Result, Ok, Err, IfOk, sym, ◌∙◌, subst}
+use Rattle.std.proofs.Common.{◌≡◌, Result, Ok, Err, IfOk, ap, sym, ◌∙◌, subst}
 use Rattle.ra_journal.specs.Openings.{opening}
-use Rattle.ra_worker.specs.Replicas.{IsAt}
+use Rattle.ra_worker.specs.Replicas.{Progress, IsAt}
 use Rattle.ra_worker.specs.declared.worker.Worker.{Worker}
 use Rattle.ra_worker.specs.Crews.{HasNotBegun}
 use Rattle.ra_worker.proofs.crew.make_worker.Goals as goal
@@ -16,7 +16,7 @@ returns-clause-fresh c =
     let o = opening c.args.inst.now.tables c.args.a0.now.items c.args.lots.now in
     let fresh : (w : Worker) → w.replica ≡ c.in_ok-replica.replica → w.pass ≡ c.args.pass →
     HasNotBegun o w = λ w same_replica same_pass. record {
-      worker = rw (same_pass, same_replica) (c.in_ok-replica.ensures.worker ∙ c.number.ensures);
+      worker = rw (same_pass, same_replica) (ap (λ (r : Progress). r.worker) c.in_ok-replica.ensures.value ∙ c.number.ensures);
       at = λ h. subst (IsAt o h) (sym same_replica)
           (c.in_ok-replica.ensures.at h);
     } in

@@ -31,7 +31,7 @@ returns g c =
     let r = c.args.replica.now in
     let own = c.worker.ensures.value in
     let place = c.offer-plan.ensures.next.place in
-    let done = sym (turn_answered (opening_in j) j.entries r.proposals.worker
+    let done = sym (turn_answered (opening_in j) j.entries r.worker
     r.place c.requires.not_skipped) in
     record {
       journal = c.commit-reply.ensures.journal

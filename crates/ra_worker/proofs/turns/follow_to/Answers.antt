@@ -1,6 +1,7 @@
 use Rattle.std.proofs.Common.{ℕ, ◌+◌, sym, ap, ◌∙◌, arith}
 use Rattle.ra_journal.specs.Entries.{entry_at}
 use Rattle.ra_journal.specs.Journals.{opening_in}
+use Rattle.ra_worker.specs.Replicas.{Progress}
 use Rattle.ra_worker.proofs.ReplicaLemmas.{at_next}
 use Rattle.ra_worker.proofs.UptoLemmas.{here_judged, here_left, here_few}
 use Rattle.ra_worker.proofs.turns.follow_to.Goals as goal
@@ -37,8 +38,8 @@ loop-at-preserved g c =
     let r = c.loop-at.replica in
     let followed = c.take_entry.ensures.followed in
     record {
-      place = followed.place ∙ ap (λ (n : ℕ). n + 1) c.loop-at.invariant.place;
-      worker = followed.worker ∙ c.loop-at.invariant.worker;
+      place = ap (λ (s : Progress). s.place) followed ∙ ap (λ (n : ℕ). n + 1) c.loop-at.invariant.place;
+      worker = ap (λ (s : Progress). s.worker) followed ∙ c.loop-at.invariant.worker;
       here = at_next (opening_in j) j.entries r c.take_entry.new.self
           c.entry-entry.result c.loop-at.invariant.here
           (omega (arith, c.loop-at-test.true, c.requires.within, c.loop-at.invariant.place))

@@ -7,7 +7,7 @@ use Rattle.ra_worker.proofs.turns.follow_to.Given as goal
 abbrev pub invariant-loop-at : goal.invariant-loop-at
 invariant-loop-at g l = record {
   place : l.replica.place ≡ l.at;
-  worker : l.replica.proposals.worker ≡ l.fn.replica.proposals.worker;
+  worker : l.replica.worker ≡ l.fn.replica.worker;
   here : IsAt (opening_in l.journal) l.journal.entries
       l.replica;
 }

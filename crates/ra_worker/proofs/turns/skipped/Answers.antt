@@ -12,10 +12,10 @@ pub returns-then-budget-made : goal.returns-then-budget-made
 returns-then-budget-made c =
     let h = c.args.journal.now.entries in
     let r = c.args.replica.now in
-    skipped_used c.args.journal.now.lots h r.proposals.worker r.place c.made_by-made.result c.budget-budget.result
+    skipped_used c.args.journal.now.lots h r.worker r.place c.made_by-made.result c.budget-budget.result
     c.next-next.result
     (c.made_by-made.ensures ∙ ap (entries_of h (length h)) c.worker.ensures.value)
-    (c.budget-budget.ensures ∙ ap (λ (o : Opening). budget o.lots r.proposals.worker) c.requires.at.opening)
+    (c.budget-budget.ensures ∙ ap (λ (o : Opening). budget o.lots r.worker) c.requires.at.opening)
     (c.next-next.ensures ∙ c.requires.at.number)
     c.if-budget-made.true
 
@@ -23,9 +23,9 @@ pub returns-else-budget-made : goal.returns-else-budget-made
 returns-else-budget-made c =
     let h = c.args.journal.now.entries in
     let r = c.args.replica.now in
-    skipped_unused c.args.journal.now.lots h r.proposals.worker r.place c.made_by-made.result c.budget-budget.result
+    skipped_unused c.args.journal.now.lots h r.worker r.place c.made_by-made.result c.budget-budget.result
     c.next-next.result
     (c.made_by-made.ensures ∙ ap (entries_of h (length h)) c.worker.ensures.value)
-    (c.budget-budget.ensures ∙ ap (λ (o : Opening). budget o.lots r.proposals.worker) c.requires.at.opening)
+    (c.budget-budget.ensures ∙ ap (λ (o : Opening). budget o.lots r.worker) c.requires.at.opening)
     (c.next-next.ensures ∙ c.requires.at.number)
     c.if-budget-made.false

@@ -37,7 +37,7 @@ returns-clause-turn c =
     ∙ (c.requires.at.each c.args.worker c.index_mut-replica.result.now there
     (sym c.index_mut-replica.ensures.value)).worker in
     subst (λ w. TakesTurn j g w c.args.q c.hand_in.result) own
-    (subst (λ q. TakesTurn j g s.proposals.worker q c.hand_in.result) c.follow_to.ensures.place c.hand_in.ensures)
+    (subst (λ q. TakesTurn j g s.worker q c.hand_in.result) c.follow_to.ensures.place c.hand_in.ensures)
 
 pub returns-clause-places : goal.returns-clause-places
 returns-clause-places c = places_set c.args.journal.now.entries c.hand_in.new.journal.entries
@@ -56,5 +56,5 @@ returns-clause-at c =
           (sym c.index_mut-replica.ensures.value)).worker;
       at = c.follow_to.ensures.at;
     }) in
-    stand_later j c.hand_in.new.journal s.proposals.worker s.place c.hand_in.result
+    stand_later j c.hand_in.new.journal s.worker s.place c.hand_in.result
     (set c.args.replicas.now.items c.args.worker s) before c.hand_in.ensures

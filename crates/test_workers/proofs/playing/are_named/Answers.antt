@@ -1,4 +1,4 @@
-use Rattle.std.proofs.Common.{◌≡◌, ◌<◌, ◌≤◌, length, ap, ◌∙◌, arith}
+use Rattle.std.proofs.Common.{ap, arith}
 use Rattle.ra_journal.specs.Entries.{worker_count}
 use Rattle.ra_worker.specs.Core.{worker_of_event}
 use Rattle.test_workers.proofs.PlayLemmas.{named_more}

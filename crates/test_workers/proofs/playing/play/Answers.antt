@@ -1,4 +1,4 @@
-use Rattle.std.proofs.Common.{◌≡◌, ◌+◌, ◌<◌, ◌≤◌, ◌++◌, length, refl, sym, ap, ◌∙◌, subst, arith}
+use Rattle.std.proofs.Common.{◌≡◌, refl, ◌∙◌, subst, arith}
 use Rattle.ra_worker.specs.AllReplicas.{core_of}
 use Rattle.ra_worker.proofs.CoreLemmas.{over_itself, over_then}
 use Rattle.ra_worker.specs.Core.{step}

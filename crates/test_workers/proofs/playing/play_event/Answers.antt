@@ -1,4 +1,4 @@
-use Rattle.std.proofs.Common.{◌≡◌, ◌<◌, length, refl, sym, ap, ◌∙◌, subst, arith}
+use Rattle.std.proofs.Common.{◌<◌, length, sym, ap, ◌∙◌, arith}
 use Rattle.ra_worker.proofs.CoreLemmas.{all_set, stand_later, over_itself, over_by}
 use Rattle.ra_journal.specs.Journals.{opening_in}
 use Rattle.test_workers.proofs.PlayLemmas.{named_catch_up, named_commit, step_catch_up, step_commit}
@@ -83,7 +83,7 @@ returns-in-Commit-clause-step g c =
     rw c.in-Commit.is
     (step_commit (opening_in j) j.entries
     c.hand_in.new.journal.entries c.args.replicas.now.items c.in-Commit.worker
-    c.index-replica.result.now.proposals.worker c.index-replica.result.now c.hand_in.result there
+    c.index-replica.result.now.worker c.index-replica.result.now c.hand_in.result there
     (sym c.index-replica.ensures)
     (c.requires.at.each c.in-Commit.worker c.index-replica.result.now there
     (sym c.index-replica.ensures)).worker (ap (λ j. j.entries) c.hand_in.ensures.journal) c.hand_in.ensures.reply)
@@ -97,5 +97,5 @@ returns-in-Commit-clause-over g c =
 
 pub returns-in-Commit-clause-at : goal.returns-in-Commit-clause-at
 returns-in-Commit-clause-at g c =
-    stand_later c.args.journal.now c.hand_in.new.journal c.index-replica.result.now.proposals.worker
+    stand_later c.args.journal.now c.hand_in.new.journal c.index-replica.result.now.worker
     c.index-replica.result.now.place c.hand_in.result c.args.replicas.now.items c.requires.at c.hand_in.ensures

@@ -6,7 +6,7 @@ use Rattle.test_workers.proofs.rounds.catch_up_whole.Given as goal
 abbrev pub invariant-loop-place : goal.invariant-loop-place
 invariant-loop-place l = record {
   place : l.replica.place ≡ l.place;
-  worker : l.replica.proposals.worker ≡ l.fn.replica.proposals.worker;
+  worker : l.replica.worker ≡ l.fn.replica.worker;
   at : StandsInJournal l.journal l.replica;
 }
 

@@ -1,4 +1,4 @@
-use Rattle.std.proofs.Common.{◌≡◌, ℕ, ◌<◌, length, set, sym, ap, ap₂, ◌∙◌, arith}
+use Rattle.std.proofs.Common.{ℕ, ◌<◌, length, set, sym, ap, ap₂, ◌∙◌, arith}
 use Rattle.ra_worker.specs.Turns.{turn_in}
 use Rattle.ra_worker.proofs.CoreLemmas.{all_set, over_by, stand_later}
 use Rattle.ra_journal.specs.Journals.{opening_in}
@@ -29,10 +29,10 @@ returns-clause-played c =
     c.args.replicas.now.items s c.requires.at there (record { worker = own; at = c.catch_up_whole.ensures.at }) in
     record {
       played = turn_played (opening_in j) j.entries k.entries
-          c.args.replicas.now.items c.args.w s.proposals.worker r s c.requires.exists there
+          c.args.replicas.now.items c.args.w s.worker r s c.requires.exists there
           (sym c.index_mut-replica.ensures.value) here.at.place c.catch_up_whole.ensures.place own
           (ap (λ x. x.entries) c.hand_in-reply.ensures.journal);
-      at = stand_later j k s.proposals.worker s.place c.hand_in-reply.result (set c.args.replicas.now.items c.args.w s)
+      at = stand_later j k s.worker s.place c.hand_in-reply.result (set c.args.replicas.now.items c.args.w s)
           before c.hand_in-reply.ensures;
       over = over_by j k _ c.hand_in-reply.ensures.journal;
       sound = c.hand_in-reply.ensures.sound;

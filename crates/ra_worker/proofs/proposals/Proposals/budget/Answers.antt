@@ -1,4 +1,4 @@
-use Rattle.std.proofs.Common.{◌≡◌, ◌≤◌, sym, ◌∙◌, arith}
+use Rattle.std.proofs.Common.{arith}
 use Rattle.ra_journal.specs.Entries.{worker_count}
 use Rattle.ra_journal.proofs.RoomLemmas.{budgets_few}
 use Rattle.ra_worker.proofs.ProposalLemmas.{lot_budget}

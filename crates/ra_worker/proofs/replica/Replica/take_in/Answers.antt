@@ -1,5 +1,7 @@
-use Rattle.std.proofs.Common.{◌≡◌, ◌<◌, length, ap, arith}
+use Rattle.std.proofs.Common.{◌≡◌, length, ap, subst, arith}
+use Rattle.ra_model.specs.Situations.{IsSound}
 use Rattle.ra_journal.specs.Openings.{Opening}
+use Rattle.ra_worker.specs.Replicas.{Progress}
 use Rattle.ra_worker.proofs.ReplicaLemmas.{taken_none, taken_more, reads_more, next_judged, next_left, place_few}
 use Rattle.ra_worker.proofs.replica.Replica.take_in.Goals as goal
 
@@ -8,8 +10,9 @@ loop-j-init g c = record { taken = taken_none c.args.self.now c.args.batch.now; 
 
 pub take_entry-requires-clause-judged : goal.take_entry-requires-clause-judged
 take_entry-requires-clause-judged g c =
+    let sound = subst (λ (r : Progress). IsSound r.world) c.self.view_is c.instance-known.ensures.sound in
     next_judged c.args.self.now c.loop-j.self c.args.batch.now c.requires.told.journal c.loop-j.j c.entry-entry.result
-    c.instance-known.ensures.sound.well_formed c.instance-known.ensures.sound.starts c.requires.told.next
+    sound.well_formed sound.starts c.requires.told.next
     c.loop-j.invariant.taken
     (omega (arith, c.loop-j-test.true, c.len-j-end.ensures.value)) c.entry-entry.ensures
 

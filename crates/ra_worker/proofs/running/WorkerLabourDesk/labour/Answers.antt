@@ -1,5 +1,4 @@
 use Rattle.std.proofs.Common.{refl, ◌∙◌, arith}
-use Rattle.ra_worker.specs.Replicas.{next_at}
 use Rattle.ra_worker.proofs.AheadLemmas.{round_next, round_left, round_handed}
 use Rattle.ra_worker.proofs.Runs.{has_run}
 use Rattle.ra_worker.proofs.Steps.{room_left, may_on}
@@ -21,7 +20,7 @@ plan_ahead-requires-clause-left g c = c.has_left.ensures.left c.proposals-test.t
 pub hand_in-quiet-requires-clause-plan : goal.hand_in-quiet-requires-clause-plan
 hand_in-quiet-requires-clause-plan g c =
     let left = c.has_next.ensures.some c.round-test.true in
-    round_next c.round.self.replica (next_at c.proposals.self.replica) c.place.result c.round.ahead c.place_next.new.self
+    round_next c.round.self.replica c.proposals.self.replica.next c.place.result c.round.ahead c.place_next.new.self
     c.plan_next-first.result c.next-plan.result.now (c.round.invariant.stands left) left c.place.ensures
     c.place_next.ensures c.next-plan.ensures.first c.next-plan.ensures.later
 
@@ -29,7 +28,7 @@ pub hand_in-quiet-requires-clause-turns : goal.hand_in-quiet-requires-clause-tur
 hand_in-quiet-requires-clause-turns g c =
     let left = c.has_next.ensures.some c.round-test.true in
     room_left c.args.with.now.shared.now c.round.self c.round.invariant.may
-    (round_left c.round.self.replica (next_at c.proposals.self.replica) c.plan_next-first.result c.round.ahead
+    (round_left c.round.self.replica c.proposals.self.replica.next c.plan_next-first.result c.round.ahead
     (c.round.invariant.stands left) left)
 
 pub round-preserved : goal.round-preserved
@@ -45,7 +44,7 @@ round-preserved g c =
       fewer = omega (arith, moved.fewer, at.fewer);
       some = λ later. omega (arith, moved.fewer, at.fewer);
       stands = λ left. round_handed c.round.self.replica c.hand_in-quiet.new.self.replica
-          (next_at c.proposals.self.replica) c.place.result c.hand_in-quiet.result c.plan_next-first.result c.round.ahead
+          c.proposals.self.replica.next c.place.result c.hand_in-quiet.result c.plan_next-first.result c.round.ahead
           c.place_next.new.self c.move_on.new.self (at.stands some) c.place_next.ensures c.hand_in-quiet.ensures.quiet
           c.move_on.ensures.plans c.move_on.ensures.made c.move_on.ensures.next c.move_on.ensures.none left;
     }

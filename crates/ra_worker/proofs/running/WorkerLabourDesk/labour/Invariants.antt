@@ -1,7 +1,6 @@
 -- The worker is the same, and has taken at most twice as many turns as its place was brought on. The plans of a round that
 -- are left stand.
 use Rattle.std.proofs.Common.{◌≡◌, ◌+◌, ◌*◌, ◌<◌, ◌≤◌}
-use Rattle.ra_worker.specs.Replicas.{next_at}
 use Rattle.ra_worker.specs.Ahead.{PlansStand}
 use Rattle.ra_worker.specs.Working.{MayGoOn}
 use Rattle.ra_worker.proofs.running.WorkerLabourDesk.labour.Given as goal
@@ -23,7 +22,7 @@ invariant-round g l = record {
   turns : l.fn.self.pass.left ≤ l.self.pass.left + 2 * l.self.replica.place;
   fewer : l.self.pass.left ≤ l.initial.self.pass.left;
   some : 0 < l.ahead.at → l.self.pass.left < l.initial.self.pass.left;
-  stands : l.ahead.at ≤ l.ahead.made → PlansStand l.self.replica (next_at l.initial.self.replica) l.first l.ahead;
+  stands : l.ahead.at ≤ l.ahead.made → PlansStand l.self.replica l.initial.self.replica.next l.first l.ahead;
 }
 
 abbrev pub decreases-round : goal.decreases-round

@@ -1,7 +1,8 @@
-use Rattle.std.proofs.Common.{◌≡◌, ◌<◌, refl, sym, ap, subst, ◌∙◌, arith}
+use Rattle.std.proofs.Common.{refl, sym, subst, ◌∙◌, arith}
 use Rattle.ra_worker.specs.Replicas.{HasPassed}
 use Rattle.ra_worker.specs.declared.worker.Worker.{Worker}
 use Rattle.ra_worker.specs.Working.{IsAtOrAfterOwn, shown_in}
+use Rattle.ra_worker.proofs.OpeningLemmas.{passed_next, passed_place}
 use Rattle.ra_worker.proofs.Owning.{behind_same, copied_next, handed, shown, quiet_next, own_passed, place_grows}
 use Rattle.ra_worker.proofs.Steps.{next_commit, place_few, moved_taken, moved_then, room_moved}
 use Rattle.ra_worker.proofs.worker.Worker.hand_in.Goals as goal
@@ -42,7 +43,7 @@ returns-then-copied-eq0-clause-own g c =
     own_passed c.args.shared.now c.args.self.now after c.args.plan.now c.commit_and_copy-reply.result c.requires.work
     c.requires.own c.requires.left c.requires.plan refl c.commit_and_copy-reply.ensures.done
     c.commit_and_copy-reply.ensures.batch (sym c.len-copied.ensures.value ∙ c.if-copied-eq0.true) c.pass_over.new.self
-    c.pass_over.ensures.pass c.pass_over.ensures.passed.number
+    c.pass_over.ensures.pass (passed_next c.pass_over.ensures.passed)
 
 pub returns-then-copied-eq0-clause-moved : goal.returns-then-copied-eq0-clause-moved
 returns-then-copied-eq0-clause-moved g c =
@@ -56,12 +57,12 @@ returns-then-copied-eq0-clause-moved g c =
       arith,
       place_grows c.args.shared.now c.args.self.now after c.args.plan.now c.commit_and_copy-reply.result c.requires.work
           c.requires.own c.requires.left c.requires.plan refl done,
-      c.pass_over.ensures.passed.place,
+      passed_place c.pass_over.ensures.passed,
     ))
 
 pub returns-then-copied-eq0-clause-quiet : goal.returns-then-copied-eq0-clause-quiet
 returns-then-copied-eq0-clause-quiet g c =
-    λ quiet. subst (HasPassed c.args.self.now.replica c.pass_over.new.self.replica) (sym c.pass_over.ensures.passed.place)
+    λ quiet. subst (HasPassed c.args.self.now.replica c.pass_over.new.self.replica) (sym (passed_place c.pass_over.ensures.passed))
     c.pass_over.ensures.passed
 
 pub take_copied-requires-clause-work : goal.take_copied-requires-clause-work

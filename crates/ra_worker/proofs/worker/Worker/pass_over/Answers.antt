@@ -1,4 +1,4 @@
-use Rattle.std.proofs.Common.{refl, ◌∙◌, subst}
+use Rattle.std.proofs.Common.{refl, subst}
 use Rattle.ra_worker.specs.Replicas.{HasPassed}
 use Rattle.ra_worker.proofs.Owning.{work_passed}
 use Rattle.ra_worker.proofs.worker.Worker.pass_over.Goals as goal
