@@ -30,8 +30,8 @@ pub copied_next : (w : Worker) (q : ℕ) → CopiesUnlessQuiet q (seen_by w.pass
     (length w.batch ≡ 0 → ⊥) → HasNextBatch w
 copied_next w q copied made some = record {
   next = ⊎_elim
-      (λ all. all ∙ ap (batch_from (seen_by w.pass)) made)
-      (λ quiet. absurd (some (ap length quiet.0)))
+      (λ all. all.1 ∙ ap (batch_from (seen_by w.pass)) made)
+      (λ quiet. absurd (some (ap length quiet.1)))
       copied;
 }
 
@@ -39,8 +39,8 @@ copied_next w q copied made some = record {
 nothing_copied : (q : ℕ) (seen batch : List Entry) → CopiesUnlessQuiet q seen batch → length batch ≡ 0 →
     AreRefused seen q (length seen)
 nothing_copied q seen batch copied none = ⊎_elim
-    (λ all. record { each = λ j from within. absurd (omega (arith, none, ap length all, batch_long seen q)) })
-    (λ quiet. quiet.1)
+    (λ all. record { each = λ j from within. absurd (omega (arith, none, ap length all.1, batch_long seen q)) })
+    (λ quiet. quiet.0)
     copied
 
 module _ (s : Shared) (w w' : Worker) (plan : Plan) (reply : Reply) (work : IsAtWork s w) (own : HasOwn w)
