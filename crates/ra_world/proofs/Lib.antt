@@ -5,3 +5,4 @@ pub mod FollowLaws
 pub mod RequiredLaws
 pub mod FilterTableLaws
 pub mod WorldLaws
+pub mod StandingLaws

@@ -108,3 +108,20 @@ module _ {i j : Tables} {a : List Machine} {m : ℕ} {row : List ℕ} {cost : �
   pub balance_here : WellFormed i → j ≡ i → IsUsageRow j a m row → cost ≡ row_balance i m (slice_index row) →
       cost ≡ machine_balance i a m
   balance_here limits same used is = is ∙ balance_from i a m row limits (rw same at used)
+
+-- the costs of the first n of all machines are renewed
+pub record AreCostsTo (costs : List ℕ) (many n : ℕ) (f : ℕ → ℕ) : Type 0 where
+  pub one_each : length costs ≡ many
+  pub each : (m : ℕ) → m < n → slice_index costs m ≡ f m
+
+module _ (f : ℕ → ℕ) where
+  pub none_renewed : (costs : List ℕ) (many : ℕ) → length costs ≡ many → AreCostsTo costs many 0 f
+  none_renewed costs many long = grind arith
+
+  -- one cost more
+  pub next_renewed : (many n : ℕ) {costs new : List ℕ} {cost : ℕ} → n < many → AreCostsTo costs many n f →
+      new ≡ set costs n cost → cost ≡ f n → AreCostsTo new many (n + 1) f
+  next_renewed many n within so_far is cost_is = grind (arith, length-set, get_or-set_same, get_or-set_other)
+
+  pub all_renewed : (many n : ℕ) {costs : List ℕ} → many ≤ n → AreCostsTo costs many n f → AreCosts costs many f
+  all_renewed many n all are = grind arith

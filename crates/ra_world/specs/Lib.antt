@@ -3,3 +3,4 @@ pub mod Keeping
 pub mod Following
 pub mod Required
 pub mod FilterTables
+pub mod Standing

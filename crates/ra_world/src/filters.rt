@@ -155,10 +155,21 @@ pub(crate) fn filters_of(
     let many = inst.resources() + inst.balances() + inst.balances();
     let width = inst.machines() as usize + 63;
     let mut table = copies(alloc, many as usize * width, 0u32)?;
-    for m in 0..inst.machines() {
-        renew_column(inst, rows, &mut table, Machine(m));
-    }
+    renew_all_filters(inst, rows, &mut table);
     Ok(table)
+}
+
+/// Computes the filter rows of all machines again.
+pub(crate) fn renew_all_filters(inst: &Instance, rows: &Rows<'_>, table: &mut Fixed<u32>)
+    requires instance { rows.now.tables ≡ inst.now.tables }
+    requires grid { length table.old.items ≡
+        filter_row_count inst.now.tables * filter_width inst.now.tables }
+    ensures { (a : List Machine) → StandFor rows.now a →
+        IsRowTable inst.now.tables a table.new.items }
+{
+    for m in 0..inst.machines() {
+        renew_column(inst, rows, table, Machine(m));
+    }
 }
 
 /// Computes the filter rows of the two machines of a step again.

@@ -9,6 +9,7 @@ mod following;
 mod kept;
 mod renewal;
 mod required;
+mod standing;
 mod world;
 
 pub use changes::{process_share, way_share};

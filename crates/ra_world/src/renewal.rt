@@ -80,6 +80,30 @@ pub(crate) fn balances_of(
     Ok(costs)
 }
 
+/// Computes the load costs of all machines again.
+pub(crate) fn renew_all_loads(inst: &Instance, rows: &Rows<'_>, loads: &mut Fixed<u128>)
+    requires instance { rows.now.tables ≡ inst.now.tables }
+    requires one_each { length loads.old.items ≡ machine_count inst.now.tables }
+    ensures { (a : List Machine) → StandFor rows.now a → AreCosts loads.new.items
+        (machine_count inst.now.tables) (machine_load inst.now.tables a) }
+{
+    for m in 0..inst.machines() {
+        loads.set(m as usize, load_of(inst, rows, Machine(m)));
+    }
+}
+
+/// Computes the balance costs of all machines again.
+pub(crate) fn renew_all_balances(inst: &Instance, rows: &Rows<'_>, balances: &mut Fixed<u128>)
+    requires instance { rows.now.tables ≡ inst.now.tables }
+    requires one_each { length balances.old.items ≡ machine_count inst.now.tables }
+    ensures { (a : List Machine) → StandFor rows.now a → AreCosts balances.new.items
+        (machine_count inst.now.tables) (machine_balance inst.now.tables a) }
+{
+    for m in 0..inst.machines() {
+        balances.set(m as usize, balance_of(inst, rows, Machine(m)));
+    }
+}
+
 /// Replaces the cost of one machine, and gives the new sum of all costs.
 #[tactic(auto, using(crate::proofs::RenewalLaws::replaced))]
 pub(crate) fn replace_cost(costs: &mut Fixed<u128>, sum: u128, m: Machine, cost: u128) -> u128

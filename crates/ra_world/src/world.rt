@@ -18,6 +18,7 @@ use crate::filters::filters_of;
 use crate::following::follow;
 use crate::kept::Kept;
 use crate::renewal::{balances_of, loads_of, stays_of};
+use crate::standing::stand_at;
 use ra_base::{Assignment, Fixed, Machine, NoMemory, Parts, Steps};
 use ra_cells::Cells;
 use ra_model::{Instance, copied};
@@ -207,6 +208,19 @@ impl<'a> World<'a> {
         let inst = self.inst;
         let start = self.start;
         follow(inst, start, &mut self.kept, mv, steps);
+    }
+
+    /// Stands at another feasible list of the same instance and initial list, whose cost has these parts. It takes no
+    /// memory. It compares each process once, reads the requirements of each that moves, and renews one row a machine.
+    pub fn stand_at<L: Ledger>(&mut self, list: &Assignment, parts: Parts, steps: &mut Steps<L>)
+        requires sound { IsSound (record self.old { here = list.now.items }) }
+        requires parts { parts ≡ parts_at (record self.old { here = list.now.items }) }
+        ensures stands { self.new ≡ record self.old { here = list.now.items } }
+        ensures at_most { steps.new ≤
+            steps.old + process_count self.old.tables * resource_count self.old.tables }
+    {
+        let inst = self.inst;
+        stand_at(inst, &mut self.kept, list, parts, steps);
     }
 }
 

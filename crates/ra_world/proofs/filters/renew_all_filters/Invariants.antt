@@ -4,7 +4,7 @@ use Rattle.ra_base.specs.declared.ids.Machine.{Machine}
 use Rattle.ra_rows.specs.Rows.{StandFor}
 use Rattle.ra_world.specs.FilterTables.{filter_row_count, filter_width}
 use Rattle.ra_world.proofs.FilterTableLaws.{IsRowTableTo}
-use Rattle.ra_world.proofs.filters.filters_of.Given as goal
+use Rattle.ra_world.proofs.filters.renew_all_filters.Given as goal
 
 abbrev pub invariant-loop-m : goal.invariant-loop-m
 invariant-loop-m l = record {

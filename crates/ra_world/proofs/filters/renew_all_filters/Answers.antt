@@ -2,7 +2,7 @@
 use Rattle.std.proofs.Common.{List, ◌∙◌}
 use Rattle.ra_base.specs.declared.ids.Machine.{Machine}
 use Rattle.ra_world.proofs.FilterTableLaws.{next_column}
-use Rattle.ra_world.proofs.filters.filters_of.Goals as goal
+use Rattle.ra_world.proofs.filters.renew_all_filters.Goals as goal
 
 pub loop-m-preserved : goal.loop-m-preserved
 loop-m-preserved c = record {
