@@ -38,6 +38,12 @@ moves_on old mid new one more = record {
   parts = more.parts ∙ one.parts;
 }
 
+-- the rows and the counters represent the new assignment, by other names for the instance, the start and itself
+pub stands_on : (old new : Kept) (i : Tables) (a0 b : List Machine) → Stand old i a0 old.assignment.items →
+    OnlyMoves old new → new.assignment.items ≡ b → Stand new i a0 b
+stands_on old new i a0 b stand moves is =
+    subst (Stand new i a0) is (rw (stand.instance, stand.start) at moves.stand)
+
 -- a process is put on the machine on which it is
 pub put_here : (a : List Machine) (p : ℕ) (to : Machine) → machine_at a p ≡ to.0 → set a p to ≡ a
 unfolding machine_at

@@ -9,6 +9,7 @@ use crate::changes::{machine_after, process_after, service_cost};
 use crate::filters::renew_filters;
 use crate::kept::Kept;
 use crate::renewal::{renew_balances, renew_loads};
+use crate::standing::put;
 use ra_base::{Assignment, Parts, Steps};
 use ra_model::Instance;
 use ra_moves::{Move, Step};
@@ -55,9 +56,7 @@ fn follow_step<L: Ledger>(
         slice_set kept.old.assignment.items step.process.0 step.to }
     ensures counted { steps.new ≡ steps.old + resource_count inst.now.tables }
 {
-    kept.rows.shift(step.process, step.from, step.to, steps);
-    kept.cells.change(step.process, step.from, step.to);
-    kept.assignment.set(step.process.0 as usize, step.to);
+    put(kept, step, steps);
     let load = renew_loads(inst, &kept.rows, &mut kept.loads, step, kept.parts.load);
     let balance = renew_balances(
         inst,
