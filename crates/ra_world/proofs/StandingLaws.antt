@@ -1,6 +1,9 @@
 -- A kept assignment becomes another, process by process.
 use Rattle.std.proofs.Common.{◌≡◌, ℕ, ◌+◌, ◌*◌, ◌<◌, ◌≤◌, List, length, set, refl, ap, sym, subst, ◌∙◌, arith}
-use Rattle.std.proofs.Common.{add-one, suc-mul}
+use Rattle.std.proofs.Common.{◌≢◌, mul-le-mul_right}
+use Rattle.std.proofs.lemmas.Bool.Decides.{nat_tests}
+use Rattle.ra_base.proofs.Sums.{total_none, total_more, total_bound}
+use Rattle.ra_world.specs.Differing.{one_apart, differing}
 use Rattle.std.proofs.Math.ListN.{length-set}
 use Rattle.std.proofs.lemmas.List.{set-get_or}
 use Rattle.ra_base.specs.declared.ids.Machine.{Machine}
@@ -50,24 +53,61 @@ unfolding machine_at
 put_here a p to here =
     ap (set a p) (sym (ap (λ n. let m : Machine = record { 0 = n } in m) here)) ∙ set-get_or a p (record { 0 = 0 })
 
--- the first n processes are on their machines in a list
-pub record AgreeTo (a list : List Machine) (n : ℕ) : Type 0 where
+-- of an assignment that was `old`, the first n processes are on their machines in a list, and the others where they were
+pub record AgreeTo (old a list : List Machine) (n : ℕ) : Type 0 where
   pub as_many : length a ≡ length list
   pub each : (p : ℕ) → p < n → machine_at a p ≡ machine_at list p
+  pub others : (p : ℕ) → n ≤ p → machine_at a p ≡ machine_at old p
 
-pub agree_on : (a b list : List Machine) (n : ℕ) (to : Machine) → AgreeTo a list n → n < length list →
-    to.0 ≡ machine_at list n → b ≡ set a n to → AgreeTo b list (n + 1)
-agree_on a b list n to so_far within is made =
+pub agree_on : (old a b list : List Machine) (n : ℕ) (to : Machine) → AgreeTo old a list n → n < length list →
+    to.0 ≡ machine_at list n → b ≡ set a n to → AgreeTo old b list (n + 1)
+agree_on old a b list n to so_far within is made =
     grind (arith, length-set, machine_at_set_same, machine_at_set_other)
 
-pub agree_all : (a list : List Machine) (n : ℕ) → length list ≤ n → AgreeTo a list n → a ≡ list
-agree_all a list n all agree =
+pub agree_all : (old a list : List Machine) (n : ℕ) → length list ≤ n → AgreeTo old a list n → a ≡ list
+agree_all old a list n all agree =
     same_machines a list agree.as_many (λ p within. agree.each p (omega (arith, agree.as_many)))
 
--- one process more reads one row more at most
-pub read_more : (base j width : ℕ) {now next : ℕ} → now ≤ base + j * width → next ≤ now + width →
-    next ≤ base + (j + 1) * width
-read_more base j width few more = rw add-one (rw suc-mul (omega arith))
+-- one for two different machines, and zero for one
+pub apart_one : (m n : ℕ) → m ≢ n → one_apart m n ≡ 1
+unfolding one_apart
+apart_one m n apart = grind (arith, nat_tests)
+
+pub apart_none : (m n : ℕ) → m ≡ n → one_apart m n ≡ 0
+unfolding one_apart
+apart_none m n same = grind (arith, nat_tests)
+
+rows_more : (base n more width : ℕ) {now next : ℕ} → now ≡ base + n * width → next ≡ now + more * width →
+    next ≡ base + (n + more) * width
+rows_more base n more width so_far is = omega arith
+
+module _ (old list : List Machine) where
+  pub differing_none : differing 0 old list ≡ 0
+  unfolding differing
+  differing_none = total_none _
+
+  differing_more : (n : ℕ) → differing (n + 1) old list ≡
+      differing n old list + one_apart (machine_at old n) (machine_at list n)
+  unfolding differing one_apart
+  differing_more n = total_more n _
+
+  -- one process more reads its row if it moves
+  pub read_more : (base n width at to : ℕ) {now next : ℕ} → now ≡ base + differing n old list * width →
+      at ≡ machine_at old n → to ≡ machine_at list n → next ≡ now + one_apart at to * width →
+      next ≡ base + differing (n + 1) old list * width
+  read_more base n width at to {now} so_far at_is to_is more =
+      let same : one_apart at to ≡ one_apart (machine_at old n) (machine_at list n) =
+      ap (λ x. one_apart x to) at_is ∙ ap (one_apart (machine_at old n)) to_is in
+      rw (differing_more n) (rows_more base _ _ width so_far (more ∙ ap (λ x. now + x * width) same))
+
+  differing_few : (n : ℕ) → differing n old list ≤ n * 1
+  unfolding differing
+  differing_few n = total_bound n 1 _ (λ p within. grind (arith, nat_tests))
+
+  pub read_few : (base n width : ℕ) {now : ℕ} → now ≡ base + differing n old list * width → now ≤ base + n * width
+  read_few base n width is =
+      let few : differing n old list ≤ n = omega (arith, differing_few n) in
+      omega (arith, mul-le-mul_right width few)
 
 -- all that is kept, by the start that the rows name
 pub keeps_by_rows : (kept : Kept) (i : Tables) (a0 : List Machine) → Keeps kept i a0 → Keeps kept i kept.rows.start

@@ -4,3 +4,4 @@ pub mod Following
 pub mod Required
 pub mod FilterTables
 pub mod Standing
+pub mod Differing

@@ -3,6 +3,7 @@ ghost use Rattle.ra_model.specs.Numbers.{resource_count, machine_count, process_
 ghost use Rattle.ra_model.specs.Assignments.{IsAssignment, machine_at};
 ghost use Rattle.ra_model.specs.Costs.{parts_of};
 ghost use Rattle.ra_world.specs.Keeping.{Stand, Keeps};
+ghost use Rattle.ra_world.specs.Differing.{one_apart, differing};
 ghost use Rattle.ra_world.specs.Standing.{OnlyMoves};
 
 use crate::filters::renew_all_filters;
@@ -26,8 +27,9 @@ pub(crate) fn stand_at<L: Ledger>(
     requires parts { parts ≡ parts_of inst.now.tables kept.old.rows.start list.now.items }
     ensures keeps { Keeps kept.new inst.now.tables kept.old.rows.start }
     ensures assignment { kept.new.assignment.items ≡ list.now.items }
-    ensures at_most { steps.new ≤
-        steps.old + process_count inst.now.tables * resource_count inst.now.tables }
+    ensures counted { steps.new ≡ steps.old +
+        differing (process_count inst.now.tables) kept.old.assignment.items list.now.items
+        * resource_count inst.now.tables }
 {
     put_all(inst, kept, list, steps);
     renew_all_loads(inst, &kept.rows, &mut kept.loads);
@@ -42,8 +44,9 @@ fn put_all<L: Ledger>(inst: &Instance, kept: &mut Kept<'_>, list: &Assignment, s
     requires fits { IsAssignment inst.now.tables list.now.items }
     ensures moves { OnlyMoves kept.old kept.new }
     ensures assignment { kept.new.assignment.items ≡ list.now.items }
-    ensures at_most { steps.new ≤
-        steps.old + process_count inst.now.tables * resource_count inst.now.tables }
+    ensures counted { steps.new ≡ steps.old +
+        differing (process_count inst.now.tables) kept.old.assignment.items list.now.items
+        * resource_count inst.now.tables }
 {
     for p in 0..inst.processes() {
         let to = machine_of(list, Process(p));
@@ -58,7 +61,9 @@ fn put_unless_there<L: Ledger>(kept: &mut Kept<'_>, p: Process, to: Machine, ste
     requires to { to.0 < machine_count kept.old.rows.tables }
     ensures moves { OnlyMoves kept.old kept.new }
     ensures assignment { kept.new.assignment.items ≡ slice_set kept.old.assignment.items p.0 to }
-    ensures at_most { steps.new ≤ steps.old + resource_count kept.old.rows.tables }
+    ensures counted { steps.new ≡ steps.old +
+        one_apart (machine_at kept.old.assignment.items p.0) to.0
+        * resource_count kept.old.rows.tables }
 {
     let from = machine_of(&kept.assignment, p);
     if from.0 != to.0 {

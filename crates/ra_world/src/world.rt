@@ -13,6 +13,7 @@ ghost use Rattle.ra_rows.specs.Rows as rows;
 ghost use Rattle.ra_cells.specs.Stands as cells;
 ghost use Rattle.ra_world.specs.FilterTables.{IsRowTable};
 ghost use Rattle.ra_world.specs.Keeping.{Keeps};
+ghost use Rattle.ra_world.specs.Differing.{differing};
 
 use crate::filters::filters_of;
 use crate::following::follow;
@@ -216,6 +217,9 @@ impl<'a> World<'a> {
         requires sound { IsSound (record self.old { here = list.now.items }) }
         requires parts { parts ≡ parts_at (record self.old { here = list.now.items }) }
         ensures stands { self.new ≡ record self.old { here = list.now.items } }
+        ensures counted { steps.new ≡ steps.old +
+            differing (process_count self.old.tables) self.old.here list.now.items
+            * resource_count self.old.tables }
         ensures at_most { steps.new ≤
             steps.old + process_count self.old.tables * resource_count self.old.tables }
     {

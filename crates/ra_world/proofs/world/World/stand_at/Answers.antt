@@ -1,7 +1,7 @@
 -- The list is feasible, so it's one at which a world may stand.
 use Rattle.std.proofs.Common.{◌∙◌, ap}
 use Rattle.ra_model.specs.Broken.{first_broken}
-use Rattle.ra_world.proofs.StandingLaws.{keeps_by_rows}
+use Rattle.ra_world.proofs.StandingLaws.{keeps_by_rows, read_few}
 use Rattle.ra_world.proofs.world.World.stand_at.Goals as goal
 
 pub stand_at-requires-clause-keeps : goal.stand_at-requires-clause-keeps
@@ -30,3 +30,6 @@ invariant_of-self g c =
       unbroken = ap (first_broken w.inst.now.tables w.start.now.items) c.stand_at.ensures.assignment
           ∙ (rw (← c.self.view_is) at c.requires.sound).unbroken;
     }
+
+pub returns-clause-at_most : goal.returns-clause-at_most
+returns-clause-at_most g c = rw (← c.self.view_is) (read_few _ _ _ _ _ c.stand_at.ensures.counted)
