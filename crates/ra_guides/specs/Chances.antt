@@ -9,6 +9,6 @@ use Rattle.rand_xoshiro.specs.Xoshiro256.{of_seed, plus_plus}
 abbrev pub words_of : List ℕ → Stream
 words_of state = stream_of (steps_u64_high plus_plus) state
 
--- the words of the generator Xoshiro256PlusPlus made by seed_from_u64
-abbrev pub words_from : ℕ → Stream
-words_from seed = words_of (of_seed (splitmix_seed 32 seed))
+-- the state of the generator Xoshiro256PlusPlus made by seed_from_u64
+abbrev pub state_of : ℕ → List ℕ
+state_of seed = of_seed (splitmix_seed 32 seed)

@@ -1,5 +1,4 @@
 ghost use Rattle.std.specs.Prelude.{◌≡◌, ◌*◌, ◌/◌, ◌-◌, ◌^◌, ◌<◌, ◌≤◌, min};
-ghost use Rattle.ra_guides.specs.Heats.{fine_of};
 
 /// The most heat that there is.
 const MOST: u128 = 1 << 110;
@@ -12,6 +11,8 @@ pub struct Heat {
 }
 
 impl Heat {
+    ghost use Rattle.ra_guides.specs.Heats.{fine_of};
+
     /// A heat of so many units of cost.
     pub fn of(units: u64) -> Heat
         ensures { fine_of result ≡ 2 ^ 16 * units }
