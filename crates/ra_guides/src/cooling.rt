@@ -27,14 +27,18 @@ impl Cooling {
         }
     }
 
-    /// The heat after `n` of `total` tries.
+    /// The heat after `n` of `total` tries: the first one before any try, the last one after all of them.
     pub fn at(&self, n: u64, total: u64) -> Heat
+        ensures begins { n ≡ 0 → 0 < total → result ≡ high_of self.now }
         ensures ends { total ≤ n → result ≡ low_of self.now }
         ensures above { min (fine_of (high_of self.now)) (fine_of (low_of self.now)) ≤ fine_of result }
         ensures below { fine_of result ≤ max (fine_of (high_of self.now)) (fine_of (low_of self.now)) }
     {
         if total <= n {
             return self.low;
+        }
+        if n == 0 {
+            return self.high;
         }
         let share = (u128::from(n) << 64) / u128::from(total);
         let fine = fourth_power(part_way(self.high_root, self.low_root, share as u64));

@@ -1,6 +1,6 @@
 //! Tests of what is known of an instance and an assignment, and of what follows moves by changes, beside the plain
-//! checker and the plain planner. There is nothing here but tests and what compares, so that the crates that they test
-//! are proved once, without them.
+//! checker and the plain planner; and tests of what guides a search. There is nothing here but tests and what compares,
+//! so that the crates that they test are proved once, without them.
 #![tactic(auto)]
 
 mod beside;
@@ -12,6 +12,8 @@ mod check;
 mod common;
 #[cfg(test)]
 mod guards;
+#[cfg(test)]
+mod guides;
 #[cfg(test)]
 mod model;
 #[cfg(test)]
