@@ -135,8 +135,20 @@ fn compare_list(
     same(rt, (count, sum), want);
 }
 
-/// Processes go from the first machine to the second, one by one. The second has room for eight at first, so the ninth
-/// finds its list full.
+/// Nine processes go from the first machine to the second, one by one. The second has room for eight at first, so the
+/// ninth finds its list full.
+fn move_nine(residents: &mut Residents<'_>, here: &Assignment)
+    requires machines { machine_count residents.old.tables ≡ 2 }
+    requires processes { process_count residents.old.tables ≡ 10 }
+    requires here { IsAssignment residents.old.tables here.now.items }
+    ensures { residents.new.tables ≡ residents.old.tables }
+{
+    for p in 0..9 {
+        residents.moved(Process(p), Machine(0), Machine(1), here);
+    }
+}
+
+/// The lists at first, after nine moves, after one of them again, and when they are made anew.
 fn follow_all(rt: &impl Abort, alloc: Global, inst: &Instance) {
     assert!(rt; inst.machines() == 2);
     assert!(rt; inst.processes() == 10);
@@ -146,9 +158,7 @@ fn follow_all(rt: &impl Abort, alloc: Global, inst: &Instance) {
     let (first, second) = (Machine(0), Machine(1));
     compare_list(rt, &residents, &start, first, (10, 45));
     compare_list(rt, &residents, &start, second, (0, 0));
-    for p in 0..9 {
-        residents.moved(Process(p), first, second, &nine);
-    }
+    move_nine(&mut residents, &nine);
     compare_list(rt, &residents, &nine, first, (1, 9));
     compare_list(rt, &residents, &nine, second, (9, 36));
     residents.moved(Process(0), first, second, &nine);
