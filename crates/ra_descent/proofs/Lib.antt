@@ -1,0 +1,4 @@
+pub mod CheapestLemmas
+pub mod MarkLemmas
+pub mod ShiftLemmas
+pub mod TurnLemmas
