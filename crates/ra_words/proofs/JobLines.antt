@@ -35,14 +35,14 @@ digits_named (x ∷ xs) number =
     ap not (ne_eqb x 45 (λ e. omega (arith, first.0.0, e)))
 
 -- the value of an option, if it is given, is a name
-abbrev is_named : Option (List ℕ) → Bool
+abbrev pub is_named : Option (List ℕ) → Bool
 is_named text = option_map_or is_name text true
 
 slack_named : (text : Option (List ℕ)) → is_slack text ≡ true → is_named text ≡ true
 slack_named None slack = refl
 slack_named (Some text) slack = digits_named text slack
 
-closed_named : (text : Option (List ℕ)) → is_closed text ≡ true → is_named text ≡ true
+pub closed_named : (text : Option (List ℕ)) → is_closed text ≡ true → is_named text ≡ true
 closed_named None closed = refl
 closed_named (Some text) closed = closed
 
@@ -54,7 +54,7 @@ draws_named (Some text) drawing = go (bytes_eq text (codes "1")) refl drawing
     go true is e = ap is_name ((bytes_eq-Decides text (codes "1")).0 is)
     go false is e = ap is_name ((bytes_eq-Decides text (codes "2")).0 e)
 
-seed_named : (word : List ℕ) → is_name (seed_text word) ≡ true → is_name word ≡ true
+pub seed_named : (word : List ℕ) → is_name (seed_text word) ≡ true → is_name word ≡ true
 unfolding seed_text first_place
 seed_named [] named = cc
 seed_named (x ∷ xs) named = go (x == 58) named
@@ -96,7 +96,7 @@ lots_named (word ∷ words) lots =
 
 -- ---- words by their places
 
-name_within : (words : List (List ℕ)) (place : ℕ) → is_name (word_at words place) ≡ true → place < length words
+pub name_within : (words : List (List ℕ)) (place : ℕ) → is_name (word_at words place) ≡ true → place < length words
 unfolding word_at
 name_within words place name = elim (cases_lt place (length words)) [
   | inl within ↦ within
@@ -105,11 +105,11 @@ name_within words place name = elim (cases_lt place (length words)) [
 ]
 
 -- a number of words from a place on
-abbrev words_from : ℕ → List (List ℕ) → ℕ → List (List ℕ)
+abbrev pub words_from : ℕ → List (List ℕ) → ℕ → List (List ℕ)
 words_from place words zero = []
 words_from place words (suc n) = word_at words place ∷ words_from (suc place) words n
 
-names_within : (n place : ℕ) (words : List (List ℕ)) → list_all is_name (words_from place words (suc n)) ≡ true →
+pub names_within : (n place : ℕ) (words : List (List ℕ)) → list_all is_name (words_from place words (suc n)) ≡ true →
     n + place < length words
 names_within zero place words names =
     let within : place < length words = name_within words place (both (is_name (word_at words place)) true names).0 in
@@ -125,7 +125,7 @@ word_here : (words : List (List ℕ)) (place : ℕ) → place < length words →
 unfolding word_at
 word_here words place within = rw add-one (drop-cons words place [] within)
 
-words_here : (n place : ℕ) (words : List (List ℕ)) → n + place ≤ length words →
+pub words_here : (n place : ℕ) (words : List (List ℕ)) → n + place ≤ length words →
     drop place words ≡ words_from place words n ++ drop (n + place) words
 words_here zero place words within = let none : place ≡ 0 + place = omega arith in ap (λ k. drop k words) none
 words_here (suc n) place words within =
@@ -137,7 +137,7 @@ words_here (suc n) place words within =
     ∙ ap (λ k. word_at words place ∷ (words_from (suc place) words n ++ drop k words)) far
 
 -- an option and its value, if it is at a place, and the words after them
-option_here : (option : List ℕ) (words : List (List ℕ)) (place : ℕ) → is_named (value_at option words place) ≡ true
+pub option_here : (option : List ℕ) (words : List (List ℕ)) (place : ℕ) → is_named (value_at option words place) ≡ true
     → drop place words ≡ option_words option (value_at option words place) ++ drop (behind option words place) words
 unfolding value_at behind has_option option_words
 option_here option words place named = go (bytes_eq (word_at words place) option) refl named
@@ -205,8 +205,11 @@ closing_line n words = record {
   command = word_at words 0;
   files = words_from 1 words n;
   slack = None;
+  from = None;
   closed = value_at (codes "--closed") words (suc n);
   draws = None;
+  heat = None;
+  workers = None;
   behind = [];
 }
 
@@ -237,8 +240,11 @@ closing_spelled k words files =
           (drop_all (behind (codes "--closed") words (suc n)) words (omega (arith, is.last)));
       files = files.names;
       slack = refl;
+      from = refl;
       closed = named;
       draws = refl;
+      heat = refl;
+      workers = refl;
       behind = refl;
     }
 
@@ -250,8 +256,11 @@ pair_line words = record {
   command = word_at words 0;
   files = words_from 1 words 1;
   slack = None;
+  from = None;
   closed = None;
   draws = None;
+  heat = None;
+  workers = None;
   behind = [];
 }
 
@@ -267,8 +276,11 @@ pair_spelled words two name = record {
       ∙ ap (λ ws. words_from 0 words 2 ++ ws) (drop_all 2 words (omega (arith, two)));
   files = rw name refl;
   slack = refl;
+  from = refl;
   closed = refl;
   draws = refl;
+  heat = refl;
+  workers = refl;
   behind = refl;
 }
 
@@ -280,8 +292,11 @@ running_line n words = record {
   command = word_at words 0;
   files = words_from 1 words n;
   slack = slack_text words (suc n);
+  from = None;
   closed = closed_text words (suc n);
   draws = draws_text words (suc n);
+  heat = None;
+  workers = None;
   behind = lot_words words (suc n);
 }
 
@@ -302,7 +317,7 @@ lots_parts words place ends = record {
 
 pub running_spelled : (k : ℕ) (words : List (List ℕ)) → Files ends_in_lots (suc k) words →
     Spells (running_line (suc k) words) words
-unfolding words_of_line slack_text closed_text draws_text lot_words closed_place draws_place lots_place
+unfolding words_of_line slack_text closed_text draws_text lot_words closed_place draws_place lots_place option_words
 running_spelled k words files =
     let n = suc k in
     let is = lots_parts words (suc n) files.ends in
@@ -320,8 +335,11 @@ running_spelled k words files =
           closed draws);
       files = files.names;
       slack = slack;
+      from = refl;
       closed = closed;
       draws = draws;
+      heat = refl;
+      workers = refl;
       behind = lots_named (lot_words words (suc n)) (lots_told (lot_words words (suc n)) is.lots);
     }
 
@@ -343,8 +361,11 @@ repair_line words = record {
   command = word_at words 0;
   files = words_from 1 words 2;
   slack = None;
+  from = None;
   closed = value_at (codes "--closed") words 3;
   draws = None;
+  heat = None;
+  workers = None;
   behind = drop (lot_place words) words;
 }
 
@@ -373,7 +394,10 @@ module _ (words : List (List ℕ)) (repair : is_repair words ≡ true) where
             ∙ ap (λ ws. words_from 0 words 3 ++ ws) (option_here (codes "--closed") words 3 named);
         files = is.names;
         slack = refl;
+        from = refl;
         closed = named;
         draws = refl;
+        heat = refl;
+        workers = refl;
         behind = lots_named (drop (lot_place words) words) (lots_told (drop (lot_place words) words) is.lots);
       }

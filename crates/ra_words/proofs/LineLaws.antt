@@ -16,26 +16,42 @@ use Rattle.clap.proofs.TakesLemmas.{leaf_takes}
 use Rattle.clap.proofs.WalkLemmas.{both, first_value-rows, raw_values-rows}
 use Rattle.ra_words.specs.Lines.{Finds, Line, Spells, line_app, option_words, words_of_line}
 use Rattle.ra_words.proofs.RowLaws.{first_all}
-use Rattle.ra_words.proofs.LineWalk.{Closed, Draws, Given, Goes, Holds, Reads, Seen, Slack, end_goes, id_of, line_rules}
-use Rattle.ra_words.proofs.LineWalk.{maybe_goes, plains_go, seen_of, some_words, standing, with_seen}
+use Rattle.ra_words.proofs.LineWalk.{Closed, Draws, From, Given, Goes, Heat, Holds, Reads, Seen, Slack, Workers}
+use Rattle.ra_words.proofs.LineWalk.{end_goes, id_of, line_rules, maybe_goes, plains_go, seen_of, some_words}
+use Rattle.ra_words.proofs.LineWalk.{standing, with_seen}
 
--- the words after the command word
+-- the words after the first
 abbrev behind_command : Line → List Text
 behind_command line =
     line.files ++ (option_words (codes "--slack") line.slack
-    ++ (option_words (codes "--closed") line.closed ++ (option_words (codes "--draws") line.draws ++ line.behind)))
+    ++ (option_words (codes "--from") line.from
+    ++ (option_words (codes "--closed") line.closed
+    ++ (option_words (codes "--draws") line.draws
+    ++ (option_words (codes "--heat") line.heat
+    ++ (option_words (codes "--workers") line.workers ++ line.behind))))))
 
 -- what is found in them
 abbrev seen_in : Line → Seen
 seen_in line = record {
   plain = line.files ++ line.behind;
   slack = line.slack;
+  from = line.from;
   closed = line.closed;
   draws = line.draws;
+  heat = line.heat;
+  workers = line.workers;
 }
 
 abbrev nothing_seen : Seen
-nothing_seen = record { plain = []; slack = None; closed = None; draws = None }
+nothing_seen = record {
+  plain = [];
+  slack = None;
+  from = None;
+  closed = None;
+  draws = None;
+  heat = None;
+  workers = None;
+}
 
 at_start : Holds (standing [] None idle) nothing_seen
 at_start = record {
@@ -50,8 +66,11 @@ at_start = record {
   where
     options : (given : Given) → all_of (id_of given) [] ≡ option_map (λ text. text ∷ []) (seen_of given nothing_seen)
     options Slack = refl
+    options From = refl
     options Closed = refl
     options Draws = refl
+    options Heat = refl
+    options Workers = refl
 
 line_goes : (line : Line) (words : List Text) → Spells line words →
     Goes (standing [] None idle) (behind_command line) (seen_in line)
@@ -59,17 +78,27 @@ line_goes line words is =
     let all = seen_in line in
     let s1 : Seen = record nothing_seen { plain = line.files } in
     let s2 : Seen = with_seen Slack line.slack s1 in
-    let s3 : Seen = with_seen Closed line.closed s2 in
-    let w4 = line.behind in
-    let w3 = option_words (codes "--draws") line.draws ++ w4 in
-    let w2 = option_words (codes "--closed") line.closed ++ w3 in
+    let s3 : Seen = with_seen From line.from s2 in
+    let s4 : Seen = with_seen Closed line.closed s3 in
+    let s5 : Seen = with_seen Draws line.draws s4 in
+    let s6 : Seen = with_seen Heat line.heat s5 in
+    let w7 = line.behind in
+    let w6 = option_words (codes "--workers") line.workers ++ w7 in
+    let w5 = option_words (codes "--heat") line.heat ++ w6 in
+    let w4 = option_words (codes "--draws") line.draws ++ w5 in
+    let w3 = option_words (codes "--closed") line.closed ++ w4 in
+    let w2 = option_words (codes "--from") line.from ++ w3 in
     plains_go (standing [] None idle) nothing_seen all line.files
     (option_words (codes "--slack") line.slack ++ w2) at_start is.files (λ a ha.
     maybe_goes a s1 all Slack line.slack w2 ha is.slack refl (λ b hb.
-    maybe_goes b s2 all Closed line.closed w3 hb is.closed refl (λ c hc.
-    maybe_goes c s3 all Draws line.draws w4 hc is.draws refl (λ d hd.
-    subst (λ ws. Goes d ws all) (append-nil line.behind)
-    (plains_go d (with_seen Draws line.draws s3) all line.behind [] hd is.behind (λ e he. end_goes e all he))))))
+    maybe_goes b s2 all From line.from w3 hb is.from refl (λ c hc.
+    maybe_goes c s3 all Closed line.closed w4 hc is.closed refl (λ d hd.
+    maybe_goes d s4 all Draws line.draws w5 hd is.draws refl (λ e he.
+    maybe_goes e s5 all Heat line.heat w6 he is.heat refl (λ f hf.
+    maybe_goes f s6 all Workers line.workers w7 hf is.workers refl (λ g hg.
+    subst (λ ws. Goes g ws all) (append-nil line.behind)
+    (plains_go g (with_seen Workers line.workers s6) all line.behind [] hg is.behind
+    (λ h hh. end_goes h all hh)))))))))
 
 -- ---- what is found
 
@@ -133,8 +162,11 @@ line_found app m words is has line spelled =
           ∙ end.2.plain)
           ∙ words_in (line.files ++ line.behind);
       slack = option Slack;
+      from = option From;
       closed = option Closed;
       draws = option Draws;
+      heat = option Heat;
+      workers = option Workers;
     }
 
 -- ---- the words are taken

@@ -222,40 +222,61 @@ module _ (id flag : Text) (is : IsOption id flag) (rows : List Row) (word : Text
 -- the options of the line
 pub data Given : Type 0 where
   Slack : Given
+  From : Given
   Closed : Given
   Draws : Given
+  Heat : Given
+  Workers : Given
 
 abbrev pub id_of : Given → Text
 id_of Slack = codes "slack"
+id_of From = codes "from"
 id_of Closed = codes "closed"
 id_of Draws = codes "draws"
+id_of Heat = codes "heat"
+id_of Workers = codes "workers"
 
 abbrev pub flag_of : Given → Text
 flag_of Slack = codes "--slack"
+flag_of From = codes "--from"
 flag_of Closed = codes "--closed"
 flag_of Draws = codes "--draws"
+flag_of Heat = codes "--heat"
+flag_of Workers = codes "--workers"
 
 are_options : (given : Given) → IsOption (id_of given) (flag_of given)
 are_options Slack = record { by_id = refl; by_long = refl; long = refl; no_end = refl }
+are_options From = record { by_id = refl; by_long = refl; long = refl; no_end = refl }
 are_options Closed = record { by_id = refl; by_long = refl; long = refl; no_end = refl }
 are_options Draws = record { by_id = refl; by_long = refl; long = refl; no_end = refl }
+are_options Heat = record { by_id = refl; by_long = refl; long = refl; no_end = refl }
+are_options Workers = record { by_id = refl; by_long = refl; long = refl; no_end = refl }
 
 -- the plain words and the values of the options
 pub record Seen : Type 0 where
   pub plain : List Text
   pub slack : Option Text
+  pub from : Option Text
   pub closed : Option Text
   pub draws : Option Text
+  pub heat : Option Text
+  pub workers : Option Text
 
 abbrev pub seen_of : Given → Seen → Option Text
 seen_of Slack seen = seen.slack
+seen_of From seen = seen.from
 seen_of Closed seen = seen.closed
 seen_of Draws seen = seen.draws
+seen_of Heat seen = seen.heat
+seen_of Workers seen = seen.workers
 
 abbrev pub with_seen : Given → Option Text → Seen → Seen
 with_seen Slack text seen = record seen { slack = text }
+with_seen From text seen = record seen { from = text }
 with_seen Closed text seen = record seen { closed = text }
 with_seen Draws text seen = record seen { draws = text }
+with_seen Heat text seen = record seen { heat = text }
+with_seen Workers text seen = record seen { workers = text }
 
 abbrev pub some_words : List Text → Option (List Text)
 some_words [] = None
@@ -273,8 +294,11 @@ one_more (w ∷ words) word = refl
 
 plain_apart : (given : Given) → bytes_eq (codes "plain") (id_of given) ≡ false
 plain_apart Slack = refl
+plain_apart From = refl
 plain_apart Closed = refl
 plain_apart Draws = refl
+plain_apart Heat = refl
+plain_apart Workers = refl
 
 plain_reads : (rows : List Row) (seen : Seen) (word : Text) → Reads rows seen
     → Reads (settled_rows line_rules (Some (codes "plain", word ∷ [])) rows)
@@ -292,8 +316,11 @@ plain_reads rows seen word reads = record {
 
     options : (given : Given) → all_of (id_of given) rows ≡ option_map (λ text. text ∷ []) (seen_of given seen_now)
     options Slack = reads.options Slack
+    options From = reads.options From
     options Closed = reads.options Closed
     options Draws = reads.options Draws
+    options Heat = reads.options Heat
+    options Workers = reads.options Workers
 
 -- the rows after an option that wasn't there before
 abbrev option_rows : Given → Text → List Row → List Row
@@ -312,10 +339,18 @@ option_reads given rows seen text reads none = record { plain = plain given; opt
   where
     plain : (g : Given) → all_of (codes "plain") (option_rows g text rows) ≡
         some_words (with_seen g (Some text) seen).plain
-    plain Slack = others_kept (codes "slack") (codes "plain") AsWritten CommandLine (text ∷ []) rows refl ∙ reads.plain
+    plain Slack =
+        others_kept (codes "slack") (codes "plain") AsWritten CommandLine (text ∷ []) rows refl ∙ reads.plain
+    plain From =
+        others_kept (codes "from") (codes "plain") AsWritten CommandLine (text ∷ []) rows refl ∙ reads.plain
     plain Closed =
         others_kept (codes "closed") (codes "plain") AsWritten CommandLine (text ∷ []) rows refl ∙ reads.plain
-    plain Draws = others_kept (codes "draws") (codes "plain") AsWritten CommandLine (text ∷ []) rows refl ∙ reads.plain
+    plain Draws =
+        others_kept (codes "draws") (codes "plain") AsWritten CommandLine (text ∷ []) rows refl ∙ reads.plain
+    plain Heat =
+        others_kept (codes "heat") (codes "plain") AsWritten CommandLine (text ∷ []) rows refl ∙ reads.plain
+    plain Workers =
+        others_kept (codes "workers") (codes "plain") AsWritten CommandLine (text ∷ []) rows refl ∙ reads.plain
 
     first : (g : Given) → seen_of g seen ≡ None → all_of (id_of g) (option_rows g text rows) ≡ Some (text ∷ [])
     first g e =
@@ -329,14 +364,41 @@ option_reads given rows seen text reads none = record { plain = plain given; opt
     options : (g : Given) → seen_of g seen ≡ None → (o : Given) → all_of (id_of o) (option_rows g text rows) ≡
         option_map (λ t. t ∷ []) (seen_of o (with_seen g (Some text) seen))
     options Slack e Slack = first Slack e
+    options Slack e From = other Slack From refl
     options Slack e Closed = other Slack Closed refl
     options Slack e Draws = other Slack Draws refl
+    options Slack e Heat = other Slack Heat refl
+    options Slack e Workers = other Slack Workers refl
+    options From e Slack = other From Slack refl
+    options From e From = first From e
+    options From e Closed = other From Closed refl
+    options From e Draws = other From Draws refl
+    options From e Heat = other From Heat refl
+    options From e Workers = other From Workers refl
     options Closed e Slack = other Closed Slack refl
+    options Closed e From = other Closed From refl
     options Closed e Closed = first Closed e
     options Closed e Draws = other Closed Draws refl
+    options Closed e Heat = other Closed Heat refl
+    options Closed e Workers = other Closed Workers refl
     options Draws e Slack = other Draws Slack refl
+    options Draws e From = other Draws From refl
     options Draws e Closed = other Draws Closed refl
     options Draws e Draws = first Draws e
+    options Draws e Heat = other Draws Heat refl
+    options Draws e Workers = other Draws Workers refl
+    options Heat e Slack = other Heat Slack refl
+    options Heat e From = other Heat From refl
+    options Heat e Closed = other Heat Closed refl
+    options Heat e Draws = other Heat Draws refl
+    options Heat e Heat = first Heat e
+    options Heat e Workers = other Heat Workers refl
+    options Workers e Slack = other Workers Slack refl
+    options Workers e From = other Workers From refl
+    options Workers e Closed = other Workers Closed refl
+    options Workers e Draws = other Workers Draws refl
+    options Workers e Heat = other Workers Heat refl
+    options Workers e Workers = first Workers e
 
 -- ---- the walk over more words
 
@@ -444,7 +506,10 @@ maybe_goes w seen all given None words h named none more = more w (same given no
   where
     same : (g : Given) → seen_of g seen ≡ None → Holds w (with_seen g None seen)
     same Slack e = subst (λ o. Holds w (record seen { slack = o })) e h
+    same From e = subst (λ o. Holds w (record seen { from = o })) e h
     same Closed e = subst (λ o. Holds w (record seen { closed = o })) e h
     same Draws e = subst (λ o. Holds w (record seen { draws = o })) e h
+    same Heat e = subst (λ o. Holds w (record seen { heat = o })) e h
+    same Workers e = subst (λ o. Holds w (record seen { workers = o })) e h
 maybe_goes w seen all given (Some text) words h named none more =
     option_goes w seen all given text words h named none more

@@ -13,3 +13,7 @@ mod pieces;
 mod words;
 
 pub use jobs::{Job, WordsFault, read_words};
+pub use line::{closed_name, plain_at, plain_name, take_line};
+pub use numbers::{is_number, number};
+pub use pieces::{first_place, text_from};
+pub use words::{behind, has_option, names_file, text_at};

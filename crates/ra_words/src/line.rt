@@ -29,16 +29,19 @@ fn option<'a>(alloc: Global, name: &'a str) -> Arg<'a>
 fn line_command<'a>(alloc: Global) -> Result<Command<'a>, AllocError>
     ensures { IfOk result (λ command. app_of command ≡ line_app) }
 {
-    let mut arguments = Vec::with_capacity(alloc, 4)?;
+    let mut arguments = Vec::with_capacity(alloc, 7)?;
     arguments.push_reserved(option(alloc, "slack"));
+    arguments.push_reserved(option(alloc, "from"));
     arguments.push_reserved(option(alloc, "closed"));
     arguments.push_reserved(option(alloc, "draws"));
+    arguments.push_reserved(option(alloc, "heat"));
+    arguments.push_reserved(option(alloc, "workers"));
     arguments.push_reserved(Arg::new(alloc, "plain").action(ArgAction::Append));
     Command::new(alloc, "reassign").args(arguments)
 }
 
 /// Takes the words of a line apart. They were judged before, so it can only fail for memory.
-pub(crate) fn take_line<'a>(alloc: Global, words: &'a [String]) -> Result<ArgMatches<'a>, NoMemory>
+pub fn take_line<'a>(alloc: Global, words: &'a [String]) -> Result<ArgMatches<'a>, NoMemory>
     requires { (line : Line) × Spells line (texts words.now) }
     ensures { IfOk result (λ taken. (line : Line) → Spells line (texts words.now)
         → Finds line (found_of taken)) }
@@ -60,7 +63,7 @@ fn no_memory(error: Error) -> NoMemory
 
 /// The plain word at a place, and the empty text after the last one.
 #[tactic(auto, using(crate::proofs::WordLaws::some_plain, crate::proofs::WordLaws::no_plain))]
-pub(crate) fn plain_at<'a>(taken: &ArgMatches<'a>, place: usize) -> &'a str
+pub fn plain_at<'a>(taken: &ArgMatches<'a>, place: usize) -> &'a str
     ensures { result.now ≡ word_at (plain_of (found_of taken.now)) place }
 {
     match taken.get_strs("plain") {
@@ -70,7 +73,7 @@ pub(crate) fn plain_at<'a>(taken: &ArgMatches<'a>, place: usize) -> &'a str
 }
 
 /// The plain word at a place as a name.
-pub(crate) fn plain_name(
+pub fn plain_name(
     alloc: Global,
     taken: &ArgMatches<'_>,
     place: usize,
@@ -81,7 +84,7 @@ pub(crate) fn plain_name(
 }
 
 /// The file that `--closed` names, if the option is given.
-pub(crate) fn closed_name(alloc: Global, taken: &ArgMatches<'_>) -> Result<Option<Name>, NoMemory>
+pub fn closed_name(alloc: Global, taken: &ArgMatches<'_>) -> Result<Option<Name>, NoMemory>
     ensures { IfOk result (λ name. name ≡ first_value (found_of taken.now) (codes "closed")) }
 {
     match taken.get_str("closed") {

@@ -4,7 +4,7 @@ ghost use Rattle.ra_words.specs.Numbers.{has_digits, decimal_worth, is_number};
 
 /// Whether a text is 1 to 20 digits, worth less than 2^64.
 #[tactic(auto, unfolding(crate::specs::Numbers::is_number))]
-pub(crate) fn is_number(text: &[u8]) -> bool
+pub fn is_number(text: &[u8]) -> bool
     ensures { result ≡ is_number text.now }
 {
     has_digits(text) && worth(text) <= u64::MAX as u128
@@ -12,7 +12,7 @@ pub(crate) fn is_number(text: &[u8]) -> bool
 
 /// What a number is worth.
 #[tactic(auto, unfolding(crate::specs::Numbers::is_number))]
-pub(crate) fn number(text: &[u8]) -> u64
+pub fn number(text: &[u8]) -> u64
     requires { is_number text.now ≡ true }
     ensures { result ≡ decimal_worth text.now }
 {

@@ -8,7 +8,7 @@ use ra_base::Fixed;
 
 /// The text from a place on.
 #[tactic(auto, using(crate::proofs::PieceLaws::all_from))]
-pub(crate) fn text_from(text: &[u8], start: usize) -> &[u8]
+pub fn text_from(text: &[u8], start: usize) -> &[u8]
     requires { start ≤ length text.now }
     ensures { result.now ≡ drop start text.now }
 {
@@ -17,7 +17,7 @@ pub(crate) fn text_from(text: &[u8], start: usize) -> &[u8]
 
 /// The place of the first separator, and the length of the text if there is none.
 #[tactic(auto, using(crate::proofs::PieceLaws::place_here, crate::proofs::PieceLaws::place_next, crate::proofs::PieceLaws::place_end))]
-pub(crate) fn first_place(text: &[u8], separator: u8) -> usize
+pub fn first_place(text: &[u8], separator: u8) -> usize
     ensures value { result ≡ first_place separator text.now }
     ensures within { result ≤ length text.now }
 {

@@ -4,7 +4,7 @@ ghost use Rattle.ra_words.specs.Words.{texts, word_at, is_name, has_option, behi
 
 /// The word at a place, and the empty text after the last one.
 #[tactic(auto, using(crate::proofs::WordLaws::word_read, crate::proofs::WordLaws::word_past), unfolding(crate::specs::Words::word_at))]
-pub(crate) fn text_at(words: &[String], place: usize) -> &str
+pub fn text_at(words: &[String], place: usize) -> &str
     ensures { result.now ≡ word_at (texts words.now) place }
 {
     if place < words.len() {
@@ -28,7 +28,7 @@ pub(crate) fn str_at<'a>(words: &[&'a str], place: usize) -> &'a str
 
 /// Whether an option is at a place.
 #[tactic(auto, unfolding(crate::specs::Words::has_option))]
-pub(crate) fn has_option(words: &[String], place: usize, option: &str) -> bool
+pub fn has_option(words: &[String], place: usize, option: &str) -> bool
     ensures { result ≡ has_option option.now (texts words.now) place }
 {
     text_at(words, place) == option
@@ -36,7 +36,7 @@ pub(crate) fn has_option(words: &[String], place: usize, option: &str) -> bool
 
 /// The place after an option and its value if the option is at a place, and else that place itself.
 #[tactic(auto, unfolding(crate::specs::Words::behind))]
-pub(crate) fn behind(words: &[String], place: usize, option: &str) -> usize
+pub fn behind(words: &[String], place: usize, option: &str) -> usize
     requires { place ≤ 16 }
     ensures value { result ≡ behind option.now (texts words.now) place }
     ensures near { result ≤ place + 2 }
@@ -49,7 +49,7 @@ pub(crate) fn behind(words: &[String], place: usize, option: &str) -> usize
 }
 
 /// Whether a word is a file name: it is not empty, and not an option.
-pub(crate) fn names_file(word: &str) -> bool
+pub fn names_file(word: &str) -> bool
     ensures { result ≡ is_name word.now }
 {
     match word.as_bytes() {
