@@ -120,7 +120,7 @@ names_within (suc n) place words names =
     let within : n + suc place < length words = names_within n (suc place) words later in
     omega (arith, within)
 
-word_here : (words : List (List ℕ)) (place : ℕ) → place < length words →
+pub word_here : (words : List (List ℕ)) (place : ℕ) → place < length words →
     drop place words ≡ word_at words place ∷ drop (place + 1) words
 unfolding word_at
 word_here words place within = rw add-one (drop-cons words place [] within)

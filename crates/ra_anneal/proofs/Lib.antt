@@ -1,0 +1,3 @@
+pub mod LineForms
+pub mod AnnealLemmas
+pub mod TellLemmas
