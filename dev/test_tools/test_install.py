@@ -33,6 +33,7 @@ class Install(ToolCase):
         self.assertIn(f"version {version}", text_in("README.md"))
         self.assertIn(f".Os reassign {version}\n", text_in("docs/reassign.1"))
         self.assertIn(f'__version__ = "{version}"\n', text_in("python/reassign_tools/__init__.py"))
+        self.assertIn(f'const VERSION: &str = "anneal {version}\\n";\n', text_in("crates/ra_anneal/src/telling.rt"))
         versions = re.findall(r"^## \[(\d.*?)\]", text_in("CHANGELOG.md"), re.M)
         self.assertEqual(versions[0], version)
 

@@ -1,18 +1,17 @@
 -- What is printed of a search meets the headline.
-use Rattle.std.proofs.Common.{◌≡◌, ◌⊎◌, ◌≤◌, ℕ, List, Option, Some, None, IfSome, IsSome, Result, inl, inr, ⊎_elim, refl}
-use Rattle.std.proofs.Common.{sym, ap, ◌∙◌, subst}
+use Rattle.std.proofs.Common.{◌≡◌, ℕ, List, Option, Some, None, IfSome, IsSome, Result, refl}
+use Rattle.std.proofs.Common.{sym, ap, ◌∙◌}
 use Rattle.ra_base.specs.declared.causes.Cause.{Cause}
 use Rattle.ra_base.specs.declared.ids.Machine.{Machine}
+use Rattle.ra_bounds.specs.declared.costs.Bound.{Bound}
 use Rattle.ra_bounds.specs.PinnedBounds.{pinned_bound_of}
 use Rattle.ra_bounds.proofs.PinnedLemmas.{none_costs_less_pinned}
 use Rattle.ra_io.specs.Outside.{Reading}
 use Rattle.ra_model.specs.declared.raw.Tables.{Tables}
+use Rattle.ra_model.specs.Assignments.{IsAssignment}
 use Rattle.ra_model.specs.Broken.{first_broken}
-use Rattle.ra_model.specs.Costs.{parts_of}
-use Rattle.ra_model.specs.Feasible.{Feasible}
 use Rattle.ra_model.specs.Limits.{WellFormed}
-use Rattle.ra_model.proofs.BrokenLemmas.{unbroken_from_feasible}
-use Rattle.ra_jobs.specs.declared.refusals.File.TheVariants as file
+use Rattle.ra_model.proofs.BrokenLemmas.{feasible_from_unbroken, unbroken_from_feasible}
 use Rattle.ra_jobs.specs.declared.refusals.Refusal.{Refusal}
 use Rattle.ra_jobs.specs.declared.refusals.Refusal.TheVariants.{Broken, Write, Memory}
 use Rattle.ra_jobs.specs.declared.refusals.Role.{Role}
@@ -24,10 +23,12 @@ use Rattle.ra_jobs.specs.Ends.{Does, Tries, Finishes, Leaves}
 use Rattle.ra_jobs.specs.Files.{Held, Faults, Names, IsNamed, file_of}
 use Rattle.ra_jobs.specs.Lines.{refusal_line}
 use Rattle.ra_jobs.specs.Output.{Output, Put}
-use Rattle.ra_jobs.specs.Refusals.{Reason, Judges, Breaks, RoleBreaks}
+use Rattle.ra_jobs.specs.Refusals.{Reason, Judges, Breaks}
 use Rattle.ra_jobs.specs.Stages.{JudgeReason}
 use Rattle.ra_jobs.proofs.ComesLemmas.{Went}
 use Rattle.ra_jobs.proofs.DoesLemmas.{judged_so, judged_memory}
+use Rattle.ra_search.specs.declared.found.Found.{Found}
+use Rattle.ra_search.specs.Found.{IsFound}
 use Rattle.ra_anneal.specs.declared.given.Given.{Given}
 use Rattle.ra_anneal.specs.Commands.{command_of}
 use Rattle.ra_anneal.specs.Headline.{AnnealPrinted, anneal_names, annealing}
@@ -35,6 +36,20 @@ use Rattle.ra_anneal.specs.Jobs.{AnnealSays, Helps, Versions, Anneals}
 use Rattle.ra_anneal.specs.Searching.{from_in, IsGiven, IsAnnealed, text_of}
 use Rattle.ra_anneal.specs.Texts.{annealed_text, help_text, version_text}
 use Rattle.ra_anneal.proofs.TellLemmas.{tell_memory}
+
+-- the text of what a search has found was sent
+pub found_told : (i : Tables) (a0 from : List Machine) (bound : Bound) (found : Found) (sent : List ℕ → Type 0) →
+    WellFormed i → IsAssignment i a0 → IsAssignment i from → first_broken i a0 a0 ≡ None →
+    first_broken i a0 from ≡ None → IsFound i a0 from found → bound ≡ pinned_bound_of i a0 →
+    sent (annealed_text found.parts bound.total found.told.heat found.told.tries found.told.done found.best.items
+    found.last.items) → IsAnnealed i a0 from sent
+found_told i a0 from bound found sent limits fits from_fits unbroken from_unbroken is bound_is text = record {
+  start = feasible_from_unbroken i a0 a0 limits fits unbroken;
+  begun = feasible_from_unbroken i a0 from limits from_fits from_unbroken;
+  found = found;
+  is = is;
+  text = rw (← bound_is) text;
+}
 
 module _ (held : Held) (names : Names) (given : Given) (is : IsGiven held names given) where
   pub annealed : (sent : List ℕ → Type 0) → WellFormed given.inst.tables →

@@ -1,6 +1,6 @@
 -- The words of a search are a line, and what is found in it is what the search says.
-use Rattle.std.proofs.Common.{◌≡◌, ◌∙◌, ◌+◌, ◌++◌, ◌<◌, ◌≤◌, ◌&&◌, ℕ, ap, sym, refl, codes, arith, Bool, true, false, List}
-use Rattle.std.proofs.Common.{[], ◌∷◌, Option, Some, None, length, drop, if◌then◌else◌}
+use Rattle.std.proofs.Common.{◌≡◌, ◌∙◌, ◌+◌, ◌++◌, ◌<◌, ◌&&◌, ℕ, ap, refl, codes, arith, true, false, List}
+use Rattle.std.proofs.Common.{[], ◌∷◌, Option, Some, None, length, drop}
 use Rattle.std.specs.Prelude.{nat_le}
 use Rattle.std.proofs.lemmas.Grind.{common_steps}
 use Rattle.std.proofs.lemmas.List.{drop_all}
@@ -10,11 +10,11 @@ use Rattle.clap.specs.declared.parser.matches.Found.{Found}
 use Rattle.ra_words.specs.Lines.{Finds, Line, Spells, option_words, plain_of, words_of_line}
 use Rattle.ra_words.specs.LotTexts.{seed_text}
 use Rattle.ra_words.specs.Numbers.{is_number, decimal_worth}
-use Rattle.ra_words.specs.Words.{behind, is_name, value_at, word_at}
+use Rattle.ra_words.specs.Words.{is_name, word_at}
 use Rattle.ra_words.proofs.JobLines.{digits_named, is_named, name_within, option_here, seed_named, word_here, words_from}
 use Rattle.ra_words.proofs.JobLines.{words_here}
 use Rattle.ra_anneal.specs.Found.{found_says}
-use Rattle.ra_anneal.specs.Jobs.{AnnealSays, Anneals, anneal_says, is_anneal, schedule_of}
+use Rattle.ra_anneal.specs.Jobs.{Anneals, Helps, Versions, anneal_says, is_anneal, is_help, is_version, job_of, schedule_of}
 use Rattle.ra_anneal.specs.Words.{before_colon, closed_place, closed_text, from_text, heat_place, heat_text, is_file}
 use Rattle.ra_anneal.specs.Words.{is_heat, is_pair, is_run, is_workers, run_place, workers_place, workers_text}
 
@@ -154,3 +154,29 @@ module _ (words : List (List ℕ)) (search : is_anneal words ≡ true) where
     search_found =
         λ i. Anneals (word_at words 0) (word_at (found_in.plain i) 0) (found_in.from i) (found_in.closed i)
         (schedule_of (found_in.heat i) (found_in.workers i) (word_at (found_in.plain i) 1))
+
+-- ---- which job the words are
+
+-- the words of a run are two numbers
+pub run_is_pair : (text : List ℕ) → is_run text ≡ true → is_pair text ≡ true
+unfolding is_run
+run_is_pair text run = (both (is_pair text) _ run).0
+
+module _ (words : List (List ℕ)) where
+  pub job_help : is_help words ≡ true → job_of words ≡ Some Helps
+  unfolding job_of
+  job_help help = rw help refl
+
+  module _ (help : is_help words ≡ false) where
+    pub job_version : is_version words ≡ true → job_of words ≡ Some Versions
+    unfolding job_of
+    job_version version = rw (help, version) refl
+
+    module _ (version : is_version words ≡ false) where
+      pub job_anneal : is_anneal words ≡ true → job_of words ≡ Some (anneal_says words)
+      unfolding job_of
+      job_anneal search = rw (help, version, search) refl
+
+      pub job_none : is_anneal words ≡ false → job_of words ≡ None
+      unfolding job_of
+      job_none search = rw (help, version, search) refl

@@ -1,5 +1,5 @@
 -- The parts of words that are pairs of numbers, and the options with their places.
-use Rattle.std.specs.Prelude.{ℕ, suc, ◌×◌, List, take, drop, codes, Bool, true, nat_le, ◌&&◌, Option, Some, None}
+use Rattle.std.specs.Prelude.{ℕ, suc, List, take, drop, codes, Bool, true, nat_le, ◌&&◌, Option, Some, None}
 use Rattle.ra_words.specs.LotTexts.{first_place}
 use Rattle.ra_words.specs.Numbers.{is_number, decimal_worth}
 use Rattle.ra_words.specs.Words.{is_name, value_at, behind}

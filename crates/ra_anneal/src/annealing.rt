@@ -1,6 +1,6 @@
-ghost use Rattle.std.specs.Prelude.{◌≡◌, ◌≢◌, ◌≤◌, IfSome, OnOk, OnErr, IfErr};
+ghost use Rattle.std.specs.Prelude.{◌≡◌, ◌≢◌, ◌≤◌, IfSome, OnOk, IfErr};
+ghost use Rattle.std.specs.Option.{option_copied};
 ghost use Rattle.ra_io.specs.Outside.{reading, writing, Took};
-ghost use Rattle.ra_bounds.specs.PinnedBounds.{pinned_bound_of};
 ghost use Rattle.ra_model.specs.Assignments.{IsAssignment};
 ghost use Rattle.ra_words.specs.Words.{texts};
 ghost use Rattle.ra_jobs.specs.Commands.{over};
@@ -13,7 +13,6 @@ ghost use Rattle.ra_anneal.specs.Headline.{anneal_names, annealing};
 ghost use Rattle.ra_anneal.specs.Jobs.{job_of};
 ghost use Rattle.ra_anneal.specs.Said.{said};
 ghost use Rattle.ra_anneal.specs.Searching.{from_in, IsAnnealed};
-ghost use Rattle.std.specs.Option.{option_copied};
 
 use crate::beginning::Beginning;
 use crate::given::{Given, judge_given, read_given};
