@@ -127,10 +127,7 @@ class Instance:
             for one, two, target, weight in self.balances
         )
         process = self.weights[0] * sum(self.process_costs[p] for p in moved)
-        most = max(
-            sum(1 for p in moved if self.services[p] == s)
-            for s in range(len(self.spreads))
-        )
+        most = max(Counter(self.services[p] for p in moved).values(), default=0)
         service = self.weights[1] * most
         machine = self.weights[2] * sum(
             self.way_costs[start[p]][m] for p, m in enumerate(machines)
