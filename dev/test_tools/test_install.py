@@ -176,11 +176,16 @@ class Others(ToolCase):
         for words in ([], ["x"], ["y", "10", "10", "1", "1", "skew"], ["y", "0", "10", "1", "1"]):
             self.expect_line(2, None, maker, *words)
         self.expect_line(1, None, maker, "/dev/null/x", "10", "10", "1", "1")
-        for script in ("judge_report", "compare", "make_pinned"):
+        shapes = os.path.join(ROOT, "bench", "make_shapes.py")
+        for words in ([], ["x"], ["x", "60x60x60", "1"], ["x", "50x1000x3", "y"], ["-x", "50x1000x3", "1"]):
+            self.expect_line(2, None, shapes, *words)
+        self.expect_line(1, None, shapes, "/dev/null/x", "50x1000x3", "1")
+        for script in ("judge_report", "compare", "compare_anneal", "judge_list", "make_pinned"):
             self.expect_line(2, None, sys.executable, os.path.join(ROOT, "bench", f"{script}.py"))
         for words in (["--x"], ["a", "b"], ["--rounds", "x"]):
             self.expect_line(2, None, os.path.join(ROOT, "bench", "run"), *words)
-        for word in ("--help", "-h"):
-            ran = run(os.path.join(ROOT, "bench", "run"), word)
-            self.assertEqual((ran.returncode, ran.stderr), (0, ""))
-            self.assertIn("\nusage: bench/run [--rounds N]", ran.stdout)
+        for name, usage in (("run", "[--rounds N]"), ("search", "[NAME ..]")):
+            for word in ("--help", "-h"):
+                ran = run(os.path.join(ROOT, "bench", name), word)
+                self.assertEqual((ran.returncode, ran.stderr), (0, ""))
+                self.assertIn(f"\nusage: bench/{name} {usage}", ran.stdout)
