@@ -103,18 +103,18 @@ def random_tries(chance):
 
 
 def random_list(chance, inst, start):
-    """A list to begin from: mostly one that some moves reach and that breaks nothing, at times any."""
-    at = list(start)
+    """A list to begin from: mostly one that some moves reach, cheaper ones alone or any, and that breaks nothing; at times any."""
+    at, only_cheaper = list(start), chance.random() < 0.5
     if chance.random() < 0.15:
         return [chance.choice([m, m, chance.randrange(len(inst.locations))]) for m in at]
-    for _ in range(chance.choice([0, 5, 40])):
+    for _ in range(chance.choice([0, 5, 40, 100])):
         new = list(at)
         if chance.random() < 0.7:
             new[chance.randrange(len(at))] = chance.randrange(len(inst.locations))
         else:
             p, q = (chance.randrange(len(at)) for _ in range(2))
             new[p], new[q] = at[q], at[p]
-        if inst.broken(start, new) is None:
+        if inst.broken(start, new) is None and not (only_cheaper and inst.parts(start, new)[0] > inst.parts(start, at)[0]):
             at = new
     return at
 
