@@ -1,5 +1,7 @@
 """Machines and processes that are told, and taken, by their names."""
 import os
+import re
+import shutil
 
 from common import program, put, run, text_of, tool_path
 from fleet_cases import EXAMPLE, FleetCase
@@ -150,16 +152,37 @@ class Lists(ByNames):
 
 class ClosedMachines(FleetCase):
     def test_told(self):
-        """Who lists moves of a packed fleet without its closed list is told which machines are closed."""
+        """Nobody goes to a machine that the fleet of a model has closed, whatever list is given, and that is told."""
         self.write_fleet("fleet", machines=text_of("fleet/machines.csv").replace("a2,a,r2,16,64Gi,open", "a2,a,r2,16,64Gi,closed"))
         self.pack()
         put("new", "0 1 1\n")
-        line = ("moves: closed machines: {}; without --closed packed/closed moves may go there, and those away from there may be left "
-                "out\n")
-        for words, told in ((NAMES, line.format("a2")), ((), line.format("1")), ((*NAMES, "--closed", "closed2"), "")):
-            put("closed2", "0\n")
+        put("closed2", "0\n")
+        line = "moves: closed too, as packed/closed says: {}; --only passes over that list\nmoves: infeasible: new: closed {}\n"
+        for words, status, told in ((NAMES, 6, line.format("a2", "db-0 a2")), ((), 6, line.format("1", "2 1")),
+                                    ((*NAMES, "--closed", "closed2"), 6, line.format("a2", "db-0 a2")),
+                                    ((*NAMES, "--closed", "packed/closed"), 6, "moves: infeasible: new: closed db-0 a2\n"),
+                                    ((*NAMES, "--only"), 0, ""), ((*NAMES, "--only", "--closed", "closed2"), 0, "")):
             ran = run(tool_path("moves"), *PACKED, "new", *words)
-            self.assertEqual((ran.returncode, ran.stderr), (0, told))
+            self.assertEqual((ran.returncode, ran.stderr), (status, told), words)
+
+    def test_evacuate_and_repair(self):
+        """What is emptied doesn't go to a machine that the fleet has closed, which isn't emptied itself."""
+        machines = text_of(os.path.join(EXAMPLE, "machines.csv"))
+        shutil.copytree(EXAMPLE, "drained")
+        put("drained/machines.csv", re.sub(r"^(node-c1-2,.*),$", r"\1,closed", machines, flags=re.M))
+        self.pack("drained")
+        put("closing", "node-c1-1\nnode-a1-1\nnode-b1-1\n")
+        words = [*PACKED, "closing", *NAMES, "--out", "emptied", "--budget", "0"]
+        ran = run(tool_path("evacuate"), *words)
+        self.assertEqual(ran.returncode, 0, ran.stderr)
+        self.assertIn("evacuate: closed too, as packed/closed says: node-c1-2; --only passes over that list\n", ran.stderr)
+        self.assertIn("went 13 of 13 processes of 3 closed machines: node-a1-1, node-b1-1, node-c1-1\n", ran.stdout)
+        self.assertEqual(program("check", *PACKED, "emptied", "--closed", "packed/closed")[0], 0)
+        alone = run(tool_path("evacuate"), *words, "--only")
+        self.assertEqual((alone.returncode, "closed too" in alone.stderr), (0, False))
+        put("crowded_fleet", " ".join(text_of("packed/initial").split()[:1] * 60))
+        ran = run(tool_path("repair_words"), PACKED[0], "crowded_fleet", *NAMES, "--out", "repaired", "--turns", 2)
+        self.assertIn("repair_words: closed too, as packed/closed says: node-c1-2;", ran.stderr)
 
     def test_quiet(self):
         """Nothing is told if no machine is closed, or if the model has no names, whatever file stands beside it."""

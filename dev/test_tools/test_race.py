@@ -4,6 +4,7 @@ import json
 import os
 import shutil
 import signal
+import unittest.mock
 
 from common import PROGRAM, ToolCase, begin, program, put, run, text_of
 
@@ -55,7 +56,8 @@ class Race(ToolCase):
         told = self.race(0, "--instances", "made_a", "--proposals", 100, "--csv", "rows.csv", "--solver", solver("same", "cp $2 $3"),
                          "--solver", crowd, "--solver", solver("fails", "exit 3"), "--solver", solver("silent", "true"), "--solver",
                          solver("junk", "echo junk > $3"), "--solver", solver("tells", "echo proposals 7; echo at 0.5 9; cp $2 $3"),
-                         "--solver", solver("leaves", "sleep 600 & cp $2 $3"), "--solver", "none: ./nowhere {model} {initial} {new}")
+                         "--solver", solver("leaves", "sleep 600 & cp $2 $3"), "--solver", "none: ./nowhere {model} {initial} {new}",
+                         "--solver", solver("killed", "kill -9 $$"))
         rows = {row["solver"]: row for row in rows_of("rows.csv")}
         start = rows["same"]["start"]
         self.assertEqual((rows["same"]["cost"], rows["same"]["left"], rows["same"]["feasible"]), (start, "1", "True"))
@@ -63,6 +65,13 @@ class Race(ToolCase):
                             ("none", "nowhere")):
             self.assertEqual((rows[name]["feasible"], rows[name]["cost"]), ("False", ""))
             self.assertIn(fault, rows[name]["fault"])
+        self.assertEqual({name: row["outcome"] for name, row in rows.items()}, {
+            "reassign": "feasible", "same": "feasible", "crowd": "infeasible", "fails": "crash", "silent": "no list", "junk": "no list",
+            "tells": "feasible", "leaves": "feasible", "none": "crash", "killed": "crash"})
+        heads, *lines = [line.split(" | ") for line in told.splitlines() if line.startswith(("| instance | proposals", "| made_a | 100"))]
+        self.assertEqual(heads[-3:], ["infeasible", "no list", "crash |"])
+        self.assertEqual({tuple(line[-3:]) for line in lines if line[2] in ("crowd", "silent", "none")},
+                         {("1", "0", "0 |"), ("0", "1", "0 |"), ("0", "0", "1 |")})
         self.assertEqual((rows["tells"]["proposals"], rows["tells"]["feasible"]), ("7", "True"))
         self.assertEqual(rows["leaves"]["cost"], start)
         self.assertIn("infeasible", told)
@@ -182,6 +191,39 @@ class Race(ToolCase):
         self.assertIn("stopped after 3 of 6 runs", error)
         self.assertIn("| made_a |", printed)
         self.assertEqual(len(rows_of("rows.csv")), 3)
+
+    def test_stopped_run_is_none(self):
+        """A run that was stopped is run again, and leaves nothing among temporary files."""
+        put("first", "1")
+        # It waits if it is called for the first time, and leaves a list then too.
+        waits = solver("waits", "cp $2 $3; test -e once || { touch once; mktemp -d; sleep 600; }") + " {seconds}"
+        words = ["--instances", "made_a", "--seeds", "1", "--seconds", "1", "--solver", waits, "--folder", "goes_on"]
+        os.makedirs("tmp", exist_ok=True)
+        with unittest.mock.patch.dict(os.environ, TMPDIR=os.path.abspath("tmp")):
+            for by in (signal.SIGINT, signal.SIGTERM):
+                shutil.rmtree("goes_on", ignore_errors=True)
+                if os.path.exists("once"):
+                    os.unlink("once")
+                race = begin("race", *words)
+                self.wait_for(lambda: os.path.exists("once"), race)
+                race.send_signal(by)
+                _, error = race.communicate()
+                self.assertEqual(race.returncode, 128 + by, error)
+                self.assertFalse(os.path.exists("goes_on/results/1.json"))
+                self.assertEqual([name for name in os.listdir("tmp") if name.startswith("reassign-tools-")], [])
+                told = self.race(0, *words, "--csv", "rows.csv")
+                self.assertEqual([row["outcome"] for row in rows_of("rows.csv")], ["feasible"] * 2, told)
+
+    def test_stopped_rounds(self):
+        os.makedirs("tmp", exist_ok=True)
+        with unittest.mock.patch.dict(os.environ, TMPDIR=os.path.abspath("tmp")):
+            race = begin("race", "--instances", "made_a", "--seconds", "30", "--folder", "half")
+            self.wait_for(lambda: os.path.exists("half/results/0.list"), race)
+            race.send_signal(signal.SIGINT)
+            _, error = race.communicate()
+            self.assertEqual(race.returncode, 130, error)
+            self.assertFalse(os.path.exists("half/results/0.json"))
+            self.assertEqual([name for name in os.listdir("tmp") if name.startswith("reassign-tools-")], [])
 
     def test_call(self):
         from reassign_tools import Problem, race

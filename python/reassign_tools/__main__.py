@@ -1,13 +1,54 @@
 """Runs a tool of this package: `python3 -m reassign_tools rounds WORD ..`, or `python3 THIS_FOLDER rounds WORD ..`, as the
-files of tools/ do."""
+files of tools/ do. Those block the signals that stop a tool until this module says what they do."""
 import signal
 
-signal.signal(signal.SIGINT, signal.SIG_DFL)  # until the tool itself says what Ctrl-C does
+if __name__ == "__main__":
+    signal.signal(signal.SIGINT, signal.SIG_DFL)  # until `main` says what Ctrl-C does
+import errno
 import importlib
 import os
 import sys
 
 TOOLS = ("evacuate", "moves", "named", "plot", "race", "repair_words", "rounds", "summary")
+STOPS = (signal.SIGINT, signal.SIGTERM, signal.SIGHUP)
+WANTS = ("cannot allocate memory", "failed to map segment", "can't start new thread", "cannot apply additional memory protection")
+
+
+def end_of(fault):
+    """The status and the line with which a tool ends if nothing else catches a fault. This is the one place for what is left."""
+    text = str(fault).splitlines()[0] if str(fault) else ""
+    if isinstance(fault, KeyboardInterrupt):
+        return 128 + getattr(fault, "signal", signal.SIGINT), "stopped"
+    if isinstance(fault, (MemoryError, RecursionError)) or getattr(fault, "errno", None) == errno.ENOMEM \
+            or any(word in text.lower() for word in WANTS):
+        return 8, "no memory"
+    if isinstance(fault, BrokenPipeError):
+        return 7, "write fault: nobody reads the output any more"
+    if isinstance(fault, OSError):
+        return 7, f"write fault: {fault.strerror or text}"
+    return 1, f"this tool has a fault: {type(fault).__name__}: {text[:200]}; please report it"
+
+
+def leave(status, line):
+    """Ends the process at once, with a line on standard error."""
+    try:
+        os.write(2, f"{sys.argv[1]}: {line}\n".encode(errors="replace"))
+    except OSError:
+        pass
+    os._exit(status)
+
+
+def open_streams():
+    """A standard stream that is closed becomes one that takes nothing, or says nothing, so that no other file gets its number."""
+    for number, flags in enumerate((os.O_RDONLY, os.O_RDONLY, os.O_WRONLY)):
+        try:
+            os.fstat(number)
+        except OSError:
+            os.open(os.devnull, flags)
+    if sys.stdout is None:
+        sys.stdout = open(1, "w", encoding="utf-8", closefd=False)
+    if sys.stderr is None:
+        sys.stderr = open(2, "w", encoding="utf-8", closefd=False)
 
 
 def main():
@@ -15,7 +56,15 @@ def main():
     if name not in TOOLS:
         print(f"usage: reassign_tools {'|'.join(TOOLS)} WORD ..", file=sys.stderr)
         return 2
-    return importlib.import_module(f"reassign_tools.{name}").main(sys.argv[2:])
+    for one in STOPS:
+        if one != signal.SIGHUP or signal.getsignal(one) != signal.SIG_IGN:  # as `nohup` leaves it
+            signal.signal(one, lambda number, _: leave(128 + number, "stopped"))
+    signal.pthread_sigmask(signal.SIG_UNBLOCK, STOPS)
+    try:
+        open_streams()
+        return importlib.import_module(f"reassign_tools.{name}").main(sys.argv[2:])
+    except BaseException as fault:
+        leave(*end_of(fault))
 
 
 if __name__ == "__main__":

@@ -12,7 +12,7 @@ from .models import Model
 from .problems import Problem
 from .program import COSTS, Program, closed_words, slack_words
 from .race_plan import instances_of, solver_of
-from .words import processors
+from .words import look_at_run_words, processors
 
 
 @dataclass(frozen=True)
@@ -55,8 +55,11 @@ def costs_of(lines):
 
 
 def lot_words(lots):
-    """The words of lots: each is a word itself, or a seed with its budget."""
-    return [lot if isinstance(lot, str) else "{}:{}".format(*lot) for lot in lots]
+    """The words of lots: each is a word itself, or a seed with its budget. Raises Problem with status 2 and the wrong one if the
+    program doesn't take them."""
+    words = [lot if isinstance(lot, str) else "{}:{}".format(*lot) for lot in lots]
+    look_at_run_words("lots", words)
+    return words
 
 
 def run_words(slack, closed, draws, lots):

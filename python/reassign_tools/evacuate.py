@@ -14,6 +14,9 @@ NEW has the list with the fewest processes on closed machines. If somebody stays
 which rule keeps each from each open machine, and what it would break on the machines with most room. Ctrl-C ends it well:
 NEW has the best list so far.
 
+If MODEL lies in a folder that `named pack` wrote, nobody enters the machines either that its `closed` names, which is told; they
+aren't emptied. With --only the machines of CLOSED alone are closed.
+
 With --names all this is told by names, and CLOSED may have the name of a machine in each line. If it has nothing but numbers,
 these are those of the model, as elsewhere. For example
 
@@ -23,18 +26,19 @@ import random
 from collections import Counter
 from itertools import chain
 
+from .closing import add_only, with_fleet
 from .files import Room, list_text, read_list, target, write_whole
 from .going_on import going_on
 from .lots import lot_of
 from .models import LARGEST, Model, closed_flags, same_sizes
 from .names import Names
 from .problems import Problem, telling
-from .program import COSTS, Program
+from .program import COSTS, Program, closed_words
 from .repair_words import Repair
 from .repair_words import parser as repair_parser
 from .running import no_more_stops, run_tool, say
 from .states import State
-from .texts import counted, print_in_utf8, some
+from .texts import counted, some
 from .words import LARGEST_SEED, MOST_LOTS, MOST_PROPOSALS, Words, any_file_name, file_name, number, processors
 
 WINDOW = 64  # machines that a shift looks at
@@ -56,6 +60,7 @@ def parser():
     words.add_argument("--checks", metavar="N", type=number(0, 1_000_000), default=2000,
                        help="put others back by at most so many calls of `reassign check` (2000)")
     words.add_argument("--seed", metavar="S", type=number(0, LARGEST_SEED), default=1, help="seed of the choices (1)")
+    add_only(words)
     words.add_argument("--model-out", metavar="FILE", type=file_name, help="write the changed model there")
     return words
 
@@ -66,23 +71,25 @@ class Evacuation:
         inputs = self.program.name, words.model, words.initial, words.closed, words.names
         self.out = target(words.out, *inputs)
         self.model_out = words.model_out and target(words.model_out, words.out, *inputs)
-        self.closed = names.closed_file(words.closed, room) if names else words.closed
-        self.closing = ["--closed", self.closed]
-        self.program.numbers("check", words.model, words.initial, words.initial, *self.closing)
+        given = names.closed_file(words.closed, room) if names else words.closed
+        self.program.numbers("check", words.model, words.initial, words.initial, *closed_words(given))
         self.model, self.start = Model.read(words.model), read_list(words.initial)
         same_sizes(self.model, words.model, self.start)
-        self.flags, self.names = closed_flags(self.model, self.closed), names or Names.numbers(self.model)
+        self.names = names or Names.numbers(self.model)
+        self.flags = closed_flags(self.model, given)  # of the machines that are emptied; `shut` are all that nobody may enter
+        self.closed = with_fleet(words, given, self.names, room)
+        self.shut, self.closing = closed_flags(self.model, self.closed), closed_words(self.closed)
         self.changed = self.with_high_stays()
         if words.model_out:
             write_whole(self.model_out, self.changed.pieces())
         self.chance, self.now, self.turns, self.checks = random.Random(words.seed), list(self.start), 0, words.checks
 
     def staying(self, now=None):
-        """The processes on closed machines."""
+        """The processes on the machines that are emptied."""
         return [p for p, machine in enumerate(now or self.now) if self.flags[machine]]
 
     def others(self):
-        """The processes of open machines that moved."""
+        """The processes of other machines that moved."""
         return [p for p, (home, now) in enumerate(zip(self.start, self.now)) if home != now and not self.flags[home]]
 
     def most_rise(self, process, ways):
@@ -192,14 +199,14 @@ class Evacuation:
 
     def by_hand(self):
         """Moves each process that stays to an open machine that takes it, if there is one."""
-        state = State(self.model, self.start, self.now, self.flags)
+        state = State(self.model, self.start, self.now, self.shut)
         for process in self.staying()[:MOST_LOOKED]:
             machine = next((m for m in self.by_room(state, process) if state.breaks(process, m) is None), None)
             if machine is not None:
                 moved = list(state.now)
                 moved[process] = machine
                 self.keep(moved)
-                state = State(self.model, self.start, self.now, self.flags)
+                state = State(self.model, self.start, self.now, self.shut)
 
     def by_repair(self):
         """Looks for a way by `repair`, with no capacity of a resource that isn't transient on the closed machines."""
@@ -229,7 +236,7 @@ class Evacuation:
         def room(machine):
             return min((limit - used - more) / max(limit, 1) for limit, used, more in
                        zip(self.model.capacity[machine], state.use[machine], required))
-        return sorted((m for m in range(self.model.machines) if not self.flags[m] and m != own), key=lambda m: (-room(m), m))
+        return sorted((m for m in range(self.model.machines) if not self.shut[m] and m != own), key=lambda m: (-room(m), m))
 
     def tell(self):
         """Tells what came. Answers the status."""
@@ -240,7 +247,7 @@ class Evacuation:
         print(f"others {len(others)} of {self.model.processes - len(first)} had to move")
         costs = self.program.numbers("check", self.words.model, self.words.initial, self.out, *self.closing)
         print("".join(f"{name} {costs[name]}\n" for name in COSTS), end="")
-        state = State(self.model, self.start, self.now, self.flags)
+        state = State(self.model, self.start, self.now, self.shut)
         if others:
             self.tell_others(state, others)
         if staying:
@@ -287,7 +294,6 @@ def told(counts):
 
 
 def work(words):
-    print_in_utf8()
     names = Names.read(words.names, words.model) if words.names else None
     with Room() as room, telling(names.line if names else str):
         evacuation = Evacuation(words, room, names)

@@ -7,6 +7,11 @@ import tempfile
 from .problems import Problem
 
 PIECE = 1 << 20
+LARGEST = 4294967295  # the largest number that a file may have
+MOST_BYTES = 536_870_912  # of a file that the program reads
+MOST_NUMBERS = 50_000  # of an assignment
+MOST_JSON = 1 << 30  # bytes of a JSON
+LONG = 4000  # digits of a number of which the last ones aren't there yet
 
 
 def is_same(one, other):
@@ -37,10 +42,41 @@ def target(name, *others):
     return name
 
 
+_for_a_while = set()  # the files and folders that are there for a while
+
+
+def for_a_while(name):
+    """A file or a folder is going to be there for a while: if the tool ends before, it is removed then."""
+    _for_a_while.add(name)
+    return name
+
+
+def is_gone(name):
+    """Such a file or folder isn't there any more, or stays."""
+    _for_a_while.discard(name)
+
+
+def remove_what_is_left():
+    """Removes whatever was to be there for a while, as a tool does when it ends."""
+    for name in list(_for_a_while):
+        remove(name)
+
+
+def remove(name):
+    """Removes a file, or a folder with all that is in it, if it is there."""
+    try:
+        os.unlink(name)
+    except IsADirectoryError:
+        shutil.rmtree(name, ignore_errors=True)
+    except OSError:
+        pass
+    is_gone(name)
+
+
 def write_whole(name, pieces):
     """Writes a file beside its place and then renames it, so that only a whole one is ever there."""
     name = os.path.realpath(name)
-    beside = os.path.join(os.path.dirname(name), f".{os.path.basename(name)}.{os.getpid()}")
+    beside = for_a_while(os.path.join(os.path.dirname(name), f".{os.path.basename(name)[:200]}.{os.getpid()}"))
     try:
         with open(beside, "wb") as file:
             for piece in pieces:
@@ -51,8 +87,7 @@ def write_whole(name, pieces):
     except OSError as fault:
         raise Problem(f"write fault: {name}: {fault.strerror}", 7) from None
     finally:
-        if os.path.exists(beside):
-            os.unlink(beside)
+        remove(beside)
 
 
 def lock(name, what):
@@ -91,7 +126,8 @@ class Room:
     def make(self):
         """Makes the folder and locks it. Answers whether it is still there then: another tool may have taken it for a left one
         in between."""
-        self.folder = tempfile.mkdtemp(prefix=self.PREFIX)
+        self.folder = for_a_while(os.path.join(tempfile.gettempdir(), f"{self.PREFIX}{os.urandom(8).hex()}"))
+        os.mkdir(self.folder, 0o700)
         try:
             self.lock = os.open(self.folder, os.O_RDONLY)
             fcntl.flock(self.lock, fcntl.LOCK_EX)
@@ -103,7 +139,7 @@ class Room:
         return False
 
     def __exit__(self, *_):
-        shutil.rmtree(self.folder, ignore_errors=True)
+        remove(self.folder)
         os.close(self.lock)
 
 
@@ -129,13 +165,48 @@ def remove_unlocked(folder):
         os.close(at)
 
 
+def number_of(word):
+    """The number that a word of a file says, whatever its zeros are: Python takes no more than 4,300 digits at once."""
+    return int(word) if len(word) < 4000 else int(word.lstrip(b"0")[:4000] or b"0")
+
+
+def pieces_of(file, name, most=MOST_BYTES, status=3):
+    """The pieces of a file that is open, which has no more bytes than `most`."""
+    size = 0
+    try:
+        while piece := file.read(PIECE):
+            size += len(piece)
+            if size > most:
+                raise Problem(f"{name} has more than {most:,} bytes", status)
+            yield piece
+    except OSError as fault:
+        raise Problem(f"{name}: {fault.strerror}") from None
+
+
+def read_whole(name, most=MOST_BYTES, status=3, is_begun=lambda piece: True):
+    """The bytes of a file, which are no more than `most`, and no zeros as in a device. Its first piece is to be one with which
+    such a file may begin; else that piece alone is answered."""
+    try:
+        with open(name, "rb", buffering=0) as file:
+            read = bytearray()
+            for piece in pieces_of(file, name, most, status):
+                read += piece
+                if len(read) == len(piece) and not is_begun(piece):
+                    break
+                if b"\0" in piece:
+                    raise Problem(f"{name} is no text: it has the byte 0", status)
+            return bytes(read)
+    except OSError as fault:
+        raise Problem(f"{name}: {fault.strerror}") from None
+
+
 class Numbers:
     """The numbers of a file, one after another, in pieces. What isn't one ends the tool with this status."""
 
     def __init__(self, name, status):
         self.name, self.status, self.words, self.at, self.cut = name, status, [], 0, b""
         try:
-            self.file = open(name, "rb")
+            self.pieces = pieces_of(open(name, "rb", buffering=0), name, status=status)
         except OSError as fault:
             raise Problem(f"{name}: {fault.strerror}") from None
 
@@ -144,14 +215,13 @@ class Numbers:
 
     def fill(self):
         """Takes in one more piece. Answers whether there was one."""
-        try:
-            piece = self.file.read(PIECE)
-        except OSError as fault:
-            raise Problem(f"{self.name}: {fault.strerror}") from None
+        piece = next(self.pieces, b"")
         if piece.translate(None, b"0123456789 \t\r\n"):
             raise self.wrong("has something that is no number")
         more = (self.cut + piece).split()
         self.cut = more.pop() if more and piece and piece[-1:] not in b" \t\r\n" else b""
+        if len(self.cut) > LONG:
+            self.cut = self.cut[:-1].lstrip(b"0")[:LONG] + self.cut[-1:]
         self.words, self.at = self.words[self.at:] + more, 0
         return bool(piece)
 
@@ -163,19 +233,54 @@ class Numbers:
         self.at += count
         return self.words[self.at - count:self.at]
 
+    def numbers_of(self, words):
+        """The numbers that words say, none of which is too large."""
+        try:
+            numbers = list(map(int, words))
+        except ValueError:
+            numbers = list(map(number_of, words))
+        if numbers and max(numbers) > LARGEST:
+            raise self.wrong(f"has a number above {LARGEST:,}")
+        return numbers
+
     def take(self, count):
-        return list(map(int, self.next_words(count)))
+        return self.numbers_of(self.next_words(count))
 
     def one(self):
         return self.take(1)[0]
 
+    def count(self, what, most, least=0):
+        """A number that says how many there are of something."""
+        count = self.one()
+        if not least <= count <= most:
+            raise self.wrong(f"has {count:,} {what}; possible are {least:,} to {most:,}")
+        return count
+
+    def rest(self):
+        """The numbers that are left, in lists of some."""
+        while self.fill() or self.words:
+            words, self.words = self.words, []
+            yield self.numbers_of(words)
+
 
 def read_list(name, status=5):
-    """The numbers of an assignment or, if the status is 10, of a closed list."""
-    numbers = Numbers(name, status)
-    while numbers.fill():
-        pass
-    return numbers.take(len(numbers.words))
+    """The numbers of an assignment."""
+    numbers, found = Numbers(name, status), []
+    for some in numbers.rest():
+        found += some
+        if len(found) > MOST_NUMBERS:
+            raise numbers.wrong(f"has more than {MOST_NUMBERS:,} numbers")
+    return found
+
+
+def read_closed(name, machines):
+    """The machines of a closed list, of which a model has so many, by their numbers."""
+    closed = set()
+    for some in Numbers(name, 10).rest():
+        closed.update(some)
+        if max(closed, default=0) >= machines:
+            raise Problem(f"{name}: no machine {max(closed)}", 10)
+    return closed
 
 
 def list_text(numbers):

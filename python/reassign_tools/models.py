@@ -4,11 +4,11 @@ from array import array
 from collections import Counter
 from dataclasses import dataclass, field
 
-from .files import Numbers, read_list
+from .files import LARGEST, Numbers, number_of, read_closed
 from .problems import Problem
 
-LARGEST = 4294967295  # the largest number that a model may have
-MOST_RESOURCES = 20
+MOST_RESOURCES, MOST_MACHINES, MOST_SERVICES, MOST_PROCESSES, MOST_DEPENDENCIES = 20, 5_000, 50_000, 50_000, 100_000
+MOST_BALANCES = 10
 
 
 @dataclass
@@ -37,9 +37,9 @@ class Model:
         fields go; whether each number is in its range `reassign check` says."""
         numbers = Numbers(name, 4)
         take = numbers.take
-        resources = numbers.one()
+        resources = numbers.count("resources", MOST_RESOURCES, 1)
         flags = take(2 * resources)
-        machines = numbers.one()
+        machines = numbers.count("machines", MOST_MACHINES, 1)
         hoods, locations, capacity, safety, ways = [], [], [], [], []
         for _ in range(machines):
             hood, location = take(2)
@@ -48,20 +48,25 @@ class Model:
             capacity.append(take(resources))
             safety.append(take(resources))
             ways.append(b" ".join(numbers.next_words(machines)))
-        spreads, needs = [], []
-        for _ in range(numbers.one()):
-            spread, count = take(2)
-            spreads.append(spread)
-            needs.append(take(count))
+        spreads, needs, left = [], [], MOST_DEPENDENCIES
+        for _ in range(numbers.count("services", MOST_SERVICES, 1)):
+            spreads.append(numbers.one())
+            needs.append(take(numbers.count("dependencies", left)))
+            left -= len(needs[-1])
         services, required, move_cost = [], [], []
-        for _ in range(numbers.one()):
+        for _ in range(numbers.count("processes", MOST_PROCESSES, 1)):
             service, *row, cost = take(resources + 2)
             services.append(service)
             required.append(row)
             move_cost.append(cost)
-        balances = [take(4) for _ in range(numbers.one())]
-        return cls(flags[0::2], flags[1::2], hoods, locations, capacity, safety, ways, spreads, needs, services, required,
-                   move_cost, balances, take(3))
+        balances = [take(4) for _ in range(numbers.count("balances", MOST_BALANCES))]
+        model = cls(flags[0::2], flags[1::2], hoods, locations, capacity, safety, ways, spreads, needs, services, required,
+                    move_cost, balances, take(3))
+        for what, some, most in (("service", [*services, *(one for row in needs for one in row)], len(spreads)),
+                                 ("resource", [one for row in balances for one in row[:2]], resources)):
+            if max(some, default=0) >= most:
+                raise numbers.wrong(f"names {what} {max(some)}, and has {most:,}")
+        return model
 
     @property
     def resources(self):
@@ -85,13 +90,16 @@ class Model:
             row = self.ways[machine]
             try:
                 self.rows[machine] = array("I", json.loads(b"[" + row.replace(b" ", b",") + b"]"))
-            except ValueError:  # leading zeros
-                self.rows[machine] = array("I", map(int, row.split()))
+            except (ValueError, OverflowError):  # leading zeros, or too large
+                costs = list(map(number_of, row.split()))
+                if max(costs) > LARGEST:
+                    raise Problem(f"a way from machine {machine} costs more than {LARGEST:,}", 4) from None
+                self.rows[machine] = array("I", costs)
         return self.rows[machine]
 
     def stay_cost(self, machine):
         """The way from a machine to itself, which a model may give any cost."""
-        return int(self.ways[machine].split(maxsplit=machine + 1)[machine])
+        return number_of(self.ways[machine].split(maxsplit=machine + 1)[machine])
 
     def pieces(self):
         """The text of the model, in pieces."""
@@ -187,8 +195,6 @@ def same_sizes(model, name, *lists):
 
 def closed_flags(model, name):
     flags = [False] * model.machines
-    for machine in read_list(name, 10) if name else []:
-        if machine >= model.machines:
-            raise Problem(f"{name}: no machine {machine}", 10)
+    for machine in read_closed(name, model.machines) if name else ():
         flags[machine] = True
     return flags

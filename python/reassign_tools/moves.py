@@ -8,26 +8,26 @@ cost, and the share of the way from INITIAL's cost to that of all moves. Each li
 
 A list of moves says who moves where, and not in which order: that the list is feasible is said of its end, and of transient
 resources while all are on their way. With --names machines, services, processes and resources have their names, and the closed
-list may have the name of a machine in each line. Without --closed moves may go to closed machines, and those away from there
-may be left out; if `named pack` wrote MODEL and machines are closed, that is told on standard error. For example
+list may have the name of a machine in each line. If MODEL lies in a folder that `named pack` wrote, the machines that its
+`closed` names are closed too, which is told on standard error; with --only those of --closed alone are. For example
 
     $ tools/moves /tmp/packed/model /tmp/packed/initial /tmp/report --names /tmp/packed/names.json --at-most 5"""
 import csv
 import json
-import os
 import sys
 from dataclasses import dataclass
 
 from .calls import named
 from .choosing_moves import Choice
+from .closing import add_only, with_fleet
 from .files import Room, list_text, read_list, target, write_whole
 from .models import Model, closed_flags
 from .names import Names
 from .problems import Problem, telling
 from .program import Program, closed_words
 from .reports import read_placement
-from .running import run_tool, say
-from .texts import counted, print_in_utf8, some
+from .running import run_tool
+from .texts import counted
 from .words import Words, file_name, number
 
 MOST_PROCESSES = 50_000
@@ -48,6 +48,7 @@ def parser():
     form.add_argument("--json", action="store_true", help="print one JSON object, with the curve if it is asked for")
     words.add_argument("--out", metavar="LIST", type=file_name, help="write the list with these moves there")
     words.add_argument("--closed", metavar="FILE", type=file_name, help="the closed list of NEW")
+    add_only(words)
     return words
 
 
@@ -168,18 +169,17 @@ def moves(model, initial, new, at_most=None, closed=None, program=None):
 
 
 def work(words):
-    print_in_utf8()
     out = words.out and target(words.out, words.model, words.initial, words.new, words.names, words.closed)
     names = Names.read(words.names, words.model) if words.names else None
     with Room() as room, telling(names.line if names else str):
-        closed = names.closed_file(words.closed, room) if names else words.closed
-        judge = Judge(Program(words.program), words.model, words.initial, closed, room)
+        given = names.closed_file(words.closed, room) if names else words.closed
+        judge = Judge(Program(words.program), words.model, words.initial, given, room)
         start, new = read_list(words.initial), read_placement(words.new)
-        costs = judge.cost(start, words.initial), judge.cost(new, words.new)
-        model = Model.read(words.model)
+        start_cost, model = judge.cost(start, words.initial), Model.read(words.model)
         names = names or Names.numbers(model)
-        if not closed:
-            tell_closed(words.model, names)
+        closed = with_fleet(words, given, names, room)
+        judge.closing = closed_words(closed)
+        costs = start_cost, judge.cost(new, words.new)
         found = Moves(model, start, new, closed_flags(model, closed), *costs)
         most = found.all.count if words.at_most is None else words.at_most
         curve = [judge.confirm(one) for one in found.curve(most)] if words.curve else []
@@ -195,17 +195,6 @@ def work(words):
             tell(found, kept)
         if words.csv or kept.count:
             print_rows(move_rows(found, kept, names), words.csv)
-
-
-def tell_closed(model, names):
-    """Tells on standard error which machines are closed, if `named pack` wrote the model and closed any."""
-    folder = os.path.dirname(model)
-    name = os.path.join(folder, "closed")
-    if os.path.isfile(os.path.join(folder, "names.json")) and os.path.isfile(name):
-        closed = [names.machines[machine] for machine in read_list(name, 10) if machine < len(names.machines)]
-        if closed:
-            say(f"closed machines: {some(closed)}; without --closed {name} moves may go there, and those away from there may be "
-                "left out")
 
 
 def move_rows(found, kept, names):

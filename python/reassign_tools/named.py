@@ -30,7 +30,7 @@ from .problems import Problem, ProblemWithLines
 from .program import Program
 from .running import run_tool
 from .telling_rules import fullest, told
-from .texts import counted, print_in_utf8
+from .texts import counted
 from .words import Words, file_name
 
 PACK = """Makes a model from the tables of FLEET: OUT/model, OUT/initial (today's placement), OUT/closed (the closed machines)
@@ -191,7 +191,6 @@ def from_kubectl(words):
 
 
 def work(words):
-    print_in_utf8()
     try:
         return words.work(words)
     except ProblemWithLines as problem:

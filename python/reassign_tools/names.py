@@ -4,12 +4,11 @@ import json
 import re
 from dataclasses import dataclass, field
 
-from .files import list_text, write_whole
+from .files import MOST_JSON, list_text, pieces_of, read_whole, write_whole
 from .fleets.amounts import amount, amount_text
 from .fleets.mistakes import Mistakes
 from .problems import Problem
 
-PIECE = 1 << 20
 LISTS = ("resources", "units", "machines", "neighbourhoods", "locations", "services", "processes")
 BROKEN = re.compile(r"((?:infeasible|unrepaired): .*: )(capacity|transient|conflict|spread|dependency|closed)((?: [0-9]+)+)", re.S)
 NO_LIST = re.compile(r"(bad assignment: .*: (?:no machine for|missing) process )([0-9]+)(.*)", re.S)
@@ -35,10 +34,7 @@ class Names:
 
         Raises Problem with status 3 if a file can't be read, and 4 if it has no names or those of another model."""
         try:
-            with open(name, "rb") as file:
-                found = json.load(file)
-        except OSError as fault:
-            raise Problem(f"{name}: {fault.strerror}") from None
+            found = json.loads(read_whole(name, MOST_JSON, 4, lambda piece: piece.lstrip()[:1] == b"{"))
         except (ValueError, RecursionError):
             raise Problem(f"{name} is no file of names", 4) from None
         try:
@@ -46,7 +42,9 @@ class Names:
             names.units = [amount(unit) for unit in names.units]
             if any(type(one) is not str for word in LISTS if word != "units" for one in getattr(names, word)):
                 raise ValueError
-        except (KeyError, TypeError, ValueError):
+            if any(type(one) is not str for pair in names.tables.items() for one in pair):
+                raise ValueError
+        except (KeyError, TypeError, ValueError, AttributeError):
             raise Problem(f"{name} is no file of names", 4) from None
         if hash_of(model) != names.model_sha256:
             raise Problem(f"{name}: these names belong to another model than {model}", 4)
@@ -90,11 +88,7 @@ class Names:
         can't be read, and 10 if there is no machine of a name."""
         if name is None:
             return None
-        try:
-            with open(name, "rb") as file:
-                text = file.read()
-        except OSError as fault:
-            raise Problem(f"{name}: {fault.strerror}") from None
+        text = read_whole(name, status=10)
         if not text.translate(None, b"0123456789 \t\r\n"):
             return name
         machines, closed = {machine: at for at, machine in enumerate(self.machines)}, []
@@ -123,11 +117,11 @@ CAUSES = {
 
 
 def hash_of(name):
-    """The SHA-256 of a file."""
+    """The SHA-256 of a model's file."""
     digest = hashlib.sha256()
     try:
-        with open(name, "rb") as file:
-            while piece := file.read(PIECE):
+        with open(name, "rb", buffering=0) as file:
+            for piece in pieces_of(file, name, status=4):
                 digest.update(piece)
     except OSError as fault:
         raise Problem(f"{name}: {fault.strerror}") from None

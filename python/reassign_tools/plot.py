@@ -75,7 +75,7 @@ def machines(words, instance, end, command):
     """The picture of the machines."""
     model = instance.model
     names = Names.read(words.names, words.model) if words.names else Names.numbers(model)
-    title = words.title or title_of(words.report, model.machines)
+    title = shown(words.title) if words.title else title_of(words.report, model.machines)
     uses = uses_of(model, names, instance.start, end)
     return draw_machines(uses, names.machines, title, command, tells_fullest=bool(words.names))
 
@@ -96,7 +96,7 @@ def picture_of(words):
         instance.has(report)
     if instance and not words.run:
         return machines(words, instance, report.assignment, command)
-    return draw_run(report, instance, command, words.title)
+    return draw_run(report, instance, command, words.title and shown(words.title))
 
 
 def work(words):

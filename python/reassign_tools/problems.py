@@ -1,10 +1,12 @@
 """What ends a tool before its aim."""
+import signal
 from contextlib import contextmanager
 
 
 class Problem(Exception):
     """A line for standard error, and the status with which a tool ends (docs/GUIDE.md, "In scripts").
 
+    1    the tool has a fault, or the program is of another version
     2    the words are no call of the tool
     3    a file can't be read, or the program isn't there
     4, 5, 6, 8, 10    what `reassign` says of the model, of a list, of a broken rule, of memory, of a closed list
@@ -38,4 +40,9 @@ def telling(tell):
 
 
 class Stopped(KeyboardInterrupt):
-    """Ctrl-C, or the system's call to end. A notebook, in which no tool runs, gets its KeyboardInterrupt instead."""
+    """Ctrl-C, or the system's call to end, by its signal. A notebook, in which no tool runs, gets its KeyboardInterrupt
+    instead."""
+
+    def __init__(self, number=signal.SIGINT):
+        super().__init__("stopped")
+        self.signal = number

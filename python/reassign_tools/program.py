@@ -1,4 +1,5 @@
 """Calling the program `reassign`."""
+import errno
 import os
 import shutil
 import signal
@@ -6,11 +7,14 @@ import subprocess
 import sys
 import threading
 
-from .children import begin, end
+from .children import PATIENCE, begin, end, forget
 from .problems import Problem, Stopped
 
 ROOT = os.path.dirname(os.path.dirname(os.path.dirname(os.path.realpath(__file__))))
 PIECE = 1 << 20
+LONGEST_ERROR = 1 << 16  # bytes of an error line
+A_LINE, MOST_PRINTED = 64, 1 << 28  # bytes that a line takes beside its text, and that all lines may take
+STATUSES = range(2, 13)
 COSTS = ("cost", "load", "balance", "process", "service", "machine")
 
 
@@ -41,6 +45,7 @@ class Program:
         except BaseException:
             end(made)
             raise
+        forget(made)
         if status:
             raise Problem("the program was not made")
 
@@ -48,19 +53,20 @@ class Program:
         """Runs a command. Answers its status, the lines that it prints (the first ones, if their number is given), and
         its error line. Its output goes to the file `keep` too. Another status than those of `endings` ends the tool. After so
         many seconds as `limit` the command is ended, and the status is None."""
-        command = [self.name, *map(str, words)]
         try:
-            run = begin(command, stdout=subprocess.PIPE, stderr=subprocess.PIPE)
+            run = begin([self.name, *map(str, words)], stdout=subprocess.PIPE, stderr=subprocess.PIPE)
         except OSError as fault:
+            if fault.errno in (errno.ENOMEM, errno.EAGAIN):
+                raise MemoryError from None
             raise Problem(f"{self.name} can't be run: {fault.strerror}") from None
         is_over = threading.Event()
         alarm = threading.Timer(limit, lambda: (is_over.set(), run.kill())) if limit is not None else None
         try:
+            errors = Errors(run.stderr)
             if alarm:
                 alarm.start()
-            printed = read_output(run.stdout, keep, lines)
-            error = run.stderr.read().decode(errors="replace").strip()
-            status = run.wait()
+            printed = self.read_output(run.stdout, keep, lines)
+            status, error = run.wait(), errors.last_line()
         except BaseException:
             end(run)
             raise
@@ -68,42 +74,70 @@ class Program:
             if alarm:
                 alarm.cancel()
             run.stdout.close()
-            run.stderr.close()
+        forget(run)
         if is_over.is_set() and status == -signal.SIGKILL:
             return None, printed, error
         if status < 0 and -status in (signal.SIGINT, signal.SIGTERM):
-            raise Stopped
+            raise Stopped(-status)
         if status < 0:
             raise Problem(f"`reassign {words[0]}` was ended by signal {-status}", 8)
         if status not in endings:
-            raise Problem(error.splitlines()[-1] if error else f"`reassign {words[0]}` ended with status {status}", status)
+            raise self.refusal(status, error, words[0])
         return status, printed, error
+
+    def refusal(self, status, error, word):
+        """The problem that the program's own status and line are."""
+        if status in STATUSES:
+            return Problem(error or f"`reassign {word}` ended with status {status}", status)
+        return Problem(f"`{self.name} {word}` ended with status {status}, which isn't one of reassign's: is it the program?")
+
+    def read_output(self, pipe, keep, lines):
+        """The lines that come, or the first ones; all go to the file `keep`, if there is one."""
+        printed, size = [], 0
+        with open(keep, "wb") if keep else open(os.devnull, "wb") as copy:
+            while line := pipe.readline(PIECE) if lines is None or len(printed) < lines else pipe.read(PIECE):
+                if keep:
+                    copy.write(line)
+                if lines is None or len(printed) < lines:
+                    size += len(line) + A_LINE
+                    if size > MOST_PRINTED:
+                        raise self.no_program("prints without an end")
+                    printed.append(line.decode(errors="replace").rstrip("\n"))
+        return printed
+
+    def no_program(self, what):
+        return Problem(f"`{self.name}` {what}: is it the program?")
 
     def numbers(self, *words):
         """The lines of a command that prints words with one number each, by their words."""
         _, lines, _ = self.run(*words)
         try:
-            return {word: int(value) for word, value in (line.split() for line in lines)}
+            found = {word: int(value) for word, value in (line.split() for line in lines)}
         except ValueError:
-            raise Problem(f"`{self.name} {words[0]}` doesn't print what reassign prints: is it the program?") from None
+            found = {}
+        if not found.keys() >= set(COSTS if words[0] == "check" else (words[0],)):
+            raise self.no_program("doesn't print what reassign prints")
+        return found
 
 
-def read_output(pipe, keep, lines):
-    """The lines that come, or the first ones; all go to the file `keep`, if there is one."""
-    printed = []
-    with open(keep, "wb") if keep else open(os.devnull, "wb") as copy:
-        for line in pipe:
-            if lines is None or len(printed) < lines:
-                printed.append(line.decode(errors="replace").rstrip("\n"))
-                if keep:
-                    copy.write(line)
-            else:
-                if keep:
-                    copy.write(line)
-                while piece := pipe.read(PIECE):
-                    if keep:
-                        copy.write(piece)
-    return printed
+class Errors:
+    """Reads what a program says on standard error beside its output, and keeps the end of it."""
+
+    def __init__(self, pipe):
+        self.pipe, self.end = pipe, b""
+        self.reader = threading.Thread(target=self.read, daemon=True)
+        self.reader.start()
+
+    def read(self):
+        with self.pipe:
+            while piece := self.pipe.read1(LONGEST_ERROR):
+                self.end = (self.end + piece)[-LONGEST_ERROR:]
+
+    def last_line(self):
+        """The last line, when the program has ended."""
+        self.reader.join(PATIENCE)
+        lines = self.end.decode(errors="replace").strip().splitlines()
+        return lines[-1] if lines else ""
 
 
 def closed_words(closed):

@@ -12,9 +12,10 @@ processor time, without reading: the median of all seeds. It may print `proposal
 
 Tables come on standard output: for each instance, budget, solver and slack the least, the median and the most cost, the
 spread (the most less the least, as a share of the way from the start's cost to the bound), the share of the way that is left
-at the median, the median of their times (by the clock with --seconds, else as above), and how many runs left no feasible list,
-or were late, which is a tenth of their seconds and one second more. --csv and --json have a row for each run, and --curves is a
-picture of what is left over seconds, by median and quartiles.
+at the median, the median of their times (by the clock with --seconds, else as above), and how many runs left a list that breaks
+a rule ("infeasible"), left no list, crashed (ended by a signal, or with another status than 0), were ended after twice their
+time and a minute more ("time-out"), or were late, which is a tenth of their seconds and one second more. --csv and --json have
+a row for each run, and --curves is a picture of what is left over seconds, by median and quartiles.
 
 On several machines: --list FILE writes one command a line, and puts all that they need into FOLDER, which the hosts share or
 which is copied to them. `parallel --sshloginfile HOSTS < FILE` or a Slurm array runs them; if a host has FOLDER elsewhere, its
@@ -29,7 +30,7 @@ import shutil
 import threading
 from dataclasses import replace
 
-from .files import Room, target, write_whole
+from .files import Room, read_whole, target, write_whole
 from .problems import Problem
 from .program import Program
 from .race_curves import curves
@@ -37,7 +38,7 @@ from .race_plan import (AUTO, Instance, Plan, digest, instances_of, is_one_run, 
                         slacks_of, solver_of)
 from .race_rows import Judge, csv_text, json_text, tables
 from .race_runs import Place, Running, run_unit, units_of
-from .running import PACKAGE, no_more_stops, run_tool, say
+from .running import PACKAGE, no_more_stops, run_tool, say, stopped_status
 from .words import MOST_LOTS, Words, file_name, number
 
 PLAN, RESULTS, TOOLS, PROGRAM, RUN = "plan.json", "results", "python", "program", "run"
@@ -176,16 +177,15 @@ def run_here(options):
         no_more_stops()
         again = "; the same call goes on" if options.folder else ""
         say(f"stopped after {len(rows)} of {len(plan.jobs)} runs{again}")
-    return rows, 130 if is_stopped else 0
+    return rows, stopped_status() if is_stopped else 0
 
 
 def kept_folder(folder, plan):
     """The folder in which the runs of a plan are kept. One that has another plan is refused."""
     name = os.path.join(folder, PLAN)
     if os.path.exists(name):
-        with open(name, "rb") as file:
-            if file.read() != plan.text():
-                raise Problem(f"{folder} has another race; name another folder", 2)
+        if read_whole(name) != plan.text():
+            raise Problem(f"{folder} has another race; name another folder", 2)
     elif os.path.isdir(folder) and os.listdir(folder):
         raise Problem(f"{folder} has other files; name another folder", 2)
     results = os.path.join(folder, RESULTS)

@@ -7,7 +7,7 @@ import re
 import shlex
 from dataclasses import asdict, dataclass
 
-from .files import write_whole
+from .files import read_whole, write_whole
 from .problems import Problem
 from .words import LARGEST_SEED, MOST_PROPOSALS
 
@@ -78,15 +78,12 @@ class Plan:
     def read(name):
         """The plan of a file, and the SHA-256 of its models and starts by the names of their instances."""
         try:
-            with open(name, encoding="utf-8") as file:
-                whole = json.load(file)
+            whole = json.loads(read_whole(name))
             digests = {one["name"]: (one.pop("model_sha256"), one.pop("initial_sha256")) for one in whole["instances"]}
             instances = {one["name"]: Instance(**one) for one in whole["instances"]}
             solvers = {one["name"]: Solver(**one) for one in whole["solvers"]}
             return Plan(instances, solvers, whole["workers"], [Job(**one) for one in whole["jobs"]]), digests
-        except OSError as fault:
-            raise Problem(f"{name}: {fault.strerror}") from None
-        except (ValueError, KeyError, TypeError, AttributeError):
+        except (ValueError, KeyError, TypeError, AttributeError, RecursionError):
             raise Problem(f"{name} is no plan of a race", 9) from None
 
 

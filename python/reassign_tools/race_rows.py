@@ -3,21 +3,25 @@ import csv
 import io
 import json
 import os
+from collections import Counter
 from dataclasses import asdict, dataclass, fields
 from statistics import median
 
 from .problems import Problem
 from .race_plan import OWN
-from .race_runs import read_outcome
+from .race_runs import CRASH, TIME_OUT, read_outcome
 from .texts import percent
 
+# What came of a run. One without a feasible list crashed, was ended after its time, left no list, or one that breaks a rule.
+OUTCOMES = ("feasible", "infeasible", "no list", CRASH, TIME_OUT)
 LATE_SHARE, LATE_SECONDS = 0.1, 1.0  # by how much a run may be longer than its seconds
 
 
 @dataclass
 class Row:
     """One run. Its costs are those of `check`; its times and proposals are what the run says of itself. `budget_proposals` or
-    `budget_seconds` is what it was given; `processor` is processor time, of which `reading` was before the first proposal."""
+    `budget_seconds` is what it was given; `processor` is processor time, of which `reading` was before the first proposal.
+    `outcome` is one of OUTCOMES."""
     instance: str
     solver: str
     version: str
@@ -34,6 +38,7 @@ class Row:
     bound: int
     left: float | None
     feasible: bool
+    outcome: str
     late: bool
     fault: str
     host: str
@@ -51,7 +56,7 @@ class Row:
 
     def told(self):
         if not self.feasible:
-            return self.fault
+            return f"{self.outcome}: {self.fault}" if self.fault != self.outcome else self.fault
         late = "" if not self.late else ", late"
         return f"cost {self.cost:,}, {100 * self.left:.1f} % of the way left, {self.seconds:.1f} s{late}"
 
@@ -85,27 +90,28 @@ class Judge:
     def row(self, job, place):
         """The row of a job whose outcome is there."""
         facts, outcome = self.facts[job.instance], read_outcome(place.outcome_name(job))
-        cost, fault = self.judged(job, place.list_name(job))
+        cost, kind, fault = self.judged(job, place.list_name(job))
         late = job.seconds is not None and outcome.seconds > (1 + LATE_SHARE) * job.seconds + LATE_SECONDS
         curve = [(0.0, facts.start), *outcome.curve] if outcome.curve else []
         if curve and cost is not None and curve[-1][1] != cost:
             curve.append((max(curve[-1][0], outcome.solving()), cost))
         return Row(job.instance, job.solver, outcome.version, job.seed, job.slack, job.proposals, job.seconds or outcome.given,
                    outcome.seconds, outcome.processor, outcome.reading, outcome.proposals, facts.start, cost, facts.bound,
-                   None if cost is None else facts.left(cost), cost is not None, late,
+                   None if cost is None else facts.left(cost), cost is not None,
+                   "feasible" if cost is not None else outcome.end or kind, late,
                    "; ".join(filter(None, (outcome.fault, fault))), outcome.host, curve)
 
     def judged(self, job, name):
-        """The cost of a list, or None; and why there is none."""
+        """The cost of a list, or None; and why there is none, in one of the words of OUTCOMES and in the program's."""
         if not os.path.isfile(name):
-            return None, "no list"
+            return None, "no list", "no list"
         instance = self.plan.instances[job.instance]
         try:
-            return self.program.numbers("check", instance.model, instance.initial, name)["cost"], ""
+            return self.program.numbers("check", instance.model, instance.initial, name)["cost"], "", ""
         except Problem as problem:
             if problem.status not in (3, 5, 6):
                 raise
-            return None, problem.line.replace(f" {name}:", "")
+            return None, "infeasible" if problem.status == 6 else "no list", problem.line.replace(f" {name}:", "")
 
 
 # Files
@@ -158,7 +164,7 @@ def run_table(rows):
     has_seconds = any(row.budget_proposals is None for row in rows)
     heads = ["instance", "budget" if has_seconds else "proposals", "solver", *["slack"] * has_slacks, "runs", "least", "median",
              "most", "spread", "left", "time"]
-    spoilt = [word for word in ("infeasible", "late") if any(counts_of(group)[word] for group in groups_of(rows).values())]
+    spoilt = [word for word in (*OUTCOMES[1:], "late") if any(counts_of(group)[word] for group in groups_of(rows).values())]
     lines = []
     for group in sorted(groups_of(rows).values(), key=place_of(rows)):
         first, counts = group[0], counts_of(group)
@@ -185,7 +191,7 @@ def place_of(rows):
 
 
 def counts_of(group):
-    return {"infeasible": sum(not row.feasible for row in group), "late": sum(row.late for row in group)}
+    return {**dict.fromkeys(OUTCOMES, 0), **Counter(row.outcome for row in group), "late": sum(row.late for row in group)}
 
 
 def tables(rows):

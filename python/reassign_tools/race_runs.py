@@ -14,20 +14,24 @@ from dataclasses import asdict, dataclass, field
 from statistics import median
 
 from . import __version__
-from .children import begin
-from .files import list_text, write_whole
+from .children import begin, forget, signal_group
+from .files import PIECE, list_text, read_whole, write_whole
 from .problems import Problem
 from .program import slack_words
 from .race_plan import OWN, digest, is_one_run
-from .running import command_of
+from .running import command_of, stopped_status
 
 CURVE_POINTS = 150
+CRASH, TIME_OUT = "crash", "time-out"  # how a run ends that doesn't end by itself with status 0
+PATIENCE = 5.0  # seconds that a program has to end well
+MOST_OUTCOME = 1 << 24  # bytes that a run says of itself
 SHORTEST = 0.001  # seconds that another solver gets at least
 
 
 @dataclass
 class Outcome:
-    """What a run says of itself. Seconds are by the clock; `processor` is processor time, with that of `reading`."""
+    """What a run says of itself. Seconds are by the clock; `processor` is processor time, with that of `reading`. `end` is a
+    word for how it ended if it didn't end by itself, with status 0."""
     version: str = ""
     host: str = ""
     given: float | None = None
@@ -36,6 +40,7 @@ class Outcome:
     reading: float | None = None
     proposals: int | None = None
     fault: str = ""
+    end: str = ""
     curve: list = field(default_factory=list)
 
     def solving(self):
@@ -55,28 +60,34 @@ class Running:
     def start(self, words, **how):
         with self.lock:
             if self.is_over:
-                raise Problem("stopped", 130)
+                raise Problem("stopped", stopped_status())
             run = begin(words, stdout=subprocess.PIPE, **how)
             self.groups.add(run.pid)
         return run
 
     def end_group(self, group):
-        try:
-            os.killpg(group, signal.SIGKILL)
-        except ProcessLookupError:
-            pass
+        """Ends a program well, or else at once, and what it began."""
+        signal_group(group, signal.SIGTERM)
+        last = time.monotonic() + PATIENCE
+        while group in self.groups and time.monotonic() < last:
+            time.sleep(0.02)
+        signal_group(group, signal.SIGKILL)
 
-    def forget(self, group):
+    def forget(self, run):
         """The program ended; what it left running ends too."""
-        self.end_group(group)
+        signal_group(run.pid, signal.SIGKILL)
+        forget(run)
         with self.lock:
-            self.groups.discard(group)
+            self.groups.discard(run.pid)
 
     def end_all(self):
         with self.lock:
             self.is_over = True
-            for group in self.groups:
-                self.end_group(group)
+            groups = list(self.groups)
+        for group in groups:
+            signal_group(group, signal.SIGTERM)
+        for group in groups:
+            self.end_group(group)
 
 
 @dataclass
@@ -99,7 +110,7 @@ def timed(running, words, take=None, limit=None):
             return Timed(127, f"{words[0]}: {fault.strerror}", 0.0, 0.0)
         waiting = threading.Thread(target=wait_for, args=(running, run, limit, ended), daemon=True)
         waiting.start()
-        for line in run.stdout:
+        while line := run.stdout.readline(PIECE):
             if take:
                 take(line)
         waiting.join()
@@ -120,8 +131,8 @@ def wait_for(running, run, limit, ended):
     _, status, usage = os.wait4(run.pid, 0)
     if alarm:
         alarm.cancel()
-    running.forget(run.pid)
     run.returncode = os.waitstatus_to_exitcode(status)
+    running.forget(run)
     ended.status = None if is_late.is_set() else run.returncode
     ended.processor = usage.ru_utime + usage.ru_stime
 
@@ -146,7 +157,7 @@ class Head:
             return
         self.entries += 1
         if b" done " in line:
-            cost = int(line[line.rindex(b" "):])
+            cost = int(line[line.rindex(b" "):][:40])
             if self.least is None or cost < self.least:
                 self.least = cost
                 self.falls.append((self.entries, cost))
@@ -179,7 +190,7 @@ def run_solve(running, program, instance, job, workers, new):
     outcome = Outcome(seconds=run.seconds, processor=run.processor, reading=idle.processor, proposals=head.entries)
     found = head.assignment()
     if run.status or found is None:
-        outcome.fault = run.error or f"status {run.status}"
+        outcome.fault, outcome.end = fault_of(run) or "no report", CRASH
         return outcome
     write_whole(new, [list_text(found)])
     each = outcome.solving() / max(head.entries, 1)
@@ -202,7 +213,7 @@ def run_rounds(running, program, instance, job, workers, new):
         outcome.curve = thinned([(one["seconds"], one["cost"]) for one in rounds])
     except (OSError, ValueError, KeyError, TypeError):
         outcome.proposals = None
-    outcome.fault = fault_of(run)
+    outcome.fault, outcome.end = fault_of(run), end_of(run)
     return outcome
 
 
@@ -234,13 +245,21 @@ def run_other(running, solver, instance, job, seconds, new):
     said = Said()
     run = timed(running, solver.words(values), said.take, limit_of(seconds))
     return Outcome(given=seconds, seconds=run.seconds, processor=run.processor, proposals=said.proposals, fault=fault_of(run),
-                   curve=thinned(said.curve))
+                   end=end_of(run), curve=thinned(said.curve))
+
+
+def end_of(run):
+    return TIME_OUT if run.status is None else CRASH if run.status else ""
 
 
 def fault_of(run):
     if run.status is None:
         return f"ended after {run.seconds:.0f} s"
-    return f"status {run.status}" + (f": {run.error}" if run.error else "") if run.status else ""
+    if not run.status:
+        return ""
+    if run.status < 0:
+        return f"ended by signal {-run.status}"
+    return f"status {run.status}" + (f": {run.error}" if run.error else "")
 
 
 def version_of(words):
@@ -286,6 +305,8 @@ def run_unit(plan, unit, place):
     for job in unit:
         if not place.has(job):
             outcome = run_job(plan, job, place, median(solving) if solving else None)
+            if place.running.is_over:  # a run that was stopped is none
+                raise Problem("stopped", stopped_status())
             write_whole(place.outcome_name(job), [json.dumps(asdict(outcome)).encode() + b"\n"])
         if job.solver == OWN:
             solving.append(read_outcome(place.outcome_name(job)).solving())
@@ -313,16 +334,13 @@ def run_job(plan, job, place, as_long):
 def read_outcome(name):
     """What a run says of itself, of which nothing is believed but its form."""
     try:
-        with open(name, encoding="utf-8") as file:
-            outcome = Outcome(**json.load(file))
+        outcome = Outcome(**json.loads(read_whole(name, MOST_OUTCOME, 9)))
         numbers = [outcome.seconds, outcome.processor, *(number for point in outcome.curve for number in point)]
         numbers += [number for number in (outcome.given, outcome.reading, outcome.proposals) if number is not None]
-        texts = (outcome.version, outcome.host, outcome.fault)
+        texts = (outcome.version, outcome.host, outcome.fault, outcome.end)
         if all(isinstance(text, str) for text in texts) and all(0 <= number < math.inf for number in numbers):
             outcome.curve = [(at, cost) for at, cost in outcome.curve]
             return outcome
-    except OSError as fault:
-        raise Problem(f"{name}: {fault.strerror}") from None
-    except (ValueError, TypeError):
+    except (ValueError, TypeError, RecursionError):
         pass
     raise Problem(f"{name} isn't what a run of a race leaves", 9)

@@ -3,27 +3,28 @@
 `reassign repair` tries what its words name; with a seed these are any processes. This tool looks which rules are broken,
 writes proposals for the processes there (one lot of at most 131,071 bytes, the longest word that Linux hands over), runs
 `reassign repair` with them, and begins again with what is broken then, until the list is feasible or nothing has fallen in
-so many turns (--idle). REPAIRED is written in the end, whole, also if it still breaks a rule; the status is 11 then, and 130
-after Ctrl-C.
+so many turns (--idle). REPAIRED is written in the end, whole, also if it still breaks a rule; the status is 11 then, and 130 or
+143 after a stop.
 
 REPAIRED is then the initial list of what follows, since INITIAL, which breaks rules, can be none: move costs and transient
 use count from there. What the moves from INITIAL cost is told, as no later run will tell it; and whether they are feasible
 from INITIAL, that is in one go, or only as a new initial list.
 
-With --names all this is told by names, and the closed list may have the name of a machine in each line. For example
+If MODEL lies in a folder that `named pack` wrote, the machines that its `closed` names are closed too, which is told; with
+--only those of --closed alone are. With --names all this is told by names, and the closed list may have the name of a machine in each line. For example
 
     $ tools/repair_words examples/sample/model examples/sample/initial --out /tmp/repaired"""
 import random
 from collections import defaultdict
 
+from .closing import add_only, with_fleet
 from .files import Room, list_text, read_list, target, write_whole
 from .lots import lot_of
 from .models import Model, closed_flags, same_sizes
 from .names import Names
 from .problems import Problem, Stopped, telling
 from .program import Program, closed_words
-from .running import run_tool, say
-from .texts import print_in_utf8
+from .running import run_tool, say, stopped_status
 from .words import LARGEST_SEED, Words, any_file_name, file_name, number
 
 MOST_TOLD = 4000  # proposals that a turn repeats, so that the rest of the lot is for new ones
@@ -39,6 +40,7 @@ def parser():
     words.add_argument("initial", metavar="INITIAL", type=file_name, help="the start, which breaks rules")
     words.add_argument("--out", metavar="REPAIRED", type=file_name, required=True, help="the repaired list")
     words.add_argument("--closed", metavar="FILE", type=file_name, help="machines that nobody may enter")
+    add_only(words)
     words.add_argument("--names", metavar="FILE", type=any_file_name, help="the names of the model, as `named pack` writes them")
     words.add_argument("--turns", metavar="N", type=number(1, 1_000_000), default=1_000_000, help="end after so many turns")
     words.add_argument("--idle", metavar="N", type=number(1, 1_000_000), default=100,
@@ -190,12 +192,13 @@ class Repair:
     def __init__(self, words, room, names=None, tell=say):
         self.words, self.program, self.room, self.tell = words, Program(words.program), room, tell
         self.out = target(words.out, self.program.name, words.model, words.initial, words.closed, words.names)
-        closed = names.closed_file(words.closed, room) if names else words.closed
-        self.closing = closed_words(closed)
-        self.program.run("bound", words.model, words.initial, *self.closing)
+        given = names.closed_file(words.closed, room) if names else words.closed
+        self.program.run("bound", words.model, words.initial, *closed_words(given))
         self.model, self.first = Model.read(words.model), read_list(words.initial)
         same_sizes(self.model, words.model, self.first)
-        self.flags, self.names = closed_flags(self.model, closed), names or Names.numbers(self.model)
+        self.names = names or Names.numbers(self.model)
+        closed = with_fleet(words, given, self.names, room)
+        self.flags, self.closing = closed_flags(self.model, closed), closed_words(closed)
         self.chance = random.Random(words.seed)
         self.start_name, self.start, self.now = words.initial, self.first, list(self.first)
         self.told, self.chained, self.tries = [], False, 0
@@ -275,7 +278,6 @@ class Repair:
 
 
 def work(words):
-    print_in_utf8()
     names = Names.read(words.names, words.model) if words.names else None
     with Room() as room, telling(names.line if names else str):
         repair = Repair(words, room, names)
@@ -284,7 +286,7 @@ def work(words):
         except Stopped:
             if repair.now != repair.first:
                 write_whole(repair.out, [list_text(repair.now)])
-                raise Problem(f"stopped; {words.out} has the list so far, which breaks rules", 130) from None
+                raise Problem(f"stopped; {words.out} has the list so far, which breaks rules", stopped_status()) from None
             raise
         write_whole(repair.out, [list_text(repair.now)])
         tell(words, repair, judged, first, turns)

@@ -11,6 +11,27 @@ HEAD = COSTS + ("bound", "best_at", "assignment", "draws")
 STEPS = {b"shift": 1, b"swap": 2, b"chain": 3}
 
 
+LONGEST_LINE = 600_012  # bytes of a line: the assignment has the longest one
+LONGEST_ENTRY = 1_000
+MOST_DIGITS = 40  # of a number in a report
+
+
+def head_lines(file):
+    """The lines before the journal; one that is too long comes in part."""
+    return [line for line in (file.readline(LONGEST_LINE) for _ in HEAD) if line]
+
+
+def entry_lines(file):
+    """The lines of the journal; one that is too long comes in part."""
+    return iter(lambda: file.readline(LONGEST_ENTRY), b"")
+
+
+def values_of(words):
+    """The numbers of a line, of which the last one has the line's end; None if one is none."""
+    words = [*words[:-1], words[-1].removesuffix(b"\n")]
+    return list(map(int, words)) if all(word.isdigit() and len(word) <= MOST_DIGITS for word in words) else None
+
+
 class ReportHead:
     """The ten lines before the journal of a report."""
 
@@ -20,10 +41,9 @@ class ReportHead:
             first, *rest = line.split(b" ")
             if first.decode(errors="replace") != word or not line.endswith(b"\n") or not rest:
                 raise Problem(self.told(at, line, f"no line `{word}`"), 9)
-            try:
-                values = list(map(int, rest))
-            except ValueError:
-                raise Problem(self.told(at, line, f"no line `{word}`"), 9) from None
+            values = values_of(rest)
+            if values is None:
+                raise Problem(self.told(at, line, f"no line `{word}`"), 9)
             if word == "assignment":
                 self.assignment = values
             elif len(values) == 1:
@@ -42,7 +62,7 @@ def is_list(name):
     """Whether a file begins like a list and not like a report."""
     try:
         with open(name, "rb") as file:
-            return file.read(4096).lstrip()[:1].isdigit()
+            return file.peek(4096).lstrip()[:1].isdigit()
     except OSError as fault:
         raise Problem(f"{name}: {fault.strerror}") from None
 
@@ -54,6 +74,6 @@ def read_placement(name):
         with open(name, "rb") as lines:
             if not lines.peek(5).startswith(b"cost "):
                 return read_list(name)
-            return ReportHead(name, [line for _, line in zip(HEAD, lines)]).assignment
+            return ReportHead(name, head_lines(lines)).assignment
     except OSError as fault:
         raise Problem(f"{name}: {fault.strerror}") from None

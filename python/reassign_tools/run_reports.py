@@ -2,9 +2,9 @@
 from array import array
 
 from .problems import Problem
-from .reports import HEAD
+from .reports import HEAD, LONGEST_LINE, entry_lines, values_of
+from .words import MOST_PROPOSALS
 
-PIECE = 1 << 20
 # At which word of an entry its verdict stands.
 VERDICT = {b"shift": 6, b"swap": 7, b"chain": 8}
 DONE, LATE = 16, 32
@@ -30,11 +30,11 @@ class RunReport:
 
     def read_head(self, lines):
         for at, word in enumerate(HEAD, 1):
-            line = lines.readline(PIECE)
-            first, *rest = line[:-1].split(b" ")
-            if first != word.encode() or line[-1:] != b"\n" or not rest or not all(map(bytes.isdigit, rest)):
+            line = lines.readline(LONGEST_LINE)
+            first, *rest = line.split(b" ")
+            values = values_of(rest) if first == word.encode() and line[-1:] == b"\n" and rest else None
+            if values is None:
                 raise self.wrong(at)
-            values = list(map(int, rest))
             self.numbers[word] = values[0]
             if word == "assignment":
                 self.assignment = values
@@ -50,10 +50,10 @@ class RunReport:
         if self.best_at == 0:
             self.start = best = self.least
         try:
-            for line in lines:
+            for line in entry_lines(lines):
                 words = line.split(b" ")
                 worker, verdict = int(words[1]), VERDICT[words[4]]
-                if int(words[0]) != place or int(words[2]) != made[worker] or line[-1:] != b"\n":
+                if place >= MOST_PROPOSALS or int(words[0]) != place or int(words[2]) != made[worker] or line[-1:] != b"\n":
                     raise ValueError
                 mark, planned = worker, int(words[3])
                 if planned != place:
@@ -74,7 +74,7 @@ class RunReport:
                 made[worker] += 1
                 marks.append(mark)
                 place += 1
-        except (ValueError, IndexError, KeyError):
+        except (ValueError, IndexError, KeyError, OverflowError):
             raise self.wrong(len(HEAD) + 1 + place, "no entry that may stand here, or the report is cut off") from None
         if best != self.least:
             why = "its best state isn't there: the report is cut off" if self.best_at > place else "the cost at best_at is another one"

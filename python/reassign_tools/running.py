@@ -2,28 +2,38 @@
 import os
 import signal
 import sys
+import threading
+from _thread import interrupt_main
 
-from .children import has_to_wait
+from . import children, files
+from .__main__ import STOPS, end_of
 from .problems import Problem, Stopped
+from .texts import print_in_utf8
 
 PACKAGE = os.path.dirname(os.path.realpath(__file__))
 
 _name = "reassign_tools"  # of the tool that runs
+_stopped_by = signal.SIGINT
+_fault = None  # of another thread, which ends the tool
 
 
 def run_tool(parser, work, words=None):
     """Runs a tool: hands the options that the words name to its work, and ends the process with the status that comes, with
-    one line on standard error under each but 0 and 11."""
+    one line on standard error under each but 0 and 11. Nothing is left then that was there for a while."""
     global _name
     _name = parser.prog
-    signal.signal(signal.SIGINT, stop)
-    signal.signal(signal.SIGTERM, stop)
-    if signal.getsignal(signal.SIGHUP) != signal.SIG_IGN:  # as `nohup` leaves it
-        signal.signal(signal.SIGHUP, stop)
+    threading.excepthook = end_by_thread
+    sys.unraisablehook = lambda _: None
+    for one in STOPS:
+        if one != signal.SIGHUP or signal.getsignal(one) != signal.SIG_IGN:  # as `nohup` leaves it
+            signal.signal(one, stop)
     status, line = ended(parser, work, words)
+    no_more_stops()
+    children.end_all()
+    files.remove_what_is_left()
     try:
         sys.stdout.flush()
-    except OSError:
+    except (OSError, ValueError):
         status, line = status or 7, line or "write fault"
         os.dup2(os.open(os.devnull, os.O_WRONLY), 1)
     if line:
@@ -39,21 +49,24 @@ def run_tool(parser, work, words=None):
 def ended(parser, work, words):
     """The status with which the work ends, and the line that tells why."""
     try:
+        print_in_utf8()
         status = work(parser.parse_args(words)) or 0
         sys.stdout.flush()
         return status, ""
     except Problem as problem:
         return problem.status, problem.line
-    except KeyboardInterrupt:
-        return 130, "stopped"
-    except BrokenPipeError:
-        return 7, "write fault: nobody reads the output any more"
-    except OSError as fault:
-        return 7, f"write fault: {fault.strerror or fault}"
-    except (MemoryError, RecursionError):
-        return 8, "no memory"
     except SystemExit as end:
         return end.code or 0, ""
+    except BaseException as fault:
+        return end_of(_fault or fault)
+
+
+def end_by_thread(raised):
+    """What nobody caught in another thread ends the tool too."""
+    global _fault
+    if not isinstance(raised.exc_value, SystemExit):
+        _fault = raised.exc_value or MemoryError()
+        interrupt_main()
 
 
 def command_of(tool):
@@ -61,17 +74,23 @@ def command_of(tool):
     return [sys.executable or "python3", PACKAGE, tool]
 
 
-def stop(*_):
+def stop(number=signal.SIGINT, _=None):
+    global _stopped_by
     no_more_stops()
-    if not has_to_wait():
-        raise Stopped
+    _stopped_by = number
+    if not children.has_to_wait(number):
+        raise Stopped(number)
+
+
+def stopped_status():
+    """The status of a tool that was stopped."""
+    return 128 + _stopped_by
 
 
 def no_more_stops():
     """From here on Ctrl-C ends nothing: what is left takes a moment."""
-    signal.signal(signal.SIGINT, signal.SIG_IGN)
-    signal.signal(signal.SIGTERM, signal.SIG_IGN)
-    signal.signal(signal.SIGHUP, signal.SIG_IGN)
+    for one in STOPS:
+        signal.signal(one, signal.SIG_IGN)
 
 
 def say(line):

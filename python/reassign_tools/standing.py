@@ -2,6 +2,8 @@
 from collections import Counter
 from operator import add, gt, sub
 
+from .files import number_of
+
 
 class Standing:
     """An assignment between a start and a new list that is feasible from there.
@@ -50,8 +52,8 @@ class Standing:
         for home, some in by_home.items():
             row = model.ways[home].split()
             for process in some:
-                ways[process] = (way_weight * int(row[home]) + (self.stay_cost if process in self.leaves else 0),
-                                 way_weight * int(row[self.new[process]]) + weight * model.move_cost[process])
+                ways[process] = (way_weight * number_of(row[home]) + (self.stay_cost if process in self.leaves else 0),
+                                 way_weight * number_of(row[self.new[process]]) + weight * model.move_cost[process])
         return ways
 
     def weigh(self, machine, use):

@@ -26,10 +26,9 @@ from .models import Model, same_sizes
 from .names import Names
 from .problems import Problem, telling
 from .program import COSTS, Program, closed_words
-from .reports import ENTRY, HEAD, STEP, STEPS, ReportHead, is_list
+from .reports import ENTRY, HEAD, STEP, STEPS, ReportHead, entry_lines, head_lines, is_list
 from .running import run_tool
-from .texts import print_in_utf8
-from .words import Words, any_file_name, file_name, number
+from .words import MOST_PROPOSALS, Words, any_file_name, file_name, look_at_run_words, number, shown
 
 
 def parser():
@@ -60,10 +59,10 @@ class Journal:
         self.now, self.workers, self.places = list(initial), [], 0
         try:
             with open(report, "rb") as lines:
-                self.head = ReportHead(report, [line for _, line in zip(range(len(HEAD)), lines)])
+                self.head = ReportHead(report, head_lines(lines))
                 self.best_at = self.head.numbers["best_at"]
                 self.meet_best()
-                for line in lines:
+                for line in entry_lines(lines):
                     self.read(line)
         except OSError as fault:
             raise Problem(f"{report}: {fault.strerror}") from None
@@ -76,7 +75,7 @@ class Journal:
 
     def read(self, line):
         entry = ENTRY.fullmatch(line)
-        if not entry:
+        if not entry or self.places >= MOST_PROPOSALS:
             self.wrong(line, "no entry")
         place, at, k, planned, kind, steps, cost, cause, _ = entry.groups()
         if int(place) != self.places:
@@ -145,7 +144,7 @@ def summed(words, names, room):
     uses = uses_of(model, names, initial, end)
     moved = [(p, a, b) for p, (a, b) in enumerate(zip(initial, end)) if a != b]
     way = start["cost"] - bound
-    found = {"title": words.title} if words.title else {}
+    found = {"title": shown(words.title)} if words.title else {}
     found |= {
         "sentence": headline(uses, len(moved), model.processes),
         "start": start,
@@ -175,6 +174,7 @@ def verify(program, words):
         lots = shlex.split(words.lots)
     except ValueError as fault:
         raise Problem(f"--lots: {fault}", 2) from None
+    look_at_run_words("--lots", lots)
     program.run("verify", words.model, words.initial, words.report, *lots)
 
 
@@ -253,7 +253,6 @@ def tell_moved(moved, processes, names, top):
 
 
 def work(words):
-    print_in_utf8()
     names = Names.read(words.names, words.model) if words.names else None
     with Room() as room, telling(names.line if names else str):
         found, names = summed(words, names, room)

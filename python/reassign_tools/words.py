@@ -40,6 +40,43 @@ class Words(argparse.ArgumentParser):
                           "`reassign` beside the tool, or where commands are looked for)")
 
 
+def look_at_run_words(option, words):
+    """Refuses words that the program doesn't take behind the names of its files, and names the wrong one: the option's own text
+    of how to call it names none. They are `--slack N`, `--closed FILE`, `--draws 1|2`, and lots."""
+    def wrong(word, why):
+        return Problem(f"{option}: {word!r}: {why}", 2)
+    left = list(map(str, words))
+    for name, read in (("--slack", number(0, LARGEST_SEED)), ("--closed", file_name), ("--draws", number(1, 2))):
+        if left[:1] == [name]:
+            try:
+                read(left[1] if len(left) > 1 else "")
+            except argparse.ArgumentTypeError as fault:
+                raise wrong(" ".join(left[:2]), str(fault)) from None
+            del left[:2]
+    if not 1 <= len(left) <= MOST_LOTS:
+        raise wrong(" ".join(left), f"1 to {MOST_LOTS} lots have to stand here, and {len(left)} do")
+    proposals = 0
+    for word in left:
+        proposals += proposals_in(word, wrong)
+        if proposals > MOST_PROPOSALS:
+            raise wrong(word, f"at most {MOST_PROPOSALS:,} proposals in all")
+
+
+def proposals_in(word, wrong):
+    """How many proposals a lot has. What is wrong with it becomes a problem by the function `wrong`."""
+    if word.startswith("--"):
+        raise wrong(word, "the options are --slack N, --closed FILE and --draws 1|2, each once, in this order, before the lots")
+    if word.startswith("w:"):
+        numbers = word[2:].split(",")
+        if not all(re.fullmatch("[0-9]{1,20}", one) and int(one) <= LARGEST_SEED for one in numbers) or len(numbers) % 8:
+            raise wrong(word[:40], "a written lot has eight numbers below 2^64 for each proposal, with commas between them")
+        return len(numbers) // 8
+    found = re.fullmatch("([0-9]{1,20}):([0-9]{1,20})", word)
+    if not found or int(found[1]) > LARGEST_SEED:
+        raise wrong(word, "a lot is SEED:BUDGET, two numbers, the first below 2^64; or w: and numbers")
+    return int(found[2])
+
+
 def number(least, most):
     """Reads a word that has to be a number from least to most."""
     def read(word):
@@ -74,7 +111,7 @@ def is_text(word):
 
 def shown(word):
     """A word of the command line as a text that can be printed, whatever its bytes are."""
-    return os.fsencode(word).decode(errors="replace")
+    return "".join(letter if letter.isprintable() else "\ufffd" for letter in os.fsencode(word).decode(errors="replace"))
 
 
 def processors():

@@ -1,0 +1,36 @@
+"""The closed machines of a call: those of the list that is given, and those of the fleet to which a model belongs."""
+import os
+
+from .files import is_same, list_text, read_closed, write_whole
+from .running import say
+from .texts import some
+
+ONLY = "take the closed list that is given alone, though MODEL lies in a folder of `named pack` that has one too"
+
+
+def add_only(words):
+    """The option that passes over the closed list of a fleet."""
+    words.add_argument("--only", action="store_true", help=ONLY)
+
+
+def fleet_closed(model):
+    """The closed list of the fleet whose model a file is: the one beside it, if `named pack` wrote the folder. Else None."""
+    folder = os.path.dirname(model)
+    closed = os.path.join(folder, "closed")
+    return closed if os.path.isfile(os.path.join(folder, "names.json")) and os.path.isfile(closed) else None
+
+
+def with_fleet(words, closed, names, room):
+    """The name of the closed list that holds: the one that is given, by its name or None, with the machines that the fleet of
+    the model has closed too, which is told; or the given one alone, if the words ask for that. `names` are those of the
+    machines."""
+    fleet = None if words.only else fleet_closed(words.model)
+    if not fleet or closed and is_same(fleet, closed):
+        return closed
+    given = read_closed(closed, len(names.machines)) if closed else set()
+    more = read_closed(fleet, len(names.machines)) - given
+    if not more:
+        return closed
+    say(f"closed too, as {fleet} says: {some([names.machines[at] for at in sorted(more)])}; --only passes over that list")
+    write_whole(room("closed_too"), [list_text(sorted(given | more))])
+    return room("closed_too")
