@@ -29,6 +29,7 @@ class Choice:
         self.heap, self.stamps, self.queued = [], {}, {}
         self.waiting = {}  # who found no companions, by the machines and services on which that rests
         self.parked = set()
+        self.most_together = MOST_TOGETHER
         for p in sorted(self.left):
             self.queue((p,), self.value(p))
 
@@ -64,18 +65,27 @@ class Choice:
             grown /= len(group)
             if self.heap and max(value, self.heap[0][0]) < grown:
                 self.queue(group, grown)  # it brings less than it did
-            elif not broken and len(group) <= most:
+            elif not broken and self.fits(group, most):
                 return group
+            elif not broken:
+                self.set_aside(group, grown)
             elif broken and len(group) == 1:
                 self.look_for_companions(first)
             elif broken:
                 self.queue((first,), self.value(first))
         return None
 
+    def fits(self, group, most):
+        """Whether a group may go now that can go."""
+        return len(group) <= most
+
+    def set_aside(self, group, value):
+        """A group can go and may not: it is passed over."""
+
     def look_for_companions(self, first):
         """Queues a group that can go with a process that can't go alone, or lets it wait."""
         group, (grown, broken) = [first], self.weigh((first,))
-        while broken and len(group) < MOST_TOGETHER:
+        while broken and len(group) < self.most_together:
             tried = [(*reversed(self.weigh((*group, p))), p) for p in self.companions(group)]
             if not tried or min(tried)[0] > broken:
                 break

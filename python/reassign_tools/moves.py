@@ -7,7 +7,12 @@ cost, and the share of the way from INITIAL's cost to that of all moves. Each li
 `reassign check`.
 
 A list of moves says who moves where, and not in which order: that the list is feasible is said of its end, and of transient
-resources while all are on their way. With --names machines, services, processes and resources have their names, and the closed
+resources while all are on their way. With --waves K the moves come in waves of at most K, of a service at most --per-service N
+in one, so that the list after each wave breaks no rule from INITIAL, as `reassign check` says; those waves come first that
+lower the cost most. Nothing is said of what is between: in a wave all moves may be on their way at once. What can't be brought
+into waves is told, with the rule in the way, and the status is 11: two full machines that exchange processes, in waves of one.
+With --through a process may wait on a third machine for that. Resources that stand for a rule (`rule` of settings.toml) are
+shown with --rules alone. With --names machines, services, processes and resources have their names, and the closed
 list may have the name of a machine in each line. If MODEL lies in a folder that `named pack` wrote, the machines that its
 `closed` names are closed too, which is told on standard error; with --only those of --closed alone are. For example
 
@@ -26,8 +31,9 @@ from .names import Names
 from .problems import Problem, telling
 from .program import Program, closed_words
 from .reports import read_placement
-from .running import run_tool
+from .running import run_tool, say
 from .texts import counted
+from .waves import Waves
 from .words import Words, file_name, number
 
 MOST_PROCESSES = 50_000
@@ -43,6 +49,10 @@ def parser():
     words.add_argument("--names", metavar="FILE", type=file_name, help="the names.json of MODEL (else numbers are told)")
     words.add_argument("--at-most", metavar="K", type=number(0, MOST_PROCESSES), help="keep the K moves that bring most")
     words.add_argument("--curve", action="store_true", help="tell what 10, 20, 50, 100 .. moves bring")
+    words.add_argument("--waves", metavar="K", type=number(1, MOST_PROCESSES), help="cut the moves into waves of at most K")
+    words.add_argument("--per-service", metavar="N", type=number(1, MOST_PROCESSES), help="of a service at most N in each wave")
+    words.add_argument("--through", action="store_true", help="let a process wait on a third machine, if no wave can be made else")
+    words.add_argument("--rules", action="store_true", help="show the resources too that stand for a rule")
     form = words.add_mutually_exclusive_group()
     form.add_argument("--csv", action="store_true", help="print a table of comma-separated values")
     form.add_argument("--json", action="store_true", help="print one JSON object, with the curve if it is asked for")
@@ -126,6 +136,15 @@ class Moves:
     def moves_of(self, kept):
         return [Move(p, self.model.service[p], a, b) for p, (a, b) in enumerate(zip(self.start, kept.machines)) if a != b]
 
+    def waves(self, kept, closed, words, judge):
+        """The moves to a kept list in waves, each of which is judged."""
+        leaves = frozenset(p for p in self.leaves if kept.machines[p] != self.start[p])
+        waves = Waves(self.model, self.start, kept.machines, closed, leaves, self.stay_cost, words.waves, words.per_service,
+                      words.through)
+        for number, wave in enumerate(waves.waves, 1):
+            wave.cost = judge.cost(wave.machines, f"the list after wave {number}")
+        return waves
+
     def share(self, kept):
         """The share of the way from the start's cost down to that of all moves; None if they don't lower the cost."""
         way = self.start_cost - self.all.cost
@@ -169,6 +188,10 @@ def moves(model, initial, new, at_most=None, closed=None, program=None):
 
 
 def work(words):
+    if words.waves and words.curve:
+        raise Problem("--waves and --curve don't go together; moves --help shows how to call it", 2)
+    if not words.waves and (words.through or words.per_service):
+        raise Problem("--per-service and --through are for --waves; moves --help shows how to call it", 2)
     out = words.out and target(words.out, words.model, words.initial, words.new, words.names, words.closed)
     names = Names.read(words.names, words.model) if words.names else None
     with Room() as room, telling(names.line if names else str):
@@ -180,30 +203,66 @@ def work(words):
         closed = with_fleet(words, given, names, room)
         judge.closing = closed_words(closed)
         costs = start_cost, judge.cost(new, words.new)
-        found = Moves(model, start, new, closed_flags(model, closed), *costs)
+        flags = closed_flags(model, closed)
+        found = Moves(model, start, new, flags, *costs)
         most = found.all.count if words.at_most is None else words.at_most
         curve = [judge.confirm(one) for one in found.curve(most)] if words.curve else []
         kept = curve[-1] if curve else judge.confirm(found.at_most(most))
+        waves = found.waves(kept, flags, words, judge) if words.waves else None
+        if waves:
+            kept = Kept(list(waves.now), waves.waves[-1].cost if waves.waves else start_cost,
+                        sum(a != b for a, b in zip(start, waves.now)))
     if out:
         write_whole(out, [list_text(kept.machines)])
     if words.json:
-        print_json(found, kept, names, curve)
+        print_json(found, kept, names, curve, waves, words.rules)
     elif words.curve:
         print_rows(curve_rows(found, curve, words.csv), words.csv)
     else:
         if not words.csv:
-            tell(found, kept)
-        if words.csv or kept.count:
-            print_rows(move_rows(found, kept, names), words.csv)
+            tell(found, kept, waves)
+        rows = wave_rows(found, waves, names, words.rules) if waves else move_rows(found, found.moves_of(kept), names, words.rules)
+        if words.csv or kept.count or waves and waves.waves:
+            print_rows(rows, words.csv, keep=4 + bool(waves))
+        if waves:
+            tell_left(waves, names, say if words.csv else print)
+    return 11 if waves and waves.left() else 0
 
 
-def move_rows(found, kept, names):
+def wave_rows(found, waves, names, with_rules):
+    """A table of moves, wave by wave."""
+    for number, wave in enumerate(waves.waves, 1):
+        header, *rows = move_rows(found, moves_in(found, wave), names, with_rules)
+        if number == 1:
+            yield "wave", *header
+        yield from ((number, *row) for row in rows)
+
+
+def moves_in(found, wave):
+    return [Move(one.process, found.model.service[one.process], one.start, one.end) for one in wave.steps]
+
+
+def tell_left(waves, names, tell):
+    """Tells what couldn't be brought into a wave, and why."""
+    for process, start, end, service, why in left_of(waves, names):
+        tell(f"in no wave: process {process} of service {service} from {start} to {end}: {why}")
+
+
+def left_of(waves, names):
+    """The processes that are left, by names, with the rule in the way."""
+    for p in waves.left():
+        why = waves.why(p)
+        yield (names.processes[p], names.machines[waves.now[p]], names.machines[waves.new[p]],
+               names.services[waves.model.service[p]], names.cause(*why) if why else "only with others, more than a wave takes")
+
+
+def move_rows(found, moves, names, with_rules=False):
     """A table of moves, in the order of the processes."""
-    yield "process", "service", "from", "to", *names.resources
-    for one in found.moves_of(kept):
-        required = [names.amount(r, count) for r, count in enumerate(found.model.required[one.process])]
+    shown = names.shown(with_rules)
+    yield "process", "service", "from", "to", *(names.resources[r] for r in shown)
+    for one in moves:
         yield (names.processes[one.process], names.services[one.service], names.machines[one.start], names.machines[one.end],
-               *required)
+               *(names.amount(r, found.model.required[one.process][r]) for r in shown))
 
 
 def curve_rows(found, curve, plain):
@@ -214,37 +273,45 @@ def curve_rows(found, curve, plain):
         yield kept.count, kept.cost if plain else f"{kept.cost:,}", told
 
 
-def print_rows(rows, plain):
-    """Prints a table: as comma-separated values, or in columns, without those resources of which nobody requires any."""
+def print_rows(rows, plain, keep=4):
+    """Prints a table: as comma-separated values, or in columns, without those resources of which nobody requires any, which come
+    after so many columns."""
     if plain:
         csv.writer(sys.stdout, lineterminator="\n").writerows(rows)
         return
     columns = [list(map(str, column)) for column in zip(*rows)]
-    columns = columns[:4] + [column for column in columns[4:] if set(column[1:]) - {"0"}]
+    columns = columns[:keep] + [column for column in columns[keep:] if set(column[1:]) - {"0"}]
     widths = [max(map(len, column)) for column in columns]
     for row in zip(*columns):
         print("  ".join(cell.ljust(width) for cell, width in zip(row, widths)).rstrip())
 
 
-def tell(found, kept):
+def tell(found, kept, waves=None):
     total = len(found.start)
-    print(f"{kept.count:,} of {counted(total, 'process', 'processes')} move: cost {found.start_cost:,} before, {kept.cost:,} after")
+    cut = f" in {counted(len(waves.waves), 'wave')}" if waves else ""
+    print(f"{kept.count:,} of {counted(total, 'process', 'processes')} move{cut}: cost {found.start_cost:,} before, {kept.cost:,} after")
     dropped = found.in_new - found.all.count
     if dropped:
         print(f"left out because they bring nothing: {counted(dropped, 'move')} of {found.in_new:,}")
     if kept.count < found.all.count and found.share(kept) is not None:
         print(f"of the way to the cost of all {found.all.count:,} moves: {100 * found.share(kept):.1f} %")
+    for number, wave in enumerate(waves.waves if waves else (), 1):
+        print(f"wave {number}: {counted(len(wave.steps), 'move')}, cost {wave.cost:,} after it")
 
 
-def print_json(found, kept, names, curve):
-    header, *rows = move_rows(found, kept, names)
+def print_json(found, kept, names, curve, waves, with_rules):
+    def listed(moves):
+        header, *rows = move_rows(found, moves, names, with_rules)
+        return [{**dict(zip(header[:4], row)), "requires": dict(zip(header[4:], row[4:]))} for row in rows]
     told = {
         "cost_before": found.start_cost, "cost_after": kept.cost, "cost_of_new": found.new_cost, "moves_in_new": found.in_new,
-        "moves_that_bring_something": found.all.count,
-        "moves": [{**dict(zip(header[:4], row)), "requires": dict(zip(header[4:], row[4:]))} for row in rows],
+        "moves_that_bring_something": found.all.count, "moves": listed(found.moves_of(kept)),
     }
     if curve:
         told["curve"] = [{"moves": one.count, "cost": one.cost, "share": found.share(one)} for one in curve]
+    if waves:
+        told["waves"] = [{"cost_after": wave.cost, "moves": listed(moves_in(found, wave))} for wave in waves.waves]
+        told["in_no_wave"] = [dict(zip(("process", "from", "to", "service", "rule"), one)) for one in left_of(waves, names)]
     json.dump(told, sys.stdout, ensure_ascii=False)
     print()
 

@@ -27,6 +27,7 @@ class Names:
     services: list
     processes: list
     tables: dict = field(default_factory=dict, repr=False)  # the texts of the tables, by their files
+    rules: list = field(default_factory=list)  # the resources that stand for a rule, and for nothing that processes use
 
     @classmethod
     def read(cls, name, model):
@@ -38,12 +39,16 @@ class Names:
         except (ValueError, RecursionError):
             raise Problem(f"{name} is no file of names", 4) from None
         try:
-            names = cls(found["model_sha256"], tables=found["tables"], **{word: found[word] for word in LISTS})
+            lists = {word: found[word] for word in LISTS}
+            names = cls(found["model_sha256"], tables=found["tables"], rules=found.get("rules", []), **lists)
             names.units = [amount(unit) for unit in names.units]
             if any(type(one) is not str for word in LISTS if word != "units" for one in getattr(names, word)):
                 raise ValueError
-            if any(type(one) is not str for pair in names.tables.items() for one in pair):
+            if any(type(one) is not str for some in (*names.tables.items(), names.rules) for one in some):
                 raise ValueError
+            for word in LISTS[2:]:
+                "".join(getattr(names, word)).encode()
+            "".join((*names.resources, *names.tables.values())).encode()
         except (KeyError, TypeError, ValueError, AttributeError):
             raise Problem(f"{name} is no file of names", 4) from None
         if hash_of(model) != names.model_sha256:
@@ -61,7 +66,13 @@ class Names:
         """What the file says."""
         words = {word: getattr(self, word) for word in LISTS}
         words["units"] = [amount_text(unit) for unit in self.units]
-        return json.dumps({"model_sha256": self.model_sha256, **words, "tables": self.tables}, ensure_ascii=False, indent=0) + "\n"
+        whole = {"model_sha256": self.model_sha256, **words, "rules": self.rules, "tables": self.tables}
+        return json.dumps(whole, ensure_ascii=False, indent=0) + "\n"
+
+    def shown(self, with_rules=False):
+        """The numbers of the resources that are shown: all, or those that don't stand for a rule."""
+        everything = range(len(self.resources))
+        return [r for r in everything if with_rules or self.resources[r] not in self.rules] or list(everything)
 
     def amount(self, resource, count):
         """So many units of a resource, as people write an amount."""
@@ -69,6 +80,9 @@ class Names:
 
     def neighbourhood(self, label):
         return self.neighbourhoods[label] if label < len(self.neighbourhoods) else str(label)
+
+    def location(self, label):
+        return self.locations[label] if label < len(self.locations) else str(label)
 
     def cause(self, kind, *numbers):
         """A broken rule in the program's words, with names in the place of its numbers; as it stands if there are no names."""

@@ -15,6 +15,18 @@ class State:
                 self.needed_by[needed].append(service)
         self.known_lonely = {}  # by process and neighbourhood
 
+    def shift(self, process, machine):
+        """Takes a process to a machine, whatever that breaks."""
+        here, home, required = self.now[process], self.start[process], self.model.required[process]
+        self.use[here] = [used - less for used, less in zip(self.use[here], required)]
+        self.use[machine] = [used + more for used, more in zip(self.use[machine], required)]
+        if here == home != machine:
+            self.held[home] = [held + more for held, more in zip(self.held[home], required)]
+        elif machine == home != here:
+            self.held[home] = [held - less for held, less in zip(self.held[home], required)]
+        self.now[process] = machine
+        self.known_lonely.clear()
+
     def hoods_of(self, service, without=None):
         hoods = self.model.hoods
         return {hoods[self.now[p]] for p in self.members[service] if p != without}
