@@ -85,7 +85,8 @@ class Ends(ToolCase):
         self.expect_end((9,), ("plot", "/dev/zero", "model", "initial"), memory=little)
         self.expect_end((4, 5), ("plot", "new", "/dev/zero", "initial"), memory=little)
         self.expect_end((4,), ("moves", "model", "initial", "new", "--names", "/dev/zero"), memory=little)
-        for endless in ("yes 1", "yes '1 2' | tr -d '\\n'", "yes 0 | tr -d '\\n'", "yes ''"):
+        self.expect_end((4,), ("named", "from-kubectl", "/dev/zero", "/dev/zero", "made"), memory=little)
+        for endless in ("yes 1", "yes '1 2' | tr -d '\\n'", "tr '\\\\0' 0 < /dev/zero", "yes ''"):
             with self.subTest(endless):
                 ran = run("sh", "-c", f'{endless} | "$0" new model /dev/stdin', tool_path("plot"), timeout=60)
                 self.assertEqual(ran.returncode, 5, ran.stderr)

@@ -25,6 +25,7 @@ class Packing(FleetCase):
         names = json.loads(text_of("packed/names.json"))
         self.assertEqual(names["machines"], ["a1", "a2", "b1"])
         self.assertIn('unit = "1Mi"\ntransient = true\nload_weight = 1\nsafety = 0.8\n', printed)
+        self.assertIn('unit = "1m"\ntransient = false\nload_weight = 4\nsafety = 0.8\n', printed)
         self.assertIn("packed 3 machines (0 closed), 2 services, 3 processes into packed", printed)
         self.assertEqual(program("check", "packed/model", "packed/initial", "packed/initial")[0], 0)
 
@@ -85,6 +86,56 @@ class Packing(FleetCase):
         self.write_fleet("fleet", settings=SETTINGS + '[[balance]]\nfirst = "cpu"\nsecond = "memory"\ntarget = "4Gi"\n')
         self.assertIn("note: settings.toml:12: 4Gi of memory for each 1 of cpu are 4.096 units", self.pack())
         self.assertEqual(Model.read("packed/model").balances, [[0, 1, 4, 1]])
+
+    def test_weights(self):
+        """A per cent of each resource costs alike by default; settings change that, and a sum of capacities is all that counts."""
+        machines = "machine,zone,rack,cpu,memory,gpu\na1,a,r1,16,64Gi,8\na2,a,r2,16,64Gi,0\nb1,b,r3,16,64Gi,0\n"
+        services = "service,spread,depends_on,cpu,memory,gpu\nweb,2,db,500m,1.5G,0\ndb,1,,2,8Gi,1\n"
+        self.write_fleet("fleet", machines=machines, services=services, settings=None)
+        self.pack()
+        model = Model.read("packed/model")
+        totals = [sum(row[r] for row in model.capacity) for r in range(3)]
+        costs = [total * weight for total, weight in zip(totals, model.load_weights)]
+        self.assertLess(max(costs), 1.06 * min(costs), model.load_weights)
+        self.write_fleet("fleet", machines=machines, services=services, settings='[[resource]]\nname = "cpu"\n[[resource]]\nname = "memory"\n'
+                         '[[resource]]\nname = "gpu"\nload_weight = 7\n')
+        self.pack()
+        self.assertEqual(Model.read("packed/model").load_weights[2], 7)
+        self.write_fleet("later", machines=machines.replace("b1,b,r3,16", "b1,b,r3,32"), services=services,
+                         settings=text_of("fleet/settings.toml"))
+        self.assertEqual(self.named("diff", "fleet", "later", status=12)[1], ["machine 'b1': capacity of cpu is 32 and was 16"])
+
+    def test_zone_that_is_a_slip(self):
+        note = "note: machines.csv:4: only machine 'b1' is in 'eu-wets' (is it 'eu-west'?); column 2 'zone'"
+        for zone, is_told in (("eu-wets", False), ("eu-wes", True), ("eu-wesst", True), ("eu-wexst", True), ("eu-east", False), ("us", False)):
+            self.write_fleet("fleet", machines=MACHINES.replace(",a,", ",eu-west,").replace(",b,", f",{zone},"))
+            self.assertEqual(note.replace("eu-wets", zone) in self.pack(), is_told, zone)
+
+    def test_price_and_skew(self):
+        """They are no resources, and have to be numbers."""
+        self.write_fleet("fleet", machines=MACHINES.replace("state", "price").replace("64Gi,open", "64Gi,1.25"), settings=None,
+                         services=SERVICES.replace("depends_on", "depends_on,skew").replace("db,500m", "db,1,500m").replace("1,,2", "1,,,2"))
+        self.assertNotIn('name = "price"', self.pack())
+        self.assertEqual(Model.read("packed/model").resources, 2)
+        lines = self.mistakes(machines=MACHINES.replace("state", "price").replace("64Gi,open", "64Gi,much"),
+                              services=SERVICES.replace("depends_on", "depends_on,skew").replace("db,500m", "db,x,500m").replace("1,,2", "1,,,2"))
+        self.assertEqual(lines, ["machines.csv:3: machine 'a2': 'much' is no amount (write it as 16, 0.5, 500m, 64Gi or 1.5G); column 6 'price'",
+                                 "services.csv:2: service 'web': skew: 'x' is no whole number from 0 to 4,294,967,295; column 4 'skew'"])
+
+    def test_open_quote(self):
+        """The rows after a quotation mark that isn't closed are read all the same."""
+        lines = self.mistakes(processes=PROCESSES.replace("web-0,web", '"web-0,web').replace("db-0,db,a1", "db-0,db,nowhere"))
+        self.assertEqual([line.split(": ")[0] for line in lines], ["processes.csv:2", "processes.csv:4"], lines)
+        self.assertIn("a quotation mark is not closed", lines[0])
+
+    def test_numbers_that_are_too_long(self):
+        zeros = "0" * 5000
+        self.write_fleet("fleet", processes=PROCESSES.replace("a2,3", f"a2,{zeros}3"))
+        self.pack()
+        self.mistakes(processes=PROCESSES.replace("a2,3", f"a2,{'9' * 5000}"))
+        self.mistakes(settings=SETTINGS + f"move_cost = {'9' * 5000}\n")
+        self.mistakes(settings=SETTINGS.replace('unit = "1m"', "safety = 1e-999999999"))
+        self.mistakes(settings=SETTINGS + "x = " + "[" * 5000)
 
     def test_packing_again(self):
         self.pack()

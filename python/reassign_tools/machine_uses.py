@@ -38,12 +38,12 @@ def share_of(use, capacity):
     return use / capacity if capacity else float(use > 0)
 
 
-def uses_of(model, names, start, end):
-    """The use of each resource by the lists `start` and `end`."""
+def uses_of(model, names, start, end, shown=None):
+    """The use of each resource by the lists `start` and `end`, or of those that are shown."""
     column = lambda rows, r: [row[r] for row in rows]
     before, after = model.use(start), model.use(end)
     return [ResourceUse(name, *(column(rows, r) for rows in (model.capacity, model.safety, before, after)))
-            for r, name in enumerate(names.resources)]
+            for r, name in enumerate(names.resources) if shown is None or r in shown]
 
 
 def headline(uses, moved, processes):

@@ -3,13 +3,14 @@
 A fleet is a folder with three tables and, if you like, settings. The first line of a table names its columns; their order is
 free. Columns in brackets may be left out.
 
-    machines.csv     machine,zone,rack,cpu,memory[,state]      state: open (or nothing), or closed
-    services.csv     service,spread,depends_on[,cpu,memory]    depends_on: a;b
+    machines.csv     machine,zone,rack,cpu,memory[,state][,price]       state: open (or nothing), or closed
+    services.csv     service,spread,depends_on[,skew][,cpu,memory]      depends_on: a;b
     processes.csv    process,service,machine[,move_cost][,cpu,memory]
     settings.toml
 
 What a process requires stands in its row, or else in that of its service. Amounts are written as 16, 0.5, 500m, 64Gi or
-1.5G. Capacities are rounded down to whole units, requirements up.
+1.5G. Capacities are rounded down to whole units, requirements up. `evacuate --most` empties machines with a high price first;
+a skew is by how much the processes of a service in two locations may differ, which is no rule, and which `check` tells.
 
 `named COMMAND --help` tells more about each command. For example
 
@@ -17,6 +18,7 @@ What a process requires stands in its row, or else in that of its service. Amoun
     $ tools/named check /tmp/packed"""
 import argparse
 import csv
+import json
 import os
 import sys
 
@@ -52,8 +54,10 @@ set has these defaults:
     unit                         what one of the model's numbers is: "1Mi" if an amount in the tables has the suffix Ki, Mi, Gi
                                  .., else "1M" if one has M, G .., else "1m" if one has a part of 1, else "1"
     transient = false            whether a process that moves needs it on both machines for a while
-    load_weight = 1              what a unit above the safety capacity costs
+    load_weight                  what a unit above the safety capacity costs: by default so much that a per cent of what the
+                                 fleet has costs as much as one of any other resource
     safety = 0.8                 the safety capacity: a share of the capacity, or the name of a column
+    rule = false                 whether it stands for a rule that keeps processes to machines: `moves` and `summary` don't show it
     [[balance]]                  for each unit of the first that is free, as many of the second should be free as the target
     first, second                says; or, if it is an amount such as "4Gi", so much for each 1 of the first
     target = 1, weight = 1
@@ -69,8 +73,8 @@ CHECK = """Tells every rule that LIST breaks, by names: today's placement if the
 `reassign solve` too.
 
 Rules come in the order capacity, transient, conflict, spread, dependency, closed, and of each kind the one that is broken
-furthest first. Amounts are in units of the model. It ends with what `reassign check` says, and with its status; that has to
-agree."""
+furthest first. Amounts are in units of the model. Which skews LIST breaks and today's placement doesn't is told too, as a note.
+It ends with what `reassign check` says, and with its status; that has to agree."""
 LIST = """Prints on which machine each process is in LIST, or in a report of `reassign solve`, as a table: process,machine."""
 UNPACK = """Writes the tables of the packed fleet OUT into the new folder FLEET2, with the machines of LIST (or of a report of
 `reassign solve`)."""
@@ -104,6 +108,7 @@ def parser():
     command("pack", pack_fleet, PACK, "make a model from tables", "FLEET", "OUT")
     one = command("check", check, CHECK, "tell every broken rule", "OUT")
     one.add_argument("list", metavar="LIST", type=file_name, nargs="?")
+    one.add_argument("--json", action="store_true", help="print one JSON object")
     one.add_program()
     command("list", print_list, LIST, "print a list by names", "OUT", "LIST")
     command("unpack", unpack_list, UNPACK, "write the tables with the machines of a list", "OUT", "LIST", "FLEET2")
@@ -140,6 +145,10 @@ def check(words):
     packed, program = Packed.read(words.out), Program(words.program)
     name = words.list or packed.file("initial")
     found = judge(packed, program, name)
+    if words.json:
+        json.dump(checked(packed, found, name), sys.stdout, ensure_ascii=False)
+        print()
+        return found.status and end_check(packed, found)
     parts = [("today's placement", found.initial_rules)] if words.list and found.initial_rules else []
     for whose, rules in [*parts, (name if words.list else "today's placement", found.rules)]:
         for rule in rules:
@@ -147,10 +156,29 @@ def check(words):
         print(f"{whose} breaks {counted(len(rules), 'rule') if rules else 'no rule'}")
     if not found.status:
         print("fullest: " + ", ".join(fullest(packed.names, found.model, packed.placement(name))))
+    for skew in found.skews:
+        print(skew.told())
     print("".join(f"{line}\n" for line in found.lines), end="")
     if found.status:
-        sys.stdout.flush()
-        raise Problem(packed.names.line(found.error), found.status)
+        end_check(packed, found)
+
+
+def end_check(packed, found):
+    """Ends with the status and the line of `reassign check`, by names."""
+    sys.stdout.flush()
+    raise Problem(packed.names.line(found.error), found.status)
+
+
+def checked(packed, found, name):
+    """All that is told of a list, for scripts."""
+    rules = lambda some: [{"rule": one.cause[0], "numbers": one.cause[1:], "by_name": packed.names.cause(*one.cause),
+                           "processes": [packed.names.processes[p] for p in one.processes]} for one in some]
+    words = {"list": name, "feasible": not found.status, "rules": rules(found.rules), "rules_today": rules(found.initial_rules),
+             "skews": [one.as_words() for one in found.skews]}
+    if not found.status:
+        words["fullest"] = list(fullest(packed.names, found.model, packed.placement(name)))
+        words["costs"] = {word: int(value) for word, value in map(str.split, found.lines)}
+    return words
 
 
 def print_list(words):

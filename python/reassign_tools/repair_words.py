@@ -11,7 +11,8 @@ use count from there. What the moves from INITIAL cost is told, as no later run 
 from INITIAL, that is in one go, or only as a new initial list.
 
 If MODEL lies in a folder that `named pack` wrote, the machines that its `closed` names are closed too, which is told; with
---only those of --closed alone are. With --names all this is told by names, and the closed list may have the name of a machine in each line. For example
+--only those of --closed alone are. With --names all this is told by names, and the closed list may have the name of a machine
+in each line. For example
 
     $ tools/repair_words examples/sample/model examples/sample/initial --out /tmp/repaired"""
 import random

@@ -6,7 +6,7 @@ import threading
 from _thread import interrupt_main
 
 from . import children, files
-from .__main__ import STOPS, end_of
+from .__main__ import STOPS, end_of, open_streams
 from .problems import Problem, Stopped
 from .texts import print_in_utf8
 
@@ -49,6 +49,7 @@ def run_tool(parser, work, words=None):
 def ended(parser, work, words):
     """The status with which the work ends, and the line that tells why."""
     try:
+        open_streams()
         print_in_utf8()
         status = work(parser.parse_args(words)) or 0
         sys.stdout.flush()

@@ -6,7 +6,7 @@ bound that is left; for each resource the machines above their safety capacity, 
 refused by cause, and planned at an earlier state, for each worker; the processes that move, from where to where and by which
 services; and the fullest machines before and after. With --json it is one object for scripts, which has every process that
 moves. With --names machines, services and resources have their names, as `named pack` writes them, and the closed list may
-have the name of a machine in each line.
+have the name of a machine in each line. Resources that stand for a rule (`rule` of settings.toml) are shown with --rules alone.
 
 A list is judged by `reassign check`. Of a report each line is read, the moves that were done are followed from INITIAL, and
 both lists are judged. One that is cut off or isn't one, or isn't one of these files, is told with the line, and nothing is
@@ -42,6 +42,7 @@ def parser():
     words.add_argument("--closed", metavar="FILE", type=file_name, help="the closed list of the run")
     words.add_argument("--lots", metavar="WORDS", help="the words after INITIAL with which the report is verified")
     words.add_argument("--names", metavar="FILE", type=any_file_name, help="the names of the model, as `named pack` writes them")
+    words.add_argument("--rules", action="store_true", help="show the resources too that stand for a rule")
     words.add_argument("--title", metavar="TITLE", help="a line to print first")
     return words
 
@@ -114,10 +115,10 @@ class Journal:
                           "this assignment", 9)
 
 
-def fullest(model, use, top):
+def fullest(model, use, top, resources):
     """The machines with the greatest share of a capacity in use: (machine, resource, used, capacity)."""
     def share(row, capacity):
-        return max((share_of(used, room), -r) for r, (used, room) in enumerate(zip(row, capacity)))
+        return max((share_of(row[r], capacity[r]), -r) for r in resources)
     shares = [(*share(row, capacity), machine) for machine, (row, capacity) in enumerate(zip(use, model.capacity))]
     shares.sort(key=lambda it: (-it[0], it[2]))
     return [{"machine": m, "resource": -r, "used": use[m][-r], "capacity": model.capacity[m][-r]} for _, r, m in shares[:top]]
@@ -141,7 +142,8 @@ def summed(words, names, room):
     bound = program.numbers("bound", words.model, words.initial, *closing)["bound"]
     if journal:
         costs = judged_head(program, words, closing, journal.head, bound, room("end"))
-    uses = uses_of(model, names, initial, end)
+    resources = names.shown(words.rules)
+    uses = uses_of(model, names, initial, end, resources)
     moved = [(p, a, b) for p, (a, b) in enumerate(zip(initial, end)) if a != b]
     way = start["cost"] - bound
     found = {"title": shown(words.title)} if words.title else {}
@@ -154,8 +156,8 @@ def summed(words, names, room):
         "resources": [use.summed() for use in uses],
         "processes": model.processes,
         "moved": [{"process": p, "service": model.service[p], "from": a, "to": b} for p, a, b in moved],
-        "fullest_before": fullest(model, model.use(initial), words.top),
-        "fullest_after": fullest(model, model.use(end), words.top),
+        "fullest_before": fullest(model, model.use(initial), words.top, resources),
+        "fullest_after": fullest(model, model.use(end), words.top, resources),
     }
     if words.names:
         for one in found["moved"]:

@@ -3,6 +3,8 @@ import re
 from fractions import Fraction
 from functools import lru_cache
 
+from ..files import LARGEST
+
 SUFFIXES = {
     "n": Fraction(1, 10**9), "u": Fraction(1, 10**6), "m": Fraction(1, 1000), "": Fraction(1),
     **{name: Fraction(1000**power) for power, name in enumerate(("k", "M", "G", "T", "P", "E"), 1)},
@@ -28,6 +30,12 @@ def amount(text):
     if not found or found[3] not in SUFFIXES:
         raise NoAmount(f"{text!r} is no amount ({meant(text) or f'write it as {FORMS}'})")
     return Fraction(found[1]) * Fraction(10) ** int(found[2] or 0) * SUFFIXES[found[3]]
+
+
+def whole_number(text):
+    """The number of a model that a text says; None if it says none."""
+    digits = text.lstrip("0") or "0"
+    return int(digits) if text.isascii() and text.isdigit() and len(digits) <= 10 and int(digits) <= LARGEST else None
 
 
 def meant(text):

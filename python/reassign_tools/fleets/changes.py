@@ -98,6 +98,8 @@ def differing_resources(old, new):
         if one.unit != was.unit:
             yield f"resource {name!r}: unit is {amount_text(one.unit)} and was {amount_text(was.unit)}"
         for word in ("transient", "load_weight", "safety"):
+            if word == "load_weight" and one.is_weighed and was.is_weighed:
+                continue  # a default, by the capacities
             if getattr(one, word) != getattr(was, word):
                 effect = f", for each of {counted(len(new.machines), 'machine')}" if word == "safety" else ""
                 yield (f"resource {name!r}: {word} is {setting_text(getattr(one, word))} and was "

@@ -3,9 +3,11 @@ import os
 import re
 from collections import Counter
 from dataclasses import dataclass, field
+from fractions import Fraction
 
 from ..models import LARGEST, MOST_RESOURCES
 from ..texts import counted
+from .amounts import NoAmount, amount, whole_number
 from .measures import Measure, unit_for
 from .mistakes import Mistakes, Place
 from .packing import model_of
@@ -15,8 +17,10 @@ from .tables import Table, read_text
 from .way_tables import read_ways
 
 MACHINES, SERVICES, PROCESSES = "machines.csv", "services.csv", "processes.csv"
+PRICE = "price"  # the column of machines.csv that says what a machine costs
 MOST_MACHINES, MOST_SERVICES, MOST_PROCESSES, MOST_DEPENDENCIES = 5_000, 50_000, 50_000, 100_000
 STATES = ("open", "closed")
+SHORTEST_ALIKE = 3  # letters of names that may be told as alike
 MOST_OF_A_RING = 8  # services that are named
 
 
@@ -28,6 +32,7 @@ class Machine:
     capacity: list  # by resource, in its unit
     safety: list
     closed: bool
+    price: Fraction | None = None
 
 
 @dataclass
@@ -36,6 +41,7 @@ class Service:
     spread: int
     depends_on: list  # numbers of services
     requirement: list  # by resource, in its unit; None if the table doesn't say it
+    skew: int | None = None  # by how much its processes in two locations may differ, which is no rule
 
 
 @dataclass
@@ -86,6 +92,15 @@ class Fleet:
         return model_of(self)
 
 
+def is_one_letter_off(one, other):
+    """Whether two names differ in one letter, which may be missing in one of them. Very short ones always do."""
+    short, long = sorted((one, other), key=len)
+    if len(short) < SHORTEST_ALIKE or len(long) - len(short) > 1 or short == long:
+        return False
+    at = next((at for at, (a, b) in enumerate(zip(short, long)) if a != b), len(short))
+    return short[at + (len(short) == len(long)):] == long[at + 1:]
+
+
 def is_faultless(table):
     """Whether all rows of a table were read."""
     return table.whole and not table.faulty
@@ -112,9 +127,11 @@ class FleetReader:
         ways = self.ways_table()
         pairs = read_ways(ways, self.machines, self.mistakes) if ways and self.machines and is_faultless(tables[MACHINES]) else []
         self.mistakes.close()
+        self.weigh_resources()
         for measure in (*self.capacities, *self.requirements):
             self.notes += measure.notes()
         self.look_at_places()
+        self.look_at_zones(tables[MACHINES])
         self.look_at_ignored(tables)
         self.look_at_services(tables[SERVICES], processes)
         self.look_at_sizes(tables, processes)
@@ -152,6 +169,8 @@ class FleetReader:
         """Looks which resources there are, what their units are, and whether their columns are there."""
         settings, machines = self.settings, tables[MACHINES]
         own = {"machine", "state", *settings.neighbourhood, *settings.location, *settings.ignored}
+        if PRICE not in (name for one in settings.resources for name in (one.name, one.safety)):
+            own.add(PRICE)
         missing = self.missing_columns(tables)
         if not settings.resources and machines and settings.sure:
             settings.resources = [Resource(name) for name in dict.fromkeys(machines.columns) if name and name not in own]
@@ -173,7 +192,7 @@ class FleetReader:
         services, processes = tables[SERVICES], tables[PROCESSES]
         for table, needed, known in (
                 (machines, ["machine"] + named * settings.sure, {*own, *names, *safeties}),
-                (services, ["service", "spread", "depends_on"], {"service", "spread", "depends_on", *names, *settings.ignored}),
+                (services, ["service", "spread", "depends_on"], {"service", "spread", "skew", "depends_on", *names, *settings.ignored}),
                 (processes, ["process", "service", "machine"],
                  {"process", "service", "machine", "move_cost", *names, *settings.ignored})):
             if table:
@@ -221,6 +240,18 @@ class FleetReader:
                     self.mistakes.add(self.settings.place("balance", at, word), f"no resource {name!r}"
                                       f"{self.mistakes.nearest(name, names)}")
 
+    def weigh_resources(self):
+        """Gives each resource without a load weight one by what the fleet has of it, so that a per cent of each costs alike:
+        the least whole numbers that are right within a twentieth."""
+        totals = [sum(one.capacity[r] for one in self.machines) for r in range(len(self.settings.resources))]
+        free = [(one, total) for one, total in zip(self.settings.resources, totals) if one.load_weight is None]
+        shares = [Fraction(max(total for _, total in free), total) for _, total in free if total]
+        is_right = lambda scale: all(abs(round(scale * share) - scale * share) * 20 <= scale * share for share in shares)
+        scale = next(filter(is_right, range(1, 11)), 10)
+        for one, total in free:
+            one.is_weighed = True
+            one.load_weight = min(LARGEST, round(scale * Fraction(max(other for _, other in free), total))) if total else 1
+
     # Rows
 
     def numbers(self, table, column, what, most):
@@ -249,10 +280,19 @@ class FleetReader:
         text = row.cells[at] if at is not None else ""
         if not text:
             return default
-        if not (text.isascii() and text.isdigit()) or int(text[:20]) > LARGEST:
+        if whole_number(text) is None:
             self.mistakes.add(table.place(row, at), f"{what}: {text!r} is no whole number from 0 to {LARGEST:,}")
             return default
-        return int(text)
+        return whole_number(text)
+
+    def price(self, table, row, at, whose):
+        """What a machine costs, or None if its row doesn't say it."""
+        text = row.cells[at] if at is not None else ""
+        try:
+            return amount(text) if text else None
+        except NoAmount as fault:
+            self.mistakes.add(table.place(row, at), f"{whose}: {fault}")
+            return None
 
     def labels(self, table, names):
         """A function that gives what a row has in some columns, taken together."""
@@ -275,6 +315,7 @@ class FleetReader:
         amounts = [table.at(one.name) for one in self.settings.resources]
         safeties = [table.at(one.safety) if isinstance(one.safety, str) else None for one in self.settings.resources]
         machines = []
+        price_at = None if PRICE in (name for one in self.settings.resources for name in (one.name, one.safety)) else table.at(PRICE)
         for row in table.rows:
             name = row.cells[at]
             state = row.cells[state_at] if state_at is not None else ""
@@ -289,7 +330,8 @@ class FleetReader:
                     safety.append(measure.take(table, row, safety_at, f"machine {name!r}"))
                 else:
                     safety.append(measure.share(table, row, column, one.safety))
-            machines.append(Machine(name, hood(row), location(row), capacity, safety, state == "closed"))
+            machines.append(Machine(name, hood(row), location(row), capacity, safety, state == "closed",
+                                    self.price(table, row, price_at, f"machine {name!r}")))
         return machines
 
     def read_services(self, table):
@@ -297,7 +339,7 @@ class FleetReader:
         self.faulty_services = table.faulty_names(table.at("service") or 0)
         if self.service_numbers is None:
             return []
-        at, spread_at, needs_at = (table.at(name) for name in ("service", "spread", "depends_on"))
+        at, spread_at, needs_at, skew_at = (table.at(name) for name in ("service", "spread", "depends_on", "skew"))
         amounts = [table.at(one.name) for one in self.settings.resources]
         names = list(self.service_numbers)
         services, count = [], 0
@@ -317,7 +359,8 @@ class FleetReader:
             spread = self.number(table, row, spread_at, self.settings.spread, f"service {name!r}: spread")
             requirement = [measure.take(table, row, column, f"service {name!r}", is_needed=False)
                            for measure, column in zip(self.requirements, amounts)]
-            services.append(Service(name, spread, needs, requirement))
+            skew = self.number(table, row, skew_at, None, f"service {name!r}: skew")
+            services.append(Service(name, spread, needs, requirement, skew))
         return services
 
     def meant_services(self, text, names):
@@ -386,6 +429,18 @@ class FleetReader:
         if wide:
             self.notes.append(f"service {wide[0]!r} asks for more locations than the {len(hoods)} that there "
                               f"are{self.more(wide)}")
+
+    def look_at_zones(self, table):
+        """Tells a neighbourhood that only one machine has, and whose name is one letter from that of another: a slip of the pen
+        would look so."""
+        counts = Counter(one.neighbourhood for one in self.machines)
+        columns = [table.at(name) for name in self.settings.neighbourhood if table.at(name) is not None]
+        for at, one in enumerate(self.machines):
+            if counts[one.neighbourhood] == 1 and columns:
+                near = next((name for name, count in counts.items() if count > 1 and is_one_letter_off(name, one.neighbourhood)), None)
+                if near is not None:
+                    self.remarks.add(table.place(table.rows[at], columns[-1]), f"only machine {one.name!r} is in "
+                                     f"{one.neighbourhood!r} (is it {near!r}?)")
 
     def look_at_sizes(self, tables, processes):
         """Tells a service that has more processes than there are machines, and a process that no machine has room for."""

@@ -15,21 +15,26 @@ Each node selector, required node affinity, and taint that pods don't tolerate b
 1: a node where they may be has enough for all, another one just enough for those that are there already, and as it is
 transient no other comes. Pods that can be on one node alone, and static pods, require 1 of the resource `fixed`, and stay.
 
-A topology spread constraint over zones that must be met becomes the spread of the service, but no more than it meets today.
-Affinities between pods, volumes and host ports are not in the model; the pods that have them are counted.
+Of a topology spread constraint over zones that must be met the model holds the spread: the service is in as many zones as the
+constraint needs, but in no more than today. It doesn't hold the skew, which goes into the column `skew` of services.csv, so that
+`named check` tells which skews a list breaks that today's placement doesn't. One over nodes holds, since a node has at most one
+pod of a service. It is told of each constraint what became of it. Not in the model are affinities between pods, volumes, host
+ports and pod disruption budgets; the pods and services that have them are counted. Budgets may stand in the file of the pods
+(`kubectl get pods,pdb`).
 
 Two pods of one owner on a node break a rule of this problem. They are listed, and nothing is written (status 6). With
 --split each pod of such an owner becomes a service of its own, which may share a node with any other pod."""
 import json
 import os
+import re
 from collections import Counter
 from dataclasses import dataclass
 from fractions import Fraction
 
-from ..files import write_whole
+from ..files import MOST_JSON, read_whole, write_whole
 from ..models import MOST_RESOURCES
 from ..problems import Problem, ProblemWithLines
-from ..texts import counted
+from ..texts import counted, some
 from .amounts import NoAmount, amount, amount_text
 from .fleet import MACHINES, PROCESSES, SERVICES
 from .mistakes import Mistakes, Place
@@ -37,11 +42,13 @@ from .node_rules import FIXED, ZONES, keepings
 from .packing import whole_folder
 from .settings import FILE as SETTINGS, quoted
 from .tables import table_text
+from .topology import Constraints
 
 MAIN = ("cpu", "memory", "pods")
 UNITS = {"cpu": "1m", "memory": "1Mi", "ephemeral-storage": "1Mi"}
 NO_ZONE = "none"
 HASH = "pod-template-hash"
+BUDGETS = ("PodDisruptionBudget",)
 
 
 @dataclass
@@ -65,6 +72,7 @@ class Pod:
     spec: dict
     requests: dict
     has_ended: bool
+    labels: dict
 
     @property
     def is_static(self):
@@ -77,31 +85,34 @@ class Reader:
     def __init__(self, file):
         self.file, self.mistakes = file, Mistakes()
 
-    def items(self, kind):
-        """The objects of a kind."""
+    def items(self, kind, also=()):
+        """The objects of a kind, and, as a second list, those of others that may stand there."""
+        text = read_whole(self.file, MOST_JSON, 4, begins_json)
+        if not begins_json(text):
+            yaml = re.match(rb"\s*(---\s|apiVersion:|kind:|items:)", text[:4096])
+            what = "is YAML; write it with -o json" if yaml else "no JSON, as kubectl writes it with -o json"
+            raise Problem(f"{self.file}: {what}", 4)
         try:
-            with open(self.file, "rb") as source:
-                found = json.loads(source.read().decode("utf-8-sig"))
-        except OSError as fault:
-            raise Problem(f"{self.file}: {fault.strerror}") from None
+            found = json.loads(text.decode("utf-8-sig"))
         except json.JSONDecodeError as fault:
             raise Problem(f"{self.file}:{fault.lineno}: no JSON: {fault.msg}; column {fault.colno}", 4) from None
-        except (UnicodeDecodeError, RecursionError):
+        except (ValueError, RecursionError):
             raise Problem(f"{self.file}: no JSON that kubectl writes", 4) from None
         items = found.get("items") if isinstance(found, dict) else None
         if not isinstance(items, list) or any(not isinstance(one, dict) for one in items):
             raise Problem(f"{self.file}: no list of objects, as `kubectl get .. -o json` writes it", 4)
-        others = [one.get("kind") for one in items if one.get("kind", kind) != kind]
+        others = [one.get("kind") for one in items if one.get("kind", kind) not in (kind, *also)]
         if others:
             raise Problem(f"{self.file}: has a {others[0]}, and should have {kind}s alone", 4)
-        if not items:
+        own = [one for one in items if one.get("kind", kind) == kind]
+        if not own:
             raise Problem(f"{self.file}: has no {kind}", 4)
-        return items
+        return own, [one for one in items if one.get("kind", kind) != kind]
 
-    def read_each(self, kind, read):
-        """Each object of a kind, read; what is wrong is told at once."""
-        made = []
-        for at, item in enumerate(self.items(kind)):
+    def read_each(self, kind, read, also=()):
+        """Each object of a kind, read, and the others that may stand there; what is wrong is told at once."""
+        made, (own, others) = [], self.items(kind, also)
+        for at, item in enumerate(own):
             name = f"{kind} {at}"
             try:
                 name = f"{kind} {item['metadata']['name']!r}"
@@ -112,7 +123,12 @@ class Reader:
                 what = f"has no {fault}" if isinstance(fault, KeyError) else "isn't what kubectl writes"
                 self.mistakes.add(Place(self.file), f"{name} {what}")
         self.mistakes.close()
-        return made
+        return made, others
+
+
+def begins_json(text):
+    """Whether a text may be JSON, by its first letter."""
+    return text.removeprefix(b"\xef\xbb\xbf").lstrip()[:1] in (b"{", b"[")
 
 
 def amounts(words):
@@ -137,7 +153,7 @@ def pod_of(item):
         name = meta["name"]
     phase = (item.get("status") or {}).get("phase")
     return Pod(f"{namespace}/{meta['name']}", (namespace, kind, name), spec.get("nodeName") or "", spec, requests_of(spec),
-               phase in ("Succeeded", "Failed"))
+               phase in ("Succeeded", "Failed"), meta.get("labels") or {})
 
 
 def requests_of(spec):
@@ -160,20 +176,24 @@ def make_fleet(nodes_file, pods_file, folder, split):
     """Writes the tables of a cluster into a new folder. Answers what is to be told, line by line."""
     if os.path.lexists(folder):
         raise Problem(f"{folder} is there already; name a folder that isn't", 2)
-    nodes = Reader(nodes_file).read_each("Node", node_of)
-    cluster = Cluster(nodes, Reader(pods_file).read_each("Pod", pod_of), split)
-    texts = cluster.texts()
+    nodes, _ = Reader(nodes_file).read_each("Node", node_of)
+    pods, budgets = Reader(pods_file).read_each("Pod", pod_of, BUDGETS)
+    try:
+        cluster = Cluster(nodes, pods, split, budgets)
+        texts = {file: text.encode() for file, text in cluster.texts().items()}
+    except (AttributeError, KeyError, IndexError, TypeError, ValueError) as fault:
+        raise Problem(f"{nodes_file} or {pods_file} isn't what kubectl writes ({type(fault).__name__})", 4) from None
     with whole_folder(folder) as beside:
         for file, text in texts.items():
-            write_whole(os.path.join(beside, file), [text.encode()])
+            write_whole(os.path.join(beside, file), [text])
     return cluster.told
 
 
 class Cluster:
     """Nodes and pods, as a fleet."""
 
-    def __init__(self, nodes, pods, split):
-        self.nodes, self.told = nodes, []
+    def __init__(self, nodes, pods, split, budgets=()):
+        self.nodes, self.told, self.budgets = nodes, [], budgets
         self.numbers = {node.name: at for at, node in enumerate(nodes)}
         self.pods = self.kept_pods(pods)
         if not self.pods:
@@ -189,14 +209,14 @@ class Cluster:
 
     def kept_pods(self, pods):
         """The pods that the model has. The others are told, and those of a DaemonSet take their room from their nodes."""
-        kept, daemons = [], Counter()
+        kept, daemons, left = [], Counter(), {"ended": [], "pending": [], "on nodes that aren't there": []}
         for pod in pods:
             if pod.has_ended:
-                self.told.append(f"left out: {pod.name} has ended")
+                left["ended"].append(pod.name)
             elif not pod.node:
-                self.told.append(f"left out: {pod.name} is pending")
+                left["pending"].append(pod.name)
             elif pod.node not in self.numbers:
-                self.told.append(f"left out: {pod.name} is on {pod.node}, which isn't among the nodes")
+                left["on nodes that aren't there"].append(pod.name)
             elif pod.owner[1] == "DaemonSet":
                 daemons[f"{pod.owner[0]}/{pod.owner[2]}"] += 1
                 room = self.nodes[self.numbers[pod.node]].room
@@ -204,6 +224,8 @@ class Cluster:
                     room[name] = max(Fraction(0), room.get(name, Fraction(0)) - value)
             else:
                 kept.append(pod)
+        lines = [f"{len(names):,} {what} ({some(names, 3)})" for what, names in left.items() if names]
+        self.told += [f"left out: {counted(sum(map(len, left.values())), 'pod')}: {'; '.join(lines)}"] * bool(lines)
         self.told += [f"left out: {counted(count, 'pod')} of DaemonSet {name}, whose room is taken from {'its' if count == 1 else 'their'} "
                       f"node{'' if count == 1 else 's'}" for name, count in daemons.items()]
         return kept
@@ -241,12 +263,23 @@ class Cluster:
             self.told += [f"  {self.pods[at].name} is on {self.pods[at].node} all the same, and may stay" for at in one.pods
                           if self.numbers[self.pods[at].node] not in one.nodes]
         self.told += [f"resource '{FIXED}' keeps {self.pods[at].name} on {self.pods[at].node}" for at in self.fixed]
-        for what, has in (("affinities between pods", self.has_affinity), ("volumes", self.has_volume), ("host ports", self.has_port)):
-            count = sum(map(has, self.pods))
-            if count:
-                self.told.append(f"not in the model: {what} of {counted(count, 'pod')}")
+        self.constraints = Constraints(self)
+        self.told += self.constraints.lines
+        self.told += [f"not in the model: {line}" for line in (*self.constraints.left_out, *self.left_out())]
         self.told.append(f"{counted(len(self.nodes), 'node')}, {counted(len(set(self.services)), 'service')}, "
                          f"{counted(len(self.pods), 'pod')}, {counted(len(self.resources), 'resource')}")
+
+    def left_out(self):
+        """What the model leaves out, by kinds."""
+        for what, has in (("affinities between pods", self.has_affinity), ("volumes", self.has_volume), ("host ports", self.has_port)):
+            services = [service for pod, service in zip(self.pods, self.services) if has(pod)]
+            if services:
+                yield f"{what} of {counted(len(services), 'pod')} of {counted(len(set(services)), 'service')}"
+        if self.budgets:
+            yield (f"{counted(len(self.budgets), 'pod disruption budget')}: "
+                   f"{some([one['metadata']['name'] for one in self.budgets], 3)} (see `moves --per-service`)")
+        else:
+            yield "pod disruption budgets, if there are some: `kubectl get pods,pdb` tells them"
 
     @staticmethod
     def has_affinity(pod):
@@ -283,19 +316,9 @@ class Cluster:
         return table_text(["machine", "zone", "state", *self.resources, *self.rule_columns()], rows)
 
     def services_text(self):
-        together = {}
-        for pod, service in zip(self.pods, self.services):
-            together.setdefault(service, []).append(pod)
-        return table_text(["service", "spread", "depends_on"],
-                          [[service, self.spread_of(pods), ""] for service, pods in together.items()])
-
-    def spread_of(self, pods):
-        """In how many zones the pods of a service have to be."""
-        today = len({self.nodes[self.numbers[pod.node]].zone for pod in pods})
-        zones = len({node.zone for node in self.nodes})
-        skews = [one.get("maxSkew") or 1 for pod in pods for one in pod.spec.get("topologySpreadConstraints") or []
-                 if one.get("topologyKey") in ZONES and one.get("whenUnsatisfiable") == "DoNotSchedule"]
-        return min(today, zones, -(-len(pods) // min(skews))) if skews else 1
+        spreads = self.constraints
+        return table_text(["service", "spread", "skew", "depends_on"],
+                          [[service, spreads.spread(service), spreads.skew(service), ""] for service in dict.fromkeys(self.services)])
 
     def processes_text(self):
         kept, fixed = [set(one.pods) for one in self.kept], set(self.fixed)
@@ -314,5 +337,6 @@ class Cluster:
             if name == "pods":
                 lines += ["load_weight = 0", "safety = 1"]
         for name in self.rule_columns():
-            lines += ["", "[[resource]]", f"name = {quoted(name)}", 'unit = "1"', "transient = true", "load_weight = 0", "safety = 1"]
+            lines += ["", "[[resource]]", f"name = {quoted(name)}", 'unit = "1"', "transient = true", "load_weight = 0", "safety = 1",
+                      "rule = true"]
         return "\n".join(lines) + "\n"

@@ -11,6 +11,7 @@ from ..reports import read_placement
 from ..texts import counted
 from .fleet import PROCESSES
 from .packing import whole_folder
+from .skews import broken_skews
 from .tables import rows_of, table_text
 
 
@@ -59,6 +60,7 @@ class Judgement:
     model: Model
     initial_rules: list
     rules: list
+    skews: list  # that the list breaks beside today's, which is no rule
 
 
 def judge(packed, program, name):
@@ -80,7 +82,8 @@ def judge(packed, program, name):
     if not agrees:
         raise Problem(f"the program says {error or 'feasible'!r}, and the rules here say otherwise: is it the program of this "
                       "package's version?", 1)
-    return Judgement(status, lines, error, model, initial_rules, rules)
+    return Judgement(status, lines, error, model, initial_rules, rules,
+                     list(broken_skews(model, packed.names, packed.initial, now)))
 
 
 def unpack(packed, now, folder):

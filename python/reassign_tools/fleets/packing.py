@@ -1,10 +1,9 @@
 """A fleet as the files of the program: model, initial, closed, names.json."""
 import hashlib
 import os
-import shutil
 from fractions import Fraction
 
-from ..files import list_text, write_whole
+from ..files import for_a_while, list_text, remove, write_whole
 from ..models import LARGEST, Model
 from ..names import Names
 from ..problems import Problem
@@ -79,6 +78,7 @@ def names_of(fleet, model_hash):
         services=[one.name for one in fleet.services],
         processes=[one.name for one in fleet.processes],
         tables=fleet.texts,
+        rules=[one.name for one in fleet.resources if one.rule],
     )
 
 
@@ -117,7 +117,7 @@ class whole_folder:
         if not os.path.isdir(above):
             raise Problem(f"{above} is no folder" if os.path.lexists(above) else f"there is no folder {above} to write into", 7)
         try:
-            os.mkdir(self.beside)
+            os.mkdir(for_a_while(self.beside))
         except OSError as fault:
             raise Problem(f"write fault: {self.folder}: {fault.strerror}", 7) from None
         return self.beside
@@ -132,4 +132,4 @@ class whole_folder:
         except OSError as fault:
             raise Problem(f"write fault: {self.folder}: {fault.strerror}", 7) from None
         finally:
-            shutil.rmtree(self.beside, ignore_errors=True)
+            remove(self.beside)

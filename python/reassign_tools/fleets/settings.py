@@ -21,8 +21,10 @@ class Resource:
     name: str
     unit: Fraction | None = None
     transient: bool = False
-    load_weight: int = 1
+    load_weight: int | None = None  # none means that what the fleet has of it decides
     safety: Fraction | str = Fraction(4, 5)  # a share of the capacity, or the name of a column
+    rule: bool = False  # whether it stands for a rule that keeps processes to machines, and not for something that they use
+    is_weighed: bool = False  # whether the load weight is the default
 
 
 @dataclass
@@ -76,7 +78,7 @@ class Settings:
         settings = cls()
         try:
             words = tomllib.loads(text or "", parse_float=Decimal)
-        except tomllib.TOMLDecodeError as fault:
+        except (ValueError, RecursionError) as fault:
             settings.sure = False
             tell_no_toml(text, fault, mistakes)
             return settings
@@ -100,7 +102,8 @@ class Settings:
         for one in self.resources:
             safety = quoted(one.safety) if isinstance(one.safety, str) else f"{float(one.safety):.10g}"
             yield from ("", "[[resource]]", f"name = {quoted(one.name)}", f"unit = {quoted(amount_text(one.unit))}",
-                        f"transient = {str(one.transient).lower()}", f"load_weight = {one.load_weight}", f"safety = {safety}")
+                        f"transient = {str(one.transient).lower()}", f"load_weight = {one.load_weight}", f"safety = {safety}",
+                        *["rule = true"] * one.rule)
         for one in self.balances:
             target = one.target if isinstance(one.target, int) else quoted(amount_text(one.target))
             yield from ("", "[[balance]]", f"first = {quoted(one.first)}", f"second = {quoted(one.second)}",
@@ -149,7 +152,7 @@ def is_value(text):
     """Whether TOML can read a text as a value."""
     try:
         tomllib.loads(f"value = {text}")
-    except tomllib.TOMLDecodeError:
+    except (ValueError, RecursionError):
         return False
     return True
 
@@ -219,7 +222,8 @@ def unit(value):
 def share(value):
     if type(value) is str and value:
         return value
-    if type(value) not in (int, Decimal) or not (Decimal(value).is_finite() and 0 <= value <= 1):
+    if type(value) not in (int, Decimal) or not (Decimal(value).is_finite() and 0 <= value <= 1
+                                                 and Decimal(value).as_tuple().exponent >= -30):
         raise Wrong("a share of the capacity from 0 to 1, or the name of a column")
     return Fraction(value)
 
@@ -234,7 +238,7 @@ def target(value):
 
 
 OWN = {"neighbourhood": columns, "location": columns, "move_cost": whole, "spread": whole, "ignored": names}
-RESOURCE = {"name": name, "unit": unit, "transient": truth, "load_weight": whole, "safety": share}
+RESOURCE = {"name": name, "unit": unit, "transient": truth, "load_weight": whole, "safety": share, "rule": truth}
 BALANCE = {"first": name, "second": name, "target": target, "weight": whole}
 WAYS = {"same_location": whole, "same_neighbourhood": whole, "elsewhere": whole, "file": file}
 WEIGHTS = {"process": whole, "service": whole, "machine": whole}

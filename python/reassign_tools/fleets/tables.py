@@ -4,12 +4,16 @@ import io
 import os
 from dataclasses import dataclass
 
+from ..files import read_whole
+from ..problems import Problem
 from ..texts import counted
 from .mistakes import Place
 
-csv.field_size_limit(1 << 24)
+csv.field_size_limit(1 << 16)
 SEPARATORS = {";": "semicolons", "\t": "tabs", "|": "bars"}
 BYTE_ORDER_MARK = b"\xef\xbb\xbf"
+UTF16 = b"\xff\xfe", b"\xfe\xff"
+MOST_OPEN = 20  # open quotation marks of a table after which the rows are still read
 
 
 @dataclass(frozen=True)
@@ -106,32 +110,37 @@ def other_separator(text):
 
 
 def rows_of(text, tell=lambda line, why: None):
-    """The rows of a text that aren't blank, without the blanks around cells. What can't be read is told, with its line."""
-    reader = csv.reader(io.StringIO(text, newline=""), strict=True)
-    line = 1
-    try:
-        for cells in reader:
-            if any(cell.strip() for cell in cells):
-                yield Row(line, [cell.strip() for cell in cells])
-            line = reader.line_num + 1
-    except csv.Error as fault:
-        why = "a quotation mark is not closed" if "end of data" in str(fault) else str(fault)
-        tell(line, why)
+    """The rows of a text that aren't blank, without the blanks around cells. What can't be read is told, with its line; the lines
+    after that are read as if it weren't there."""
+    lines = list(io.StringIO(text, newline=""))
+    begin = faults = 0
+    while begin < len(lines) and faults <= MOST_OPEN:
+        reader, line = csv.reader(lines[begin:], strict=True), begin + 1
+        try:
+            for cells in reader:
+                if any(cell.strip() for cell in cells):
+                    yield Row(line, [cell.strip() for cell in cells])
+                line = begin + reader.line_num + 1
+            return
+        except csv.Error as fault:
+            is_open = "end of data" in str(fault) or begin + reader.line_num > line
+            tell(line, "a quotation mark is not closed" if is_open else str(fault))
+            begin, faults = line, faults + 1
 
 
 def read_text(folder, file, mistakes, is_needed=True):
     """The text of a file of a folder, without a byte order mark; None if it isn't there or can't be read, which is told."""
-    try:
-        with open(os.path.join(folder, file), "rb") as source:
-            read = source.read()
-    except FileNotFoundError:
+    name = os.path.join(folder, file)
+    if not os.path.lexists(name):
         if is_needed:
             mistakes.unreadable(Place(file), "there is no such file")
         return None
-    except OSError as fault:
-        mistakes.unreadable(Place(file), f"can't be read: {fault.strerror}")
+    try:
+        read = read_whole(name, is_begun=lambda piece: not piece.startswith(UTF16))
+    except Problem as problem:
+        mistakes.unreadable(Place(file), problem.line.removeprefix(f"{name}: ").removeprefix(f"{name} "))
         return None
-    if read.startswith((b"\xff\xfe", b"\xfe\xff")):
+    if read.startswith(UTF16):
         mistakes.add(Place(file, 1, 1), "the file is written in UTF-16; save it as UTF-8")
         return None
     read = read.removeprefix(BYTE_ORDER_MARK)

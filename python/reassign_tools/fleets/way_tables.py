@@ -2,6 +2,7 @@
 from dataclasses import dataclass
 
 from ..models import LARGEST
+from .amounts import whole_number
 
 
 @dataclass(frozen=True)
@@ -34,7 +35,7 @@ def read_ways(table, machines, mistakes):
             if not any(name in some for some in known.values()):
                 mistakes.add(table.place(row, at), f"{name!r} is no machine, location or neighbourhood"
                              f"{mistakes.nearest(name, names)}")
-        if not (cost.isascii() and cost.isdigit()) or int(cost[:20]) > LARGEST:
+        if whole_number(cost) is None:
             mistakes.add(table.place(row, cost_at), f"{cost!r} is no whole number from 0 to {LARGEST:,}")
             continue
         kind = next((kind for kind in KINDS if start in known[kind] and end in known[kind]), None)
@@ -44,7 +45,7 @@ def read_ways(table, machines, mistakes):
             mistakes.add(table.place(row, start_at), f"the way from {start!r} to {end!r} stands in line {lines[start, end]} "
                          "already")
         lines[start, end] = row.line
-        pairs.append(WayPair(kind, start, end, int(cost)))
+        pairs.append(WayPair(kind, start, end, whole_number(cost)))
     return pairs
 
 
