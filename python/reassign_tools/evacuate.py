@@ -17,6 +17,11 @@ NEW has the best list so far.
 If MODEL lies in a folder that `named pack` wrote, nobody enters the machines either that its `closed` names, which is told; they
 aren't emptied. With --only the machines of CLOSED alone are closed.
 
+With --most it empties as many machines as it can in --seconds, one after another: those with the highest `price` (a column of
+machines.csv, which --names has) first, and else those of which the least is in use. The processes of a machine go where least
+room is left after them, or none of them goes. It tells which machines are empty then and what they cost together, and writes
+the list, and a closed list that keeps them empty.
+
 With --names all this is told by names, and CLOSED may have the name of a machine in each line. If it has nothing but numbers,
 these are those of the model, as elsewhere. For example
 
@@ -27,6 +32,7 @@ from collections import Counter
 from itertools import chain
 
 from .closing import add_only, with_fleet
+from .evacuate_most import empty_most
 from .files import Room, list_text, read_list, target, write_whole
 from .going_on import going_on
 from .lots import lot_of
@@ -50,7 +56,8 @@ def parser():
     words.add_program()
     words.add_argument("model", metavar="MODEL", type=file_name)
     words.add_argument("initial", metavar="INITIAL", type=file_name)
-    words.add_argument("closed", metavar="CLOSED", type=file_name, help="the machines to be emptied")
+    words.add_argument("closed", metavar="CLOSED", type=file_name, nargs="?",
+                       help="the machines to be emptied; with --most those that are closed before, if there are some")
     words.add_argument("--out", metavar="NEW", type=file_name, required=True, help="the new list")
     words.add_argument("--names", metavar="FILE", type=any_file_name, help="the names of the model, as `named pack` writes them")
     words.add_argument("--budget", metavar="B", type=number(0, MOST_PROPOSALS), default=MOST_PROPOSALS,
@@ -60,6 +67,9 @@ def parser():
     words.add_argument("--checks", metavar="N", type=number(0, 1_000_000), default=2000,
                        help="put others back by at most so many calls of `reassign check` (2000)")
     words.add_argument("--seed", metavar="S", type=number(0, LARGEST_SEED), default=1, help="seed of the choices (1)")
+    words.add_argument("--most", action="store_true", help="empty as many machines as can be, the dearest first")
+    words.add_argument("--seconds", metavar="S", type=number(1, 1_000_000), default=30, help="of --most: end after so many (30)")
+    words.add_argument("--closed-out", metavar="FILE", type=file_name, help="of --most: the closed list (NEW.closed)")
     add_only(words)
     words.add_argument("--model-out", metavar="FILE", type=file_name, help="write the changed model there")
     return words
@@ -132,6 +142,8 @@ class Evacuation:
             write_whole(start, [list_text(self.now)])
         write_whole(self.room("model"), model.pieces())
         _, head, _ = self.program.run("solve", self.room("model"), start, *self.closing, *lots, lines=10)
+        if len(head) < 9 or not head[8].startswith("assignment "):
+            raise self.program.no_program("prints no report")
         return self.keep(list(map(int, head[8].split()[1:])), least)
 
     def lots_for_all(self):
@@ -294,8 +306,12 @@ def told(counts):
 
 
 def work(words):
+    if not words.most and not words.closed:
+        raise Problem("CLOSED is missing, or --most; evacuate --help shows how to call it", 2)
     names = Names.read(words.names, words.model) if words.names else None
     with Room() as room, telling(names.line if names else str):
+        if words.most:
+            return empty_most(words, room, names)
         evacuation = Evacuation(words, room, names)
         try:
             evacuation.go()
