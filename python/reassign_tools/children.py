@@ -37,12 +37,14 @@ def begin(command, **how):
         fault = errno.EACCES if os.path.exists(command[0]) else errno.ENOENT
         raise OSError(fault, os.strerror(fault), command[0])
     by_main = threading.current_thread() is threading.main_thread()
-    _begins = _begins or by_main
+    if by_main:  # no other thread writes this, or it may put back what the main thread has changed since
+        _begins = True
     try:
         run = subprocess.Popen([*ending_with_this(), *command], stdin=subprocess.DEVNULL, start_new_session=True, **how)
         _begun[run.pid] = run
     finally:
-        _begins = _begins and not by_main
+        if by_main:
+            _begins = False
     if by_main and _stop_waits:
         number, _stop_waits = _stop_waits, 0
         end(run)
