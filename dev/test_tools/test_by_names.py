@@ -165,6 +165,16 @@ class ClosedMachines(FleetCase):
             ran = run(tool_path("moves"), *PACKED, "new", *words)
             self.assertEqual((ran.returncode, ran.stderr), (status, told), words)
 
+    def test_piped(self):
+        """A closed list may come through a pipe, though it is read several times; one without an end is refused."""
+        for words in (["model", "initial", "/dev/stdin", "--out", "piped", "--budget", "0"],
+                      ["model", "initial", "/dev/stdin", "--out", "piped", "--most", "--seconds", "1"]):
+            ran = run("sh", "-c", 'echo 3 | "$0" "$@"', tool_path("evacuate"), *words)
+            self.assertIn("went 1 of 1 processes of 1 closed machine\n" if "--most" not in words else "moved ", ran.stdout, ran.stderr)
+            self.assertNotIn("3", text_of("piped").split()[0::2])
+        ran = run("sh", "-c", 'yes 1 | "$0" model initial new --closed /dev/stdin', tool_path("moves"), timeout=60)
+        self.assertEqual((ran.returncode, ran.stderr), (10, "moves: /dev/stdin has more than 4,194,304 bytes\n"))
+
     def test_evacuate_and_repair(self):
         """What is emptied doesn't go to a machine that the fleet has closed, which isn't emptied itself."""
         machines = text_of(os.path.join(EXAMPLE, "machines.csv"))

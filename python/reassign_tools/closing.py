@@ -1,16 +1,27 @@
 """The closed machines of a call: those of the list that is given, and those of the fleet to which a model belongs."""
 import os
 
-from .files import is_same, list_text, read_closed, write_whole
+from .files import is_same, list_text, read_closed, read_whole, write_whole
 from .running import say
 from .texts import some
 
+MOST_PIPED = 1 << 22  # bytes of a closed list that comes through a pipe
 ONLY = "take the closed list that is given alone, though MODEL lies in a folder of `named pack` that has one too"
 
 
 def add_only(words):
     """The option that passes over the closed list of a fleet."""
     words.add_argument("--only", action="store_true", help=ONLY)
+
+
+def given_list(words, names, room):
+    """The name of the closed list that the words name, as the program reads it, or None. It is read several times, so what comes
+    through a pipe is kept in the room first."""
+    name = words.closed
+    if name and os.path.exists(name) and not os.path.isfile(name) and not os.path.isdir(name):
+        write_whole(room("given"), [read_whole(name, MOST_PIPED, 10)])
+        name = room("given")
+    return names.closed_file(name, room) if names else name
 
 
 def fleet_closed(model):

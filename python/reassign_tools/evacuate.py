@@ -31,7 +31,7 @@ import random
 from collections import Counter
 from itertools import chain
 
-from .closing import add_only, with_fleet
+from .closing import add_only, given_list, with_fleet
 from .evacuate_most import empty_most
 from .files import Room, list_text, read_list, target, write_whole
 from .going_on import going_on
@@ -81,7 +81,7 @@ class Evacuation:
         inputs = self.program.name, words.model, words.initial, words.closed, words.names
         self.out = target(words.out, *inputs)
         self.model_out = words.model_out and target(words.model_out, words.out, *inputs)
-        given = names.closed_file(words.closed, room) if names else words.closed
+        given = given_list(words, names, room)
         self.program.numbers("check", words.model, words.initial, words.initial, *closed_words(given))
         self.model, self.start = Model.read(words.model), read_list(words.initial)
         same_sizes(self.model, words.model, self.start)

@@ -2,7 +2,7 @@
 import time
 from fractions import Fraction
 
-from .closing import with_fleet
+from .closing import given_list, with_fleet
 from .emptying import Emptying
 from .files import list_text, read_list, target, write_whole
 from .fleets.amounts import NoAmount, amount
@@ -36,7 +36,7 @@ def empty_most(words, room, names):
     inputs = program.name, words.model, words.initial, words.closed, words.names
     out = target(words.out, *inputs)
     closed_out = target(words.closed_out or f"{words.out}.closed", words.out, *inputs)
-    given = names.closed_file(words.closed, room) if names else words.closed
+    given = given_list(words, names, room)
     program.numbers("check", words.model, words.initial, words.initial, *closed_words(given))
     model, start = Model.read(words.model), read_list(words.initial)
     same_sizes(model, words.model, start)

@@ -24,7 +24,7 @@ from dataclasses import dataclass
 
 from .calls import named
 from .choosing_moves import Choice
-from .closing import add_only, with_fleet
+from .closing import add_only, given_list, with_fleet
 from .files import Room, list_text, read_list, target, write_whole
 from .models import Model, closed_flags
 from .names import Names
@@ -195,7 +195,7 @@ def work(words):
     out = words.out and target(words.out, words.model, words.initial, words.new, words.names, words.closed)
     names = Names.read(words.names, words.model) if words.names else None
     with Room() as room, telling(names.line if names else str):
-        given = names.closed_file(words.closed, room) if names else words.closed
+        given = given_list(words, names, room)
         judge = Judge(Program(words.program), words.model, words.initial, given, room)
         start, new = read_list(words.initial), read_placement(words.new)
         start_cost, model = judge.cost(start, words.initial), Model.read(words.model)

@@ -18,7 +18,7 @@ in each line. For example
 import random
 from collections import defaultdict
 
-from .closing import add_only, with_fleet
+from .closing import add_only, given_list, with_fleet
 from .files import Room, list_text, read_list, target, write_whole
 from .lots import lot_of
 from .models import Model, closed_flags, same_sizes
@@ -193,7 +193,7 @@ class Repair:
     def __init__(self, words, room, names=None, tell=say):
         self.words, self.program, self.room, self.tell = words, Program(words.program), room, tell
         self.out = target(words.out, self.program.name, words.model, words.initial, words.closed, words.names)
-        given = names.closed_file(words.closed, room) if names else words.closed
+        given = given_list(words, names, room)
         self.program.run("bound", words.model, words.initial, *closed_words(given))
         self.model, self.first = Model.read(words.model), read_list(words.initial)
         same_sizes(self.model, words.model, self.first)

@@ -20,6 +20,7 @@ import shlex
 import sys
 from collections import Counter
 
+from .closing import given_list
 from .files import Room, list_text, read_list, write_whole
 from .machine_uses import headline, share_of, uses_of
 from .models import Model, same_sizes
@@ -127,7 +128,7 @@ def fullest(model, use, top, resources):
 def summed(words, names, room):
     """All that is told of a report or a list, and the names, which are numbers if there are none."""
     program = Program(words.program)
-    closing = closed_words(names.closed_file(words.closed, room) if names else words.closed)
+    closing = closed_words(given_list(words, names, room))
     if words.lots is not None:
         verify(program, words)
     start = program.numbers("check", words.model, words.initial, words.initial, *closing)
