@@ -12,6 +12,7 @@ mod shifts;
 mod verdicts;
 mod weighing;
 
+pub use moves::cost_below;
 pub use planning::plan;
 pub use verdicts::verdict;
 pub use weighing::weigh;

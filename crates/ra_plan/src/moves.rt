@@ -46,7 +46,7 @@ pub(crate) fn best_move<L: Ledger>(
 /// The cost after a move, if it breaks nothing and costs less than a bound. Its ways are tested first, since they refuse
 /// most exchanges in the least time, then its cost; the constraints are tested only for a move that can still win.
 #[inline(always)]
-fn cost_below<L: Ledger>(
+pub fn cost_below<L: Ledger>(
     world: &World<'_>,
     mv: &Move,
     bound: u128,
