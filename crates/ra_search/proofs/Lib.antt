@@ -1,0 +1,4 @@
+pub mod StepLemmas
+pub mod JudgeLemmas
+pub mod ReachLemmas
+pub mod FoundLemmas
