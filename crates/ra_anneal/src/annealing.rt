@@ -14,7 +14,6 @@ ghost use Rattle.ra_anneal.specs.Jobs.{job_of};
 ghost use Rattle.ra_anneal.specs.Said.{said};
 ghost use Rattle.ra_anneal.specs.Searching.{from_in, IsAnnealed};
 
-use crate::beginning::Beginning;
 use crate::given::{Given, judge_given, read_given};
 use crate::refusing::refuse_words;
 use crate::telling::{HELP, VERSION, tell};
@@ -23,7 +22,7 @@ use crate::words::{Job, read_words};
 use ra_base::Name;
 use ra_io::{Files, Sink};
 use ra_jobs::{File, JobFiles, Outside, Refusal, Status, bound_from, finish, refuse_memory};
-use ra_search::{Schedule, search};
+use ra_search::{Beginning, Schedule, search};
 use ra_topology::Topology;
 use ra_words::WordsFault;
 use std::alloc::Global;
@@ -202,19 +201,8 @@ fn anneal_over<R: Threads + Wait + Sync, O: Sink>(
     ensures no_output { IfErr result (λ refusal. refusal ≢ Refusal.Write → out.new ≡ out.old) }
     ensures out_never_falls { O.faults out.old ≤ O.faults out.new }
 {
-    let (inst, initial) = (beginning.inst, beginning.initial);
-    let bound = bound_from(alloc, inst, initial)?;
-    let found = search(
-        rt,
-        alloc,
-        inst,
-        beginning.topo,
-        initial,
-        beginning.start,
-        beginning.from,
-        beginning.from_parts,
-        schedule,
-    )?;
+    let bound = bound_from(alloc, beginning.inst, beginning.initial)?;
+    let found = search(rt, alloc, beginning, schedule)?;
     let ended = write_annealed(
         out,
         &found.parts,

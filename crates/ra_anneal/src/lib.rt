@@ -3,7 +3,6 @@
 #![tactic(auto)]
 
 mod annealing;
-mod beginning;
 mod forms;
 mod given;
 mod pairs;

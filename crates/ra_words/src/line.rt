@@ -73,11 +73,7 @@ pub fn plain_at<'a>(taken: &ArgMatches<'a>, place: usize) -> &'a str
 }
 
 /// The plain word at a place as a name.
-pub fn plain_name(
-    alloc: Global,
-    taken: &ArgMatches<'_>,
-    place: usize,
-) -> Result<Name, NoMemory>
+pub fn plain_name(alloc: Global, taken: &ArgMatches<'_>, place: usize) -> Result<Name, NoMemory>
     ensures { IfOk result (λ name. name ≡ word_at (plain_of (found_of taken.now)) place) }
 {
     Name::make(alloc, plain_at(taken, place))
