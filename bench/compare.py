@@ -5,7 +5,11 @@ Makes small random instances and lists, runs `bound`, `check` and `solve` on the
 byte of both outputs. The order of the entries of several workers is taken from the report, and judged. It stops at the
 first difference, says on what it was, and leaves the files there.
 
-usage: compare.py PROGRAM FIRST_SEED INSTANCES
+With --plain it compares the program with the one of bench/plain, which cargo builds, and instances may be larger: of each
+job with one lot or none the status and every byte. Of several lots `verify` has to accept both reports, and so has
+judge_report.py if the instance is small. A thousand instances take about a minute.
+
+usage: compare.py [--plain] PROGRAM FIRST_SEED INSTANCES
 """
 import os
 import random
@@ -15,6 +19,8 @@ import sys
 import tempfile
 from collections import Counter
 from dataclasses import dataclass
+
+from building import plain_program
 
 LARGEST_WORD = 2**64 - 1
 LABELS = [0, 1, 7, 4294967295]
@@ -452,23 +458,153 @@ def compare_instance(program, chance, kinds):
         compare(program, words, lambda out: wanted(inst, start, start, lambda: run(out)), kinds)
 
 
+def large_instance(chance):
+    """An instance with up to 300 processes, and a start that breaks nothing. Some numbers may be very large."""
+    resources, machines = chance.randint(1, 9), chance.choice([3, 9, 40, 64, 65, 100, 200])
+    processes, services = chance.randint(1, 300), chance.randint(1, 80)
+    most = chance.choice([1, 20, 20, 20, 2**16, 2**32 - 1])
+
+    def row(count, least, greatest):
+        return [chance.randint(least, greatest) for _ in range(count)]
+
+    def weight():
+        return chance.choice([0, 1, 10, chance.randint(0, most)])
+
+    owners, start, taken = [], [], set()
+    for _ in range(processes):
+        s = min(chance.randrange(services), chance.randrange(services))
+        free = [m for m in range(machines) if (s, m) not in taken]
+        if free:
+            owners.append(s)
+            start.append(chance.choice(free))
+            taken.add((s, start[-1]))
+    high = chance.choice([0, 9, 500, 500, min(most, 10**7)])
+    required = [row(resources, 0, high) for _ in owners]
+    used = [[0] * resources for _ in range(machines)]
+    for p, m in enumerate(start):
+        used[m] = [a + b for a, b in zip(used[m], required[p])]
+    room = chance.choice([1, 2, 5]) * high
+    capacities = [[u + chance.randint(0, room) for u in row] for row in used]
+    hoods = [chance.choice(LABELS[:chance.randint(1, 4)]) for _ in range(machines)]
+    locations = [chance.randrange(1 + machines // 4) for _ in range(machines)]
+    of = [[m for m, s in zip(start, owners) if s == service] for service in range(services)]
+    near = [{hoods[m] for m in own} for own in of]
+
+    def needs(s):
+        drawn = [chance.randrange(services) for _ in range(chance.choice([0, 0, 1, 2, 6]))]
+        return [other for other in drawn if near[s] <= near[other]]
+
+    return Instance(
+        transient=row(resources, 0, 1),
+        load_weights=[weight() for _ in range(resources)],
+        neighbourhoods=hoods,
+        locations=locations,
+        capacities=capacities,
+        safeties=[[chance.randint(0, c + 5) for c in row] for row in capacities],
+        way_costs=[row(machines, 0, chance.choice([0, 9, 300, most])) for _ in range(machines)],
+        spreads=[chance.randint(0, len({locations[m] for m in own})) for own in of],
+        dependencies=[needs(s) for s in range(services)],
+        services=owners,
+        requirements=required,
+        process_costs=row(len(owners), 0, most),
+        balances=[
+            row(2, 0, resources - 1) + [chance.choice([0, 1, 2, most]), weight()]
+            for _ in range(chance.choice([0, 1, 2, 10]))
+        ],
+        weights=[weight() for _ in range(3)],
+        closed=[False] * machines,
+    ), start
+
+
+def both(program, plain, words, kinds, judge=None):
+    """Runs both programs. Their status has to be the same; so have their bytes, or `judge` has to accept both."""
+    own, other = (subprocess.run([it] + words, capture_output=True, text=True, check=False) for it in (program, plain))
+    where = f"{joined(words)} in {os.getcwd()}\n"
+    if own.returncode != other.returncode or not judge and own.stdout != other.stdout:
+        write("out", own.stdout)
+        write("out.plain", other.stdout)
+        sys.exit(f"{where}  statuses {own.returncode} and {other.returncode}; see out and out.plain there")
+    kinds[f"{words[0]} {own.returncode}"] += 1
+    for ran in (own, other) if judge and own.returncode == 0 else ():
+        write("report", ran.stdout)
+        try:
+            judge(ran.stdout)
+        except (IndexError, KeyError, ValueError) as fault:
+            sys.exit(f"{where}  {'the plain ' if ran is other else ''}report isn't accepted: {fault}")
+
+
+def compare_with_plain(program, plain, chance, kinds):
+    """Compares both programs on one instance."""
+    from judge_report import judge
+
+    is_small = chance.random() < 0.5
+    if is_small:
+        inst = random_instance(chance)
+        start = random_start(chance, inst)
+    else:
+        inst, start = large_instance(chance)
+    every = range(len(inst.closed))
+    write("m", inst.text())
+    write("i", joined(start))
+    write("c", joined([chance.choice(every) for _ in range(chance.randint(0, 1 + len(every) // 3))], "\n"))
+    new = list(start)
+    for _ in range(chance.randint(0, 3)):
+        new[chance.randrange(len(new))] = chance.choice(every)
+    write("n", joined(new, "\n"))
+    closing = chance.choice([[], ["--closed", "c"]])
+    both(program, plain, ["bound", "m"], kinds)
+    both(program, plain, ["bound", "m", "i"] + closing, kinds)
+    both(program, plain, ["check", "m", "i", "n"] + closing, kinds)
+    if chance.random() < 0.1:
+        both(program, plain, ["trial", str(chance.getrandbits(64))], kinds)
+    for count in (1, chance.choice([1, 2, 3, 4, 8, 16])):
+        slack, drawing = chance.choice([0, 5, 1000, 10**6, LARGEST_WORD]), chance.choice(["1", "2"])
+        lots = [random_lot(chance)[0] for _ in range(count)]
+        if not is_small and count == 1:
+            lots = [f"{chance.getrandbits(64)}:{chance.choice([1, 50, 1000])}"]
+        options = chance.choice([[], ["--slack", str(slack)]]) + closing + chance.choice([[], ["--draws", drawing]])
+        words = ["m", "i"] + options + lots
+
+        def is_legal(printed):
+            told = subprocess.run([program, "verify", "m", "i", "report"] + words[2:], capture_output=True, text=True, check=False)
+            if told.returncode != 0:
+                raise ValueError(told.stderr.strip())
+            if is_small:
+                judge("m", "i", dict(zip(options[::2], options[1::2])), lots, printed)
+
+        both(program, plain, ["solve"] + words, kinds, is_legal if count > 1 else None)
+
+
+USAGE = "usage: compare.py [--plain] PROGRAM FIRST_SEED INSTANCES"
+
+
 def main():
-    if sys.argv[1:] in (["-h"], ["--help"]):
+    words = sys.argv[1:]
+    if words in (["-h"], ["--help"]):
         sys.exit(print(__doc__.strip()))
-    if len(sys.argv) != 4 or not all(word.isdigit() for word in sys.argv[2:]):
-        print("usage: compare.py PROGRAM FIRST_SEED INSTANCES", file=sys.stderr)
+    with_plain = words[:1] == ["--plain"]
+    words = words[with_plain:]
+    if len(words) != 3 or not all(word.isdigit() for word in words[1:]):
+        print(USAGE, file=sys.stderr)
         sys.exit(2)
-    if not os.access(sys.argv[1], os.X_OK):
-        sys.exit(f"compare.py: {sys.argv[1]} is no program")
-    program, seed, instances = os.path.abspath(sys.argv[1]), int(sys.argv[2]), int(sys.argv[3])
+    if not os.access(words[0], os.X_OK):
+        sys.exit(f"compare.py: {words[0]} is no program")
+    program, seed, instances = os.path.abspath(words[0]), int(words[1]), int(words[2])
+    plain = plain_program() if with_plain else None
+    if with_plain and plain is None:
+        sys.exit("compare.py: there is no cargo to build the plain program")
     kinds = Counter()
     folder = tempfile.mkdtemp()
     os.chdir(folder)
     for number in range(seed, seed + instances):
-        compare_instance(program, random.Random(number), kinds)
+        if with_plain:
+            compare_with_plain(program, plain, random.Random(number), kinds)
+        else:
+            compare_instance(program, random.Random(number), kinds)
     shutil.rmtree(folder)
     told = ", ".join(f"{kind} {count}" for kind, count in sorted(kinds.items()))
-    print(f"{instances} instances, no difference; causes and moves met: {told}")
+    met = "commands and statuses" if with_plain else "causes and moves met"
+    print(f"{instances} instances, no difference; {met}: {told}")
 
 
 if __name__ == "__main__":

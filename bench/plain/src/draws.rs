@@ -1,0 +1,98 @@
+//! Words of a seed, lots, and by how much a proposal may raise the cost.
+
+/// xoshiro256++, whose state is four words of splitmix64.
+pub struct Stream([u64; 4]);
+
+impl Stream {
+    pub fn new(seed: u64) -> Stream {
+        let mut at = seed;
+        Stream(std::array::from_fn(|_| {
+            at = at.wrapping_add(0x9e37_79b9_7f4a_7c15);
+            let word = (at ^ at >> 30).wrapping_mul(0xbf58_476d_1ce4_e5b9);
+            let word = (word ^ word >> 27).wrapping_mul(0x94d0_49bb_1331_11eb);
+            word ^ word >> 31
+        }))
+    }
+    pub fn next(&mut self) -> u64 {
+        let [a, b, c, d] = self.0;
+        let (x, y) = (c ^ a, d ^ b);
+        self.0 = [a ^ y, b ^ x, x ^ b << 17, y.rotate_left(45)];
+        a.wrapping_add(d).rotate_left(23).wrapping_add(a)
+    }
+}
+
+pub enum Lot {
+    /// A seed and a budget.
+    Seeded(u64, u64),
+    /// Eight words for each proposal.
+    Written(Vec<u64>),
+}
+
+impl Lot {
+    pub fn budget(&self) -> u64 {
+        match self {
+            Lot::Seeded(_, budget) => *budget,
+            Lot::Written(words) => words.len() as u64 / 8,
+        }
+    }
+}
+
+pub struct Lots {
+    pub slack: u64,
+    pub is_first_drawing: bool,
+    pub all: Vec<Lot>,
+}
+
+impl Lots {
+    /// By how much proposal k of a budget may raise the cost.
+    pub fn allowance(&self, budget: u64, k: u64) -> u64 {
+        match self.slack.checked_mul(budget - 1 - k) {
+            Some(0) => 0,
+            Some(product) => product / budget,
+            None => (u128::from(self.slack) * u128::from(budget - 1 - k) / u128::from(budget)) as u64,
+        }
+    }
+}
+
+/// The words of one proposal after another; zeros if there are no more.
+pub enum Draws<'l> {
+    Seeded(Stream),
+    Written(&'l [u64]),
+}
+
+impl<'l> Draws<'l> {
+    pub fn new(lot: &'l Lot) -> Draws<'l> {
+        match lot {
+            Lot::Seeded(seed, _) => Draws::Seeded(Stream::new(*seed)),
+            Lot::Written(words) => Draws::Written(words),
+        }
+    }
+    pub fn next(&mut self, to: &mut [u64; 8]) {
+        match self {
+            Draws::Seeded(stream) => to.iter_mut().for_each(|word| *word = stream.next()),
+            Draws::Written(words) => {
+                let (eight, rest) = words.split_first_chunk().unwrap_or((&[0; 8], &[]));
+                (*to, *words) = (*eight, rest);
+            }
+        }
+    }
+}
+
+/// Remainders by one number, without a division.
+#[derive(Clone, Copy)]
+pub struct Remainder {
+    by: u64,
+    share: u64,
+}
+
+impl Remainder {
+    pub fn new(by: usize) -> Remainder {
+        Remainder { by: by as u64, share: u64::MAX / by as u64 }
+    }
+    pub fn of(self, word: u64) -> usize {
+        // The quotient, or one less.
+        let quotient = (u128::from(word) * u128::from(self.share) >> 64) as u64;
+        let rest = word - quotient * self.by;
+        rest.min(rest.wrapping_sub(self.by)) as usize
+    }
+}

@@ -1,0 +1,215 @@
+//! Lines that are printed.
+
+use crate::moves::{Cause, Money, Move, Verdict};
+use std::io::Write;
+
+/// Four digits for each number below 10,000.
+static FOURS: [u32; 10_000] = {
+    let mut all = [0; 10_000];
+    let mut n = 0;
+    while n < 10_000 {
+        all[n] =
+            u32::from_le_bytes([b'0'; 4]) + (n / 1_000 | n / 100 % 10 << 8 | n / 10 % 10 << 16 | n % 10 << 24) as u32;
+        n += 1;
+    }
+    all
+};
+
+/// The digits of a number below 10,000, the first one lowest, and how many there are.
+fn digits_of(n: u32) -> (u32, u32) {
+    let length = 1 + u32::from(n > 9) + u32::from(n > 99) + u32::from(n > 999);
+    (FOURS[n as usize] >> (32 - 8 * length), length)
+}
+
+/// The end of a text to which one line is written.
+struct Pen(*mut u8);
+
+/// Bytes that a line has at most, with some that are written for nothing.
+const LINE: usize = 512;
+
+impl Pen {
+    fn write<const N: usize>(&mut self, bytes: [u8; N], length: usize) {
+        // SAFETY: a line has fewer bytes than LINE, and there is room for so many.
+        unsafe {
+            self.0.cast::<[u8; N]>().write_unaligned(bytes);
+            self.0 = self.0.add(length);
+        }
+    }
+    fn word<const N: usize>(&mut self, word: &[u8; N]) {
+        self.write(*word, N);
+    }
+    fn small(&mut self, n: u32) {
+        let (digits, length) = digits_of(n);
+        self.write(digits.to_le_bytes(), length as usize);
+    }
+    fn four(&mut self, n: u64) {
+        self.write(FOURS[n as usize].to_le_bytes(), 4);
+    }
+    fn long(&mut self, n: u64) {
+        const E: u64 = 10_000;
+        if n < E {
+            self.small(n as u32);
+        } else if n < E * E {
+            self.small((n / E) as u32);
+            self.four(n % E);
+        } else if n < E * E * E {
+            self.small((n / (E * E)) as u32);
+            self.four(n / E % E);
+            self.four(n % E);
+        } else {
+            self.huge(n.into());
+        }
+    }
+    fn cost<M: Money>(&mut self, cost: M) {
+        match u64::try_from(cost.wide()) {
+            Ok(cost) => self.long(cost),
+            Err(_) => self.huge(cost.wide()),
+        }
+    }
+    #[cold]
+    fn huge(&mut self, n: i128) {
+        n.to_string().bytes().for_each(|byte| self.word(&[byte]));
+    }
+    /// A word and numbers, with a space before each.
+    fn told<const N: usize, const K: usize>(&mut self, word: &[u8; N], numbers: [u32; K]) {
+        self.word(word);
+        for n in numbers {
+            self.word(b" ");
+            self.long(n.into());
+        }
+    }
+    fn cause(&mut self, cause: &Cause) {
+        match *cause {
+            Cause::Over(is_transient, machine, resource, used, capacity) => {
+                match is_transient {
+                    true => self.told(b"transient", [machine, resource]),
+                    false => self.told(b"capacity", [machine, resource]),
+                }
+                self.word(b" ");
+                self.long(used);
+                self.told(b"", [capacity]);
+            }
+            Cause::Dependency(service, need, hood) => self.told(b"dependency", [service, need, hood]),
+            Cause::Spread(service, has, wants) => self.told(b"spread", [service, has, wants]),
+            Cause::Conflict(service, machine) => self.told(b"conflict", [service, machine]),
+            Cause::Closed(process, machine) => self.told(b"closed", [process, machine]),
+            Cause::Repeat(process) => self.told(b"repeat", [process]),
+            Cause::Same(process) => self.told(b"same", [process]),
+        }
+    }
+    fn entry<M: Money>(&mut self, taken: &Move, verdict: &Verdict<M>) {
+        match taken.steps().len() {
+            1 => self.word(b" shift "),
+            2 => self.word(b" swap "),
+            _ => self.word(b" chain "),
+        }
+        for step in taken.steps() {
+            self.long(step.process.into());
+            self.word(b":");
+            self.small(step.from);
+            self.word(b">");
+            self.small(step.to);
+            self.word(b" ");
+        }
+        match verdict {
+            Verdict::Done(cost) => {
+                self.word(b"done ");
+                self.cost(*cost);
+            }
+            Verdict::Broken(cause) => {
+                self.word(b"refused ");
+                self.cause(cause);
+            }
+            Verdict::Rise(before, after, allowed) => {
+                self.word(b"refused rise ");
+                self.cost(*before);
+                self.word(b" ");
+                self.cost(*after);
+                self.word(b" ");
+                self.long(*allowed);
+            }
+        }
+        self.word(b"\n");
+    }
+}
+
+/// A number that goes up by one, with its digits.
+pub struct Counter {
+    n: u32,
+    digits: u64,
+    length: u32,
+}
+
+impl Counter {
+    pub fn new() -> Counter {
+        Counter { n: 0, digits: b'0'.into(), length: 1 }
+    }
+    pub fn go_on(&mut self) {
+        self.n += 1;
+        if self.n % 10 != 0 {
+            self.digits += 1 << (8 * (self.length - 1));
+            return;
+        }
+        let (high, low) = (self.n / 10_000, self.n % 10_000);
+        let (digits, length) = digits_of(if high == 0 { low } else { high });
+        (self.digits, self.length) = (digits.into(), length);
+        if high > 0 {
+            self.digits |= u64::from(FOURS[low as usize]) << (8 * length);
+            self.length += 4;
+        }
+    }
+}
+
+/// Text that grows by lines.
+pub struct Text(pub Vec<u8>);
+
+impl Text {
+    fn line(&mut self, write: impl FnOnce(&mut Pen)) -> usize {
+        self.0.reserve(LINE);
+        let length = self.0.len();
+        // SAFETY: there is room for LINE more bytes, and those up to the pen are written.
+        unsafe {
+            let mut pen = Pen(self.0.as_mut_ptr().add(length));
+            write(&mut pen);
+            let now = pen.0.offset_from(self.0.as_ptr()) as usize;
+            self.0.set_len(now);
+            now - length
+        }
+    }
+    /// The line of the only worker's proposal, which has one number as its place, its own and that of its plan.
+    pub fn entry_alone<M: Money>(&mut self, at: &Counter, taken: &Move, verdict: &Verdict<M>) {
+        self.line(|pen| {
+            let (digits, length) = (at.digits.to_le_bytes(), at.length as usize);
+            pen.write(digits, length);
+            pen.word(b" 0 ");
+            pen.write(digits, length);
+            pen.word(b" ");
+            pen.write(digits, length);
+            pen.entry(taken, verdict);
+        });
+    }
+    /// The line of an entry with its place, worker, number and the place of its plan. Gives the number of its bytes.
+    pub fn entry<M: Money>(&mut self, place: u32, front: [u32; 3], taken: &Move, verdict: &Verdict<M>) -> usize {
+        self.line(|pen| {
+            pen.long(place.into());
+            pen.told(b"", front);
+            pen.entry(taken, verdict);
+        })
+    }
+    pub fn named(&mut self, name: &str, number: u128) {
+        writeln!(self.0, "{name} {number}").expect("memory");
+    }
+    pub fn parts(&mut self, parts: &[u128; 5]) {
+        self.named("cost", parts.iter().sum());
+        for (name, &part) in ["load", "balance", "process", "service", "machine"].iter().zip(parts) {
+            self.named(name, part);
+        }
+    }
+    pub fn list(&mut self, list: &[u32]) {
+        self.0.extend_from_slice(b"assignment");
+        for &m in list {
+            self.line(|pen| pen.told(b"", [m]));
+        }
+        self.0.push(b'\n');
+    }
+}

@@ -1,0 +1,196 @@
+//! The numbers of a file. Most have at most four digits: a table says, for each pattern of digits and white bytes among
+//! sixteen bytes, where the digits of its first four numbers are.
+
+use crate::lanes::{digits_of, four_numbers};
+use std::fs::File;
+use std::io::{ErrorKind, Read};
+
+/// Why there is no number.
+#[derive(Debug)]
+pub enum Fault {
+    Read,
+    Bad,
+}
+
+const LONGEST: usize = 536_870_912;
+/// Bytes that are read at once.
+const PIECE: usize = 1 << 17;
+/// White bytes behind the last number, so that a block may be read at each place.
+const AFTER: usize = 128;
+
+/// The patterns that were met: two words for each, first where the digits are (`four_numbers`), and then a byte each for how
+/// many numbers there are, how many bytes are done with, 1, and whether a longer number begins there.
+pub struct Patterns {
+    words: Vec<u128>,
+    /// The first word whose address is that of two words.
+    first: usize,
+}
+
+impl Patterns {
+    pub fn new() -> Patterns {
+        // Zeros take memory only where they are looked at.
+        let words = vec![0; (2 << 16) + 1];
+        let first = words.as_ptr() as usize / 16 % 2;
+        Patterns { words, first }
+    }
+    #[cold]
+    fn meet(&mut self, bits: u16) -> u32 {
+        let (mut places, mut count, mut from, mut passed, mut is_long) = ([128; 16], 0, 0, 16, false);
+        while count < 4 {
+            from += (u32::from(bits) >> from).trailing_zeros().min(16 - from);
+            let length = (!(u32::from(bits) >> from)).trailing_zeros();
+            passed = from;
+            if from == 16 || length > 4 || from + length == 16 {
+                is_long = from < 16 && count == 0 && (from == 0 || length > 4);
+                break;
+            }
+            (0..length).for_each(|k| places[(4 * count + 4 - length + k) as usize] = (from + k) as u8);
+            count += 1;
+            from += length;
+            passed = from;
+        }
+        let told = count | passed << 8 | 1 << 16 | u32::from(is_long) << 24;
+        let word = self.first + 2 * bits as usize;
+        (self.words[word], self.words[word + 1]) = (u128::from_le_bytes(places), told.into());
+        told
+    }
+    /// Gives the numbers of the first `end` bytes, which end with a white one. AFTER white bytes follow.
+    fn read(&mut self, bytes: &[u8], end: usize, to: &mut Vec<u32>) -> Result<(), Fault> {
+        to.clear();
+        // Each number has two bytes at least, and four are written at once.
+        to.reserve(end / 2 + 64);
+        let out = to.as_mut_ptr();
+        let (mut at, mut made) = (0, 0);
+        while at < end {
+            let block: &[u8; 64] = bytes[at..at + 64].try_into().expect("a block");
+            let (digits, is_fine) = digits_of(block);
+            if !is_fine {
+                return Err(Fault::Bad);
+            }
+            let mut from = 0;
+            while from <= 48 {
+                let word = self.first + 2 * ((digits >> from) as u16) as usize;
+                let mut told = self.words[word + 1] as u32;
+                if told >> 16 != 1 {
+                    told = if told == 0 { self.meet((digits >> from) as u16) } else { told };
+                    if told >> 24 == 1 {
+                        at += from + (told >> 8 & 255) as usize;
+                        from = 0;
+                        // SAFETY: as below.
+                        unsafe { *out.add(made) = long_number(bytes, &mut at)? };
+                        made += 1;
+                        break;
+                    }
+                }
+                let sixteen: &[u8; 16] = block[from..from + 16].try_into().expect("sixteen");
+                // SAFETY: there is room for a number for every two bytes, and 64 more.
+                unsafe { *out.add(made).cast() = four_numbers(sixteen, self.words[word]) };
+                made += (told & 255) as usize;
+                from += (told >> 8 & 255) as usize;
+            }
+            at += from;
+        }
+        // SAFETY: these were written.
+        unsafe { to.set_len(made) };
+        Ok(())
+    }
+}
+
+/// The number that begins at a place, which goes behind its digits.
+fn long_number(bytes: &[u8], place: &mut usize) -> Result<u32, Fault> {
+    let mut value = 0;
+    while bytes[*place].is_ascii_digit() {
+        value = value * 10 + u64::from(bytes[*place] - b'0');
+        if value > u32::MAX.into() {
+            return Err(Fault::Bad);
+        }
+        *place += 1;
+    }
+    Ok(value as u32)
+}
+
+/// The numbers of a file in their order, read in pieces.
+pub struct Numbers<'p> {
+    file: Option<File>,
+    /// How many bytes were read, and how many of the last ones begin a number that isn't whole.
+    length: usize,
+    held: usize,
+    bytes: Vec<u8>,
+    patterns: &'p mut Patterns,
+    values: Vec<u32>,
+    next: usize,
+}
+
+impl<'p> Numbers<'p> {
+    pub fn open(name: &str, patterns: &'p mut Patterns) -> Result<Numbers<'p>, Fault> {
+        let file = File::open(name).map_err(|_| Fault::Read)?;
+        Ok(Numbers { file: Some(file), bytes: vec![0; PIECE + AFTER], ..Numbers::of(Vec::new(), patterns) })
+    }
+    pub fn of(values: Vec<u32>, patterns: &'p mut Patterns) -> Numbers<'p> {
+        Numbers { file: None, length: 0, held: 0, bytes: Vec::new(), patterns, values, next: 0 }
+    }
+    /// How many numbers are at hand: none only if there are no more.
+    fn at_hand(&mut self) -> Result<usize, Fault> {
+        while self.next == self.values.len() && self.file.is_some() {
+            self.refill()?;
+        }
+        Ok(self.values.len() - self.next)
+    }
+    #[cold]
+    fn refill(&mut self) -> Result<(), Fault> {
+        if self.held + AFTER == self.bytes.len() {
+            self.bytes.resize(2 * self.bytes.len(), 0);
+        }
+        let most = self.bytes.len() - AFTER;
+        let got = match self.file.as_mut().map(|file| file.read(&mut self.bytes[self.held..most])) {
+            Some(Err(fault)) if fault.kind() == ErrorKind::Interrupted => return Ok(()),
+            Some(Ok(got)) => got,
+            _ => return Err(Fault::Read),
+        };
+        self.length += got;
+        let have = self.held + got;
+        let mut end = have;
+        if got == 0 {
+            self.file = None;
+            (self.bytes[have], end) = (b' ', have + 1);
+        } else if self.length > LONGEST {
+            return Err(Fault::Bad);
+        }
+        while end > 0 && self.bytes[end - 1].is_ascii_digit() {
+            end -= 1;
+        }
+        self.held = have.saturating_sub(end);
+        let rest = self.bytes[have - self.held..have].to_vec();
+        self.bytes[end..end + AFTER - 1].fill(b' ');
+        self.patterns.read(&self.bytes, end, &mut self.values)?;
+        self.bytes[..self.held].copy_from_slice(&rest);
+        self.next = 0;
+        Ok(())
+    }
+    /// The next number, or Bad if there is none.
+    pub fn next(&mut self) -> Result<u32, Fault> {
+        Ok(self.some(1)?[0])
+    }
+    pub fn within(&mut self, least: usize, most: usize) -> Result<usize, Fault> {
+        let value = self.next()? as usize;
+        if (least..=most).contains(&value) { Ok(value) } else { Err(Fault::Bad) }
+    }
+    /// Some of the next numbers: at least one, at most so many.
+    pub fn some(&mut self, most: usize) -> Result<&[u32], Fault> {
+        let count = most.min(self.at_hand()?);
+        self.next += count;
+        if count == 0 { Err(Fault::Bad) } else { Ok(&self.values[self.next - count..self.next]) }
+    }
+    pub fn fill(&mut self, mut to: &mut [u32]) -> Result<(), Fault> {
+        while !to.is_empty() {
+            let some = self.some(to.len())?;
+            let (front, rest) = to.split_at_mut(some.len());
+            front.copy_from_slice(some);
+            to = rest;
+        }
+        Ok(())
+    }
+    pub fn has_ended(&mut self) -> Result<bool, Fault> {
+        Ok(self.at_hand()? == 0)
+    }
+}

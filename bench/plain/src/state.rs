@@ -1,0 +1,260 @@
+//! A worker's replica: a list with all that is kept for it.
+
+use crate::draws::Remainder;
+use crate::instance::{Ground, Instance, SMALL, Service, WINDOW};
+use crate::lanes::{Eight, Four, flat};
+use crate::moves::{Greatest, Money, Move};
+
+/// One label of each process, in the order of the slots, and for large services how many have each label.
+pub struct Places {
+    at: Vec<u16>,
+    table: Vec<u16>,
+    labels: usize,
+}
+
+impl Places {
+    fn new(ground: &Ground, label: impl Fn(usize) -> u16) -> Places {
+        let mut at: Vec<u16> = ground.members.all().iter().map(|&p| label(p as usize)).collect();
+        let (labels, mut table) = (ground.hood.len(), Vec::new());
+        for service in ground.services.iter().filter(|service| service.large != SMALL) {
+            let row = table.len();
+            table.resize(row + labels, 0);
+            for &label in &at[service.first as usize..][..service.size as usize] {
+                table[row + label as usize] += 1;
+            }
+        }
+        at.extend([0; 8]);
+        Places { at, table, labels }
+    }
+    /// How many processes of a service have a label.
+    #[inline(always)]
+    pub fn count(&self, service: &Service, label: u16) -> u32 {
+        if service.large != SMALL {
+            return self.table[service.large as usize * self.labels + label as usize].into();
+        }
+        let labels = Eight::all(label);
+        let (mut first, mut left, mut count) = (service.first as usize, service.size, 0);
+        loop {
+            let same = Eight::load(&self.at[first..]).same(labels);
+            if left <= 8 {
+                return (count + (same & ((1 << (2 * left)) - 1)).count_ones()) / 2;
+            }
+            count += same.count_ones();
+            first += 8;
+            left -= 8;
+        }
+    }
+    fn change(&mut self, service: &Service, slot: u32, label: u16) {
+        let before = std::mem::replace(&mut self.at[slot as usize], label);
+        if service.large != SMALL {
+            let row = service.large as usize * self.labels;
+            self.table[row + before as usize] -= 1;
+            self.table[row + label as usize] += 1;
+        }
+    }
+}
+
+pub struct State<'a, M, const Q: usize> {
+    pub inst: &'a Instance,
+    pub ground: &'a Ground,
+    pub at: Vec<u32>,
+    /// For each machine three rows: what is free; what is free beside those that left too, of transient resources, and the
+    /// greatest number of the others; and by how much the capacity is above the safety capacity.
+    rows: Vec<[Four; Q]>,
+    /// Load and balance cost of each machine.
+    pub cost: Vec<M>,
+    weights: [Four; Q],
+    /// All ones for transient resources.
+    pub transient: [Four; Q],
+    pub has_transient: bool,
+    /// For each resource, and twice for each balance objective, by machine going round: how much a machine takes before its
+    /// cost rises, divided by 2^`power`, rounded up and cut to 16 bits.
+    pub filters: Vec<u16>,
+    pub stride: usize,
+    pub power: u32,
+    /// A way shifted by the first number, times the second one, is at most its cost divided by 2^`power`, times 2^16.
+    pub way_share: (u32, u16),
+    pub on: Places,
+    pub locations: Places,
+    pub hoods: Places,
+    /// In how many locations each service is.
+    pub spread: Vec<u32>,
+    pub greatest: Greatest,
+    pub by_process: Remainder,
+    pub by_machine: Remainder,
+}
+
+/// Whether no sum of costs is above 2^61.
+pub fn is_narrow(inst: &Instance) -> bool {
+    let most = |numbers: &[u32]| u128::from(numbers.iter().copied().max().unwrap_or(0));
+    let (machines, processes, capacity) = (inst.machines as u128, inst.processes as u128, most(flat(&inst.capacity)));
+    let [of_processes, of_services, of_ways] = inst.weights.map(u128::from);
+    let mut sum =
+        processes * (of_processes * most(&inst.process_cost) + of_services + of_ways * u128::from(inst.most_way()));
+    for &weight in &inst.load_weight {
+        sum += u128::from(weight) * capacity * machines;
+    }
+    for balance in &inst.balances {
+        sum += u128::from(balance.weight) * u128::from(balance.target) * capacity * machines;
+    }
+    sum < 1 << 61
+}
+
+impl<'a, M: Money, const Q: usize> State<'a, M, Q> {
+    pub fn new(inst: &'a Instance, ground: &'a Ground, initial: &[u32]) -> State<'a, M, Q> {
+        let machines = inst.machines;
+        let fours = |number: &dyn Fn(usize) -> u32| -> [Four; Q] {
+            std::array::from_fn(|quad| {
+                let number = |k| if 4 * quad + k < inst.resources { number(4 * quad + k) } else { 0 };
+                Four::of(std::array::from_fn(number))
+            })
+        };
+        let transient = fours(&|r| if inst.transient[r] { u32::MAX } else { 0 });
+        let mut rows = Vec::with_capacity(3 * machines);
+        for (all, safe) in inst.capacity.as_chunks().0.iter().zip(inst.safety.as_chunks::<Q>().0) {
+            rows.extend([*all, *all, std::array::from_fn(|i| all[i].above(safe[i]))]);
+        }
+        for (&m, required) in initial.iter().zip(inst.requirement.as_chunks::<Q>().0) {
+            let free = &mut rows[3 * m as usize];
+            (0..Q).for_each(|i| free[i] = free[i].minus(required[i]));
+        }
+        for m in 0..machines {
+            let others = |i: usize| Four::all(u32::MAX).minus(transient[i]);
+            rows[3 * m + 1] = std::array::from_fn(|i| rows[3 * m][i].and(transient[i]).plus(others(i)));
+        }
+        let stride = machines + WINDOW - 1;
+        let power = power_of(inst);
+        let mut state = State {
+            inst,
+            ground,
+            at: initial.to_vec(),
+            rows,
+            cost: vec![M::default(); machines],
+            weights: fours(&|r| inst.load_weight[r]),
+            transient,
+            has_transient: inst.transient.contains(&true),
+            filters: vec![0; (inst.resources + 2 * inst.balances.len()) * stride],
+            stride,
+            power,
+            way_share: way_share(inst, power),
+            on: Places::new(ground, |p| initial[p] as u16),
+            locations: Places::new(ground, |p| ground.location[initial[p] as usize]),
+            hoods: Places::new(ground, |p| ground.hood[initial[p] as usize]),
+            spread: Vec::new(),
+            greatest: Greatest::new(inst.services, inst.processes),
+            by_process: Remainder::new(inst.processes),
+            by_machine: Remainder::new(machines),
+        };
+        for service in &ground.services {
+            let mut labels = state.locations.at[service.first as usize..][..service.size as usize].to_vec();
+            labels.sort_unstable();
+            labels.dedup();
+            state.spread.push(labels.len() as u32);
+        }
+        (0..machines as u32).for_each(|m| state.renew(m));
+        state
+    }
+    #[inline(always)]
+    pub fn rows(&self, m: u32) -> &[[Four; Q]; 3] {
+        self.rows[3 * m as usize..].first_chunk().expect("three rows")
+    }
+    /// Load and balance cost of a machine with this free.
+    #[inline(always)]
+    pub fn cost_of(&self, m: u32, free: &[Four; Q]) -> M {
+        let ([_, _, gap], numbers) = (self.rows(m), flat(free));
+        let mut sum = M::default();
+        if M::IS_NARROW {
+            let load = (0..Q).map(|i| gap[i].above(free[i]).products(self.weights[i]));
+            sum += M::product(1, load.fold(Four::all(0), Four::plus_long).sum_long());
+        } else {
+            for ((&gap, &free), &weight) in flat(gap).iter().zip(numbers).zip(&self.inst.load_weight) {
+                sum += M::product(weight, gap.saturating_sub(free).into());
+            }
+        }
+        for balance in &self.inst.balances {
+            let wanted = u64::from(balance.target) * u64::from(numbers[balance.first]);
+            sum += M::product(balance.weight, wanted.saturating_sub(numbers[balance.second].into()));
+        }
+        sum
+    }
+    /// Makes the cost and the filters of a machine anew.
+    fn renew(&mut self, m: u32) {
+        let (inst, free) = (self.inst, self.rows(m)[0]);
+        self.cost[m as usize] = self.cost_of(m, &free);
+        let (m, numbers) = (m as usize, flat(&free));
+        let (power, mut filters) = (self.power, self.filters.chunks_exact_mut(self.stride));
+        let mut set = |weight: u32, value: u64| {
+            let value = u64::from(weight).saturating_mul(value);
+            let up = u64::from(value & ((1 << power) - 1) != 0);
+            let filter = filters.next().expect("a filter")[m..].iter_mut();
+            filter.step_by(inst.machines).for_each(|at| *at = ((value >> power) + up).min(65_535) as u16);
+        };
+        let (all, safe) = (inst.numbers(&inst.capacity, m), inst.numbers(&inst.safety, m));
+        for (r, &weight) in inst.load_weight.iter().enumerate() {
+            set(weight, (u64::from(numbers[r]) + u64::from(safe[r])).saturating_sub(all[r].into()));
+        }
+        for balance in &inst.balances {
+            let wanted = u64::from(balance.target) * u64::from(numbers[balance.first]);
+            let has = u64::from(numbers[balance.second]);
+            set(balance.weight, wanted.saturating_sub(has));
+            set(balance.weight, has.saturating_sub(wanted));
+        }
+    }
+    /// Makes a move that breaks nothing.
+    pub fn make(&mut self, done: &Move) {
+        let (inst, ground) = (self.inst, self.ground);
+        for step in done.steps() {
+            let (p, from, to) = (step.process as usize, step.from as usize, step.to as usize);
+            let process = ground.processes[p];
+            let service = &ground.services[process.service as usize];
+            // Between the steps a row may be below zero, so numbers go round.
+            let required: &[Four; Q] = &inst.requirement.as_chunks().0[p];
+            let mut change = |m: u32, change: fn(Four, Four) -> Four| {
+                let [free, room, _]: &mut [[Four; Q]; 3] = self.rows[3 * m as usize..].first_chunk_mut().expect("rows");
+                for i in 0..Q {
+                    free[i] = change(free[i], required[i]);
+                    if m != process.home {
+                        room[i] = change(room[i], required[i].and(self.transient[i]));
+                    }
+                }
+            };
+            change(step.from, Four::plus);
+            change(step.to, Four::minus);
+            self.on.change(service, process.slot, step.to as u16);
+            let (left, entered) = (ground.location[from], ground.location[to]);
+            if left != entered {
+                let spread = &mut self.spread[process.service as usize];
+                *spread += u32::from(self.locations.count(service, entered) == 0);
+                *spread -= u32::from(self.locations.count(service, left) == 1);
+                self.locations.change(service, process.slot, entered);
+            }
+            self.hoods.change(service, process.slot, ground.hood[to]);
+            let moved = self.greatest.of(process.service);
+            if step.from == process.home {
+                self.greatest.change(process.service, moved + 1);
+            } else if step.to == process.home {
+                self.greatest.change(process.service, moved - 1);
+            }
+            self.at[p] = step.to;
+        }
+        for step in done.steps() {
+            self.renew(step.from);
+            self.renew(step.to);
+        }
+    }
+}
+
+/// By which power of two the filters are divided, so that what a usual process adds has a dozen bits.
+fn power_of(inst: &Instance) -> u32 {
+    let mut sum = 0u128;
+    for row in flat(&inst.requirement).chunks_exact(inst.quads * 4) {
+        sum += row.iter().zip(&inst.load_weight).map(|(&q, &w)| u128::from(q) * u128::from(w)).sum::<u128>();
+    }
+    (sum / inst.processes as u128 / 4_096 + 1).ilog2()
+}
+
+fn way_share(inst: &Instance, power: u32) -> (u32, u16) {
+    let share = u64::from(inst.weights[2]) << 16 >> power;
+    let shift = (0..15).find(|shift| share >> shift < 65_536).unwrap_or(15);
+    (shift, (share >> shift).min(65_535) as u16)
+}
