@@ -6,19 +6,17 @@ use crate::lanes::fetch;
 use crate::lines::{Counter, Text};
 use crate::moves::{Greatest, Money, Move, Plan, Verdict};
 use crate::state::State;
-use std::collections::VecDeque;
 use std::io::{self, Write};
 use std::sync::{Mutex, MutexGuard};
 
-/// The numbers of a journal. Its lines are with the workers.
+/// The numbers of a journal, which has so many entries. Their lines are with the workers.
 struct Journal<'a, M> {
     inst: &'a Instance,
     ground: &'a Ground,
-    /// How many entries there are.
     place: u32,
-    /// The moves that were done, with their places.
+    /// The moves that were done, and how many entries there were then.
     done: Vec<(u32, Move)>,
-    /// One more than the place of the last entry that touched a machine, then a service, and the greatest of all.
+    /// The version of each machine, then of each service, and the greatest one.
     versions: Vec<u32>,
     newest: u32,
     greatest: Greatest,
@@ -27,40 +25,29 @@ struct Journal<'a, M> {
     best_at: u32,
 }
 
-/// What is kept of a run.
+/// What is kept of a run, and each worker's lines with the place and the bytes of each.
 pub struct Run {
     pub best: Vec<u32>,
     pub best_at: u32,
     pub entries: u32,
     pub done: usize,
-    lines: Vec<Lines>,
+    lines: Vec<(Text, Vec<(u32, u32)>)>,
 }
 
-/// The lines of a worker's entries, and the place and the bytes of each.
-struct Lines {
-    text: Text,
-    each: Vec<(u32, u32)>,
-}
-
-impl<'a, M: Money> Journal<'a, M> {
-    fn new(inst: &'a Instance, ground: &'a Ground, cost: M) -> Journal<'a, M> {
-        let versions = vec![0; inst.machines + inst.services];
-        let greatest = Greatest::new(inst.services, inst.processes);
-        Journal { inst, ground, place: 0, done: vec![], versions, newest: 0, greatest, cost, least: cost, best_at: 0 }
-    }
+impl<M: Money> Journal<'_, M> {
     fn is_stale(&self, taken: &Move, planned: u32) -> bool {
         let (machines, services) = self.versions.split_at(self.inst.machines);
         taken.steps().iter().any(|step| {
-            let number = self.ground.processes[step.process as usize].service;
+            let service = self.ground.processes[step.process as usize].service;
             let is_newer = |&service: &u32| services[service as usize] > planned;
-            machines[step.from as usize] > planned
-                || machines[step.to as usize] > planned
-                || is_newer(&number)
-                || self.ground.needs.of(number).iter().any(is_newer)
-                || self.ground.dependants.of(number).iter().any(is_newer)
+            machines[step.from as usize].max(machines[step.to as usize]) > planned
+                || is_newer(&service)
+                || self.ground.needs.of(service).iter().any(is_newer)
+                || self.ground.dependants.of(service).iter().any(is_newer)
         })
     }
     /// Adds the entry of a plan whose guards are untouched.
+    #[inline(always)]
     fn record(&mut self, plan: &Plan<M>, allowed: u64) -> Verdict<M> {
         self.place += 1;
         let change = match &plan.weighed {
@@ -68,34 +55,23 @@ impl<'a, M: Money> Journal<'a, M> {
             Ok(change) => change,
         };
         let growth = i128::from(self.greatest.growth(change.moved())) * i128::from(self.inst.weights[1]);
-        let after = self.cost + change.local + M::of(growth);
-        if after - self.cost > M::of(allowed.into()) {
+        let rise = change.local + M::of(growth);
+        let after = self.cost + rise;
+        if rise > M::of(allowed.into()) {
             return Verdict::Rise(self.cost, after, allowed);
         }
         for step in plan.taken.steps() {
             let service = self.ground.processes[step.process as usize].service as usize;
-            for guard in [step.from as usize, step.to as usize, self.inst.machines + service] {
-                self.versions[guard] = self.place;
-            }
+            let guards = [step.from as usize, step.to as usize, self.inst.machines + service];
+            guards.into_iter().for_each(|guard| self.versions[guard] = self.place);
         }
-        for moved in change.moved() {
-            self.greatest.change(moved.service, moved.after);
-        }
+        change.moved().iter().for_each(|&(service, _, after)| self.greatest.change(service, after));
         self.done.push((self.place, plan.taken));
-        self.newest = self.place;
-        self.cost = after;
+        (self.newest, self.cost) = (self.place, after);
         if after < self.least {
-            self.least = after;
-            self.best_at = self.place;
+            (self.least, self.best_at) = (after, self.place);
         }
         Verdict::Done(after)
-    }
-    fn end(self, initial: &[u32], lines: Vec<Lines>) -> Run {
-        let mut best = initial.to_vec();
-        for (_, done) in self.done.iter().take_while(|(place, _)| *place <= self.best_at) {
-            done.steps().iter().for_each(|step| best[step.process as usize] = step.to);
-        }
-        Run { best, best_at: self.best_at, entries: self.place, done: self.done.len(), lines }
     }
 }
 
@@ -112,59 +88,47 @@ impl<'l> Ahead<'l> {
         ahead.draws.next(&mut ahead.words[0]);
         ahead
     }
+    #[inline(always)]
     fn next<M: Money, const Q: usize>(&mut self, state: &State<'_, M, Q>) -> &[u64; 8] {
         self.k ^= 1;
         let next = &mut self.words[self.k];
         self.draws.next(next);
         let p = state.by_process.of(next[1]);
         fetch(&state.inst.requirement, p * Q);
-        if next[0] % 8 < 5 {
-            let home = state.ground.processes[p].home as usize;
-            let (place, ways) = state.inst.window(home, state.by_machine.of(next[2]));
-            (0..4).for_each(|line| fetch(ways, place + 32 * line));
-        }
+        let home = state.ground.processes[p].home as usize;
+        let (place, ways) = state.inst.window(home, state.by_machine.of(next[2]));
+        (0..4).for_each(|line| fetch(ways, place + 32 * line));
         &self.words[self.k ^ 1]
     }
 }
 
 /// A run of one worker.
-fn alone<M: Money, const Q: usize>(
-    mut state: State<'_, M, Q>,
-    mut journal: Journal<'_, M>,
-    lots: &Lots,
-    initial: &[u32],
-) -> Run {
-    let lot = &lots.all[0];
-    let budget = lot.budget();
-    let mut ahead = Ahead::new(lot);
-    let mut lines = Lines { text: Text(Vec::with_capacity(budget as usize * 88)), each: Vec::new() };
-    let mut counter = Counter::new();
+fn alone<M: Money, const Q: usize>(mut state: State<'_, M, Q>, journal: &mut Journal<'_, M>, lots: &Lots) -> Text {
+    let (lot, mut counter) = (&lots.all[0], Counter::new());
+    let (budget, mut ahead) = (lot.budget(), Ahead::new(lot));
+    let mut text = Text(Vec::with_capacity(budget as usize * 88));
     for k in 0..budget {
         let words = ahead.next(&state);
         let allowed = lots.allowance(budget, k);
         let plan = state.plan(words, lots.is_first_drawing, M::of(allowed.into()));
         let verdict = journal.record(&plan, allowed);
-        lines.text.entry_alone(&counter, &plan.taken, &verdict);
+        text.entry_alone(&counter, &plan.taken, &verdict);
         counter.go_on();
         if let Verdict::Done(_) = verdict {
             state.make(&plan.taken);
         }
     }
-    journal.end(initial, vec![lines])
+    text
 }
 
-/// Looks so often before it waits.
-const LOOKS: usize = 400;
-
-fn turn<'m, T>(shared: &'m Mutex<T>) -> MutexGuard<'m, T> {
-    for look in 0..LOOKS {
-        if let Ok(guard) = shared.try_lock() {
-            return guard;
+/// Takes a turn. Looks some times before it waits.
+fn turn<T>(shared: &Mutex<T>) -> MutexGuard<'_, T> {
+    for look in 1..400 {
+        match shared.try_lock() {
+            Ok(guard) => return guard,
+            Err(_) if look % 64 == 0 => std::thread::yield_now(),
+            Err(_) => std::hint::spin_loop(),
         }
-        if look % 64 == 63 {
-            std::thread::yield_now();
-        }
-        std::hint::spin_loop();
     }
     shared.lock().expect("no worker fails")
 }
@@ -177,31 +141,24 @@ fn work<M: Money, const Q: usize>(
     shared: &Mutex<Journal<'_, M>>,
     lots: &Lots,
     most: usize,
-) -> Lines {
+) -> (Text, Vec<(u32, u32)>) {
     let lot = &lots.all[number];
-    let budget = lot.budget();
-    let mut ahead = Ahead::new(lot);
-    let mut lines =
-        Lines { text: Text(Vec::with_capacity(budget as usize * 96)), each: Vec::with_capacity(budget as usize) };
-    let (mut words, mut plans) = (VecDeque::new(), Vec::new());
-    let (mut verdicts, mut news): (Vec<(u32, u32, Verdict<M>)>, Vec<Move>) = (Vec::new(), Vec::new());
+    let (budget, mut ahead) = (lot.budget(), Ahead::new(lot));
+    let (mut text, mut lines) = (Text(Vec::with_capacity(budget as usize * 96)), Vec::new());
+    let (mut words, mut plans, mut verdicts, mut news) = (Vec::new(), Vec::new(), Vec::new(), Vec::new());
     let (mut k, mut planned, mut taken, mut size) = (0, 0, 0, most.min(4));
     while k < budget {
         plans.clear();
         while plans.len() < size && k + (plans.len() as u64) < budget {
             if words.len() == plans.len() {
-                words.push_back(*ahead.next(&state));
+                words.push(*ahead.next(&state));
             }
             let allowed = lots.allowance(budget, k + plans.len() as u64);
-            let plan = state.plan(&words[plans.len()], lots.is_first_drawing, M::of(allowed.into()));
-            let is_done = plan.is_done;
-            plans.push((plan, allowed));
-            if is_done {
+            plans.push((state.plan(&words[plans.len()], lots.is_first_drawing, M::of(allowed.into())), allowed));
+            if plans.last().is_some_and(|(plan, _)| plan.is_done) {
                 break;
             }
         }
-        verdicts.clear();
-        news.clear();
         let mut journal = turn(shared);
         for (i, (plan, allowed)) in plans.iter().enumerate() {
             let mut at = journal.place;
@@ -211,29 +168,26 @@ fn work<M: Money, const Q: usize>(
                 }
                 at = planned;
             }
-            let verdict = journal.record(plan, *allowed);
-            verdicts.push((journal.place - 1, at, verdict));
+            let place = journal.place;
+            verdicts.push((place, at, journal.record(plan, *allowed)));
         }
         news.extend(journal.done[taken..].iter().map(|(_, done)| *done));
         planned = journal.place;
         drop(journal);
         taken += news.len();
-        for ((plan, _), (place, at, verdict)) in plans.iter().zip(&verdicts) {
-            let length = lines.text.entry(*place, [number as u32, k as u32, *at], &plan.taken, verdict);
-            lines.each.push((*place, length as u32));
+        size = if verdicts.len() == plans.len() { (size + 1).min(most) } else { (size / 2).max(1) };
+        words.drain(..verdicts.len());
+        for ((plan, _), (place, at, verdict)) in plans.iter().zip(verdicts.drain(..)) {
+            let length = text.entry(place, [number as u32, k as u32, at], &plan.taken, &verdict);
+            lines.push((place, length as u32));
             k += 1;
         }
-        news.iter().for_each(|done| state.make(done));
-        words.drain(..verdicts.len());
-        size = if verdicts.len() == plans.len() { (size + 1).min(most) } else { (size / 2).max(1) };
+        news.drain(..).for_each(|done| state.make(&done));
     }
-    lines
+    (text, lines)
 }
 
-/// How many plans a worker hands in in one turn.
-pub const MANY: usize = 32;
-
-/// A run from a feasible list. A worker of several hands in at most so many plans in one turn.
+/// A run from a feasible list of this cost. A worker of several hands in at most so many plans in one turn.
 pub fn run<M: Money, const Q: usize>(
     inst: &Instance,
     ground: &Ground,
@@ -242,42 +196,48 @@ pub fn run<M: Money, const Q: usize>(
     cost: u128,
     most: usize,
 ) -> Run {
-    let journal = Journal::new(inst, ground, M::of(cost as i128));
-    if lots.all.len() == 1 {
-        return alone(State::<M, Q>::new(inst, ground, initial), journal, lots, initial);
-    }
-    let shared = Mutex::new(journal);
-    let lines = std::thread::scope(|scope| {
-        let work = |number| {
-            let shared = &shared;
-            scope.spawn(move || work(number, State::<M, Q>::new(inst, ground, initial), shared, lots, most))
-        };
-        let workers: Vec<_> = (0..lots.all.len()).map(work).collect();
-        workers.into_iter().map(|worker| worker.join().expect("no worker fails")).collect()
-    });
-    shared.into_inner().expect("no worker fails").end(initial, lines)
+    let (versions, cost) = (vec![0; inst.machines + inst.services], M::of(cost as i128));
+    let greatest = Greatest::new(inst.services, inst.processes);
+    let (place, done, newest, least, best_at) = (0, vec![], 0, cost, 0);
+    let mut journal = Journal { inst, ground, place, done, versions, newest, greatest, cost, least, best_at };
+    let state = || State::<M, Q>::new(inst, ground, initial);
+    let lines = if lots.all.len() == 1 {
+        vec![(alone(state(), &mut journal, lots), vec![])]
+    } else {
+        let shared = Mutex::new(journal);
+        let lines = std::thread::scope(|scope| {
+            let (shared, state) = (&shared, &state);
+            let start = |number| scope.spawn(move || work(number, state(), shared, lots, most));
+            let workers: Vec<_> = (0..lots.all.len()).map(start).collect();
+            workers.into_iter().map(|worker| worker.join().expect("no worker fails")).collect()
+        });
+        journal = shared.into_inner().expect("no worker fails");
+        lines
+    };
+    let (best_at, mut best) = (journal.best_at, initial.to_vec());
+    let before = journal.done.iter().take_while(|(place, _)| *place <= best_at);
+    before.flat_map(|(_, done)| done.steps()).for_each(|step| best[step.process as usize] = step.to);
+    Run { best, best_at, entries: journal.place, done: journal.done.len(), lines }
 }
 
 impl Run {
     /// Prints the lines of all entries in order.
     pub fn print(&self, to: &mut impl Write) -> io::Result<()> {
-        if let [lines] = &self.lines[..] {
-            return to.write_all(&lines.text.0);
+        if let [(text, _)] = &self.lines[..] {
+            return to.write_all(&text.0);
         }
-        let mut owner = vec![0u8; self.entries as usize];
-        for (number, lines) in self.lines.iter().enumerate() {
-            lines.each.iter().for_each(|(place, _)| owner[*place as usize] = number as u8);
+        let mut owner = vec![0; self.entries as usize];
+        for (number, (_, lines)) in self.lines.iter().enumerate() {
+            lines.iter().for_each(|&(place, _)| owner[place as usize] = number);
         }
-        let mut rests: Vec<_> = self.lines.iter().map(|lines| (&lines.text.0[..], lines.each.iter())).collect();
-        const PIECE: usize = 1 << 17;
-        let mut piece = Vec::with_capacity(PIECE + 512);
-        for &number in &owner {
-            let (text, each) = &mut rests[number as usize];
-            let length = each.next().expect("a line").1 as usize;
-            let (line, rest) = text.split_at(length);
+        let mut rests: Vec<_> = self.lines.iter().map(|(text, lines)| (&text.0[..], lines.iter())).collect();
+        let mut piece = Vec::with_capacity(1 << 17);
+        for number in owner {
+            let (text, lines) = &mut rests[number];
+            let (line, rest) = text.split_at(lines.next().expect("a line").1 as usize);
             piece.extend_from_slice(line);
             *text = rest;
-            if piece.len() >= PIECE {
+            if piece.len() >= 1 << 16 {
                 to.write_all(&piece)?;
                 piece.clear();
             }

@@ -2,49 +2,63 @@
 
 use core::arch::x86_64::*;
 
-/// Four numbers of 32 bits.
+/// Four numbers of 32 bits, or two of 64.
 #[derive(Clone, Copy)]
 #[repr(transparent)]
 pub struct Four(__m128i);
 
 /// Eight numbers of 16 bits. Sums and differences stop at the greatest number and at 0.
 #[derive(Clone, Copy)]
+#[repr(transparent)]
 pub struct Eight(__m128i);
 
-// SAFETY, for each function here: x86-64-v2 has the instructions (main.rs refuses to be compiled for less), and an address
+// SAFETY, for each `unsafe` here: x86-64-v2 has the instructions (main.rs refuses to be compiled for less), and an address
 // that is read or written belongs to an array of that many bytes.
-macro_rules! pairs {
-    ($of:ident: $($(#[$doc:meta])* $name:ident($one:ident, $other:ident) = $value:expr;)*) => {
+macro_rules! lanes {
+    ($of:ident: $($(#[$doc:meta])* $name:ident($this:ident $(, $other:ident: $type:ty)*) -> $to:ty = $value:expr;)*) => {
         impl $of {
-            $($(#[$doc])*
-            #[inline(always)]
-            pub fn $name(self, other: $of) -> $of {
-                let ($one, $other) = (self.0, other.0);
-                unsafe { $of($value) }
+            $($(#[$doc])* #[inline(always)]
+            pub fn $name($this $(, $other: $type)*) -> $to {
+                unsafe { $value }
             })*
         }
     };
 }
 
-pairs! { Four:
-    plus(a, b) = _mm_add_epi32(a, b);
-    minus(a, b) = _mm_sub_epi32(a, b);
-    and(a, b) = _mm_and_si128(a, b);
+lanes! { Four:
+    plus(self, b: Four) -> Four = Four(_mm_add_epi32(self.0, b.0));
+    minus(self, b: Four) -> Four = Four(_mm_sub_epi32(self.0, b.0));
+    and(self, b: Four) -> Four = Four(_mm_and_si128(self.0, b.0));
     /// What each is above the other one, or 0.
-    above(a, b) = _mm_sub_epi32(_mm_max_epu32(a, b), b);
+    above(self, b: Four) -> Four = Four(_mm_sub_epi32(_mm_max_epu32(self.0, b.0), b.0));
     /// All ones where this one is at most the other one.
-    within(a, b) = _mm_cmpeq_epi32(_mm_max_epu32(a, b), b);
-    /// The products of the first and the third, as two numbers of 64 bits.
-    times(a, b) = _mm_mul_epu32(a, b);
-    plus_long(a, b) = _mm_add_epi64(a, b);
+    within(self, b: Four) -> Four = Four(_mm_cmpeq_epi32(_mm_max_epu32(self.0, b.0), b.0));
+    /// One bit for each number of which the highest bit is set.
+    bits(self) -> u32 = _mm_movemask_ps(_mm_castsi128_ps(self.0)) as u32;
+    /// Two sums of two products of 64 bits.
+    products(self, b: Four) -> Four = Four(_mm_add_epi64(
+        _mm_mul_epu32(self.0, b.0),
+        _mm_mul_epu32(_mm_srli_epi64::<32>(self.0), _mm_srli_epi64::<32>(b.0)),
+    ));
+    plus_long(self, b: Four) -> Four = Four(_mm_add_epi64(self.0, b.0));
+    sum_long(self) -> u64 = (_mm_cvtsi128_si64(self.0) as u64).wrapping_add(_mm_extract_epi64::<1>(self.0) as u64);
 }
 
-pairs! { Eight:
-    plus(a, b) = _mm_adds_epu16(a, b);
-    above(a, b) = _mm_subs_epu16(a, b);
-    least(a, b) = _mm_min_epu16(a, b);
+lanes! { Eight:
+    plus(self, b: Eight) -> Eight = Eight(_mm_adds_epu16(self.0, b.0));
+    above(self, b: Eight) -> Eight = Eight(_mm_subs_epu16(self.0, b.0));
+    least(self, b: Eight) -> Eight = Eight(_mm_min_epu16(self.0, b.0));
     /// The high halves of the products.
-    times(a, b) = _mm_mulhi_epu16(a, b);
+    times(self, b: Eight) -> Eight = Eight(_mm_mulhi_epu16(self.0, b.0));
+    shifted(self, by: u32) -> Eight = Eight(_mm_sll_epi16(self.0, _mm_cvtsi32_si128(by as i32)));
+    store(self, to: &mut [u16]) -> () = _mm_storeu_si128(to[..8].as_mut_ptr().cast(), self.0);
+    /// Two bits for each number that is that of the other one.
+    same(self, b: Eight) -> u32 = _mm_movemask_epi8(_mm_cmpeq_epi16(self.0, b.0)) as u32;
+    /// One bit for each number, first this one's and then the other one's, that is at most a limit.
+    within(self, b: Eight, limit: Eight) -> u32 = {
+        let is = |x: Eight| _mm_cmpeq_epi16(x.above(limit).0, _mm_setzero_si128());
+        _mm_movemask_epi8(_mm_packs_epi16(is(self), is(b))) as u32
+    };
 }
 
 impl Four {
@@ -56,28 +70,6 @@ impl Four {
     pub fn of(x: [u32; 4]) -> Four {
         unsafe { Four(_mm_loadu_si128(x.as_ptr().cast())) }
     }
-    /// One bit for each number of which the highest bit is set.
-    #[inline(always)]
-    pub fn bits(self) -> u32 {
-        unsafe { _mm_movemask_ps(_mm_castsi128_ps(self.0)) as u32 }
-    }
-    /// This one as two numbers of 64 bits, and the sums of their products with those of another one.
-    #[inline(always)]
-    pub fn products(self, other: Four) -> Four {
-        let odd = |x: Four| unsafe { Four(_mm_srli_epi64::<32>(x.0)) };
-        self.times(other).plus_long(odd(self).times(odd(other)))
-    }
-    #[inline(always)]
-    pub fn sum_long(self) -> u64 {
-        unsafe { (_mm_cvtsi128_si64(self.0) as u64).wrapping_add(_mm_extract_epi64::<1>(self.0) as u64) }
-    }
-}
-
-/// The numbers one after another.
-#[inline(always)]
-pub fn flat(rows: &[Four]) -> &[u32] {
-    // SAFETY: a Four is four numbers, without anything between or around them.
-    unsafe { std::slice::from_raw_parts(rows.as_ptr().cast(), rows.len() * 4) }
 }
 
 impl Eight {
@@ -88,31 +80,14 @@ impl Eight {
     /// The first eight numbers.
     #[inline(always)]
     pub fn load(from: &[u16]) -> Eight {
-        let from: &[u16; 8] = from[..8].try_into().expect("eight");
-        unsafe { Eight(_mm_loadu_si128(from.as_ptr().cast())) }
+        unsafe { Eight(_mm_loadu_si128(from[..8].as_ptr().cast())) }
     }
-    #[inline(always)]
-    pub fn store(self, to: &mut [u16]) {
-        let to: &mut [u16; 8] = (&mut to[..8]).try_into().expect("eight");
-        unsafe { _mm_storeu_si128(to.as_mut_ptr().cast(), self.0) }
-    }
-    #[inline(always)]
-    pub fn shifted(self, by: u32) -> Eight {
-        unsafe { Eight(_mm_sll_epi16(self.0, _mm_cvtsi32_si128(by as i32))) }
-    }
-    /// Two bits for each number that is that of the other one.
-    #[inline(always)]
-    pub fn same(self, other: Eight) -> u32 {
-        unsafe { _mm_movemask_epi8(_mm_cmpeq_epi16(self.0, other.0)) as u32 }
-    }
-    /// One bit for each number, first this one's and then the other one's, that is at most a limit.
-    #[inline(always)]
-    pub fn within(self, other: Eight, limit: Eight) -> u32 {
-        unsafe {
-            let is = |x: Eight| _mm_cmpeq_epi16(x.above(limit).0, _mm_setzero_si128());
-            _mm_movemask_epi8(_mm_packs_epi16(is(self), is(other))) as u32
-        }
-    }
+}
+
+/// The numbers one after another.
+#[inline(always)]
+pub fn flat(rows: &[Four]) -> &[u32] {
+    unsafe { std::slice::from_raw_parts(rows.as_ptr().cast(), rows.len() * 4) }
 }
 
 /// Which of 64 bytes are digits, and whether each of the others is white.

@@ -161,6 +161,7 @@ impl Counter {
 }
 
 /// Text that grows by lines.
+#[derive(Default)]
 pub struct Text(pub Vec<u8>);
 
 impl Text {

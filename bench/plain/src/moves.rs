@@ -11,19 +11,16 @@ pub struct Step {
 
 /// A shift has one step, a swap two, and a chain three.
 #[derive(Clone, Copy)]
-pub struct Move {
-    all: [Step; 3],
-    count: usize,
-}
+pub struct Move([Step; 3], usize);
 
 impl Move {
     #[inline(always)]
     pub fn new<const N: usize>(steps: [Step; N]) -> Move {
-        Move { all: std::array::from_fn(|k| steps.get(k).copied().unwrap_or_default()), count: N }
+        Move(std::array::from_fn(|k| if k < N { steps[k] } else { Step::default() }), N)
     }
     #[inline(always)]
     pub fn steps(&self) -> &[Step] {
-        &self.all[..self.count]
+        &self.0[..self.1]
     }
 }
 
@@ -40,49 +37,36 @@ pub enum Cause {
     Closed(u32, u32),
 }
 
-/// A count of moved processes of a service that a move changes.
+/// What a move changes that breaks nothing: the cost without the service part, and of how many services which moved counts:
+/// the service, the count before and the count after.
 #[derive(Clone, Copy, Default)]
-pub struct Moved {
-    pub service: u32,
-    pub before: u32,
-    pub after: u32,
-}
-
-/// What a move changes that breaks nothing: the cost without the service part, and the moved counts.
-#[derive(Clone, Copy)]
 pub struct Change<M> {
     pub local: M,
-    all: [Moved; 3],
+    all: [(u32, u32, u32); 3],
     count: usize,
 }
 
-impl<M: Money> Change<M> {
+impl<M> Change<M> {
     #[inline(always)]
-    pub fn none() -> Change<M> {
-        Change { local: M::default(), all: [Moved::default(); 3], count: 0 }
-    }
-    #[inline(always)]
-    pub fn moved(&self) -> &[Moved] {
+    pub fn moved(&self) -> &[(u32, u32, u32)] {
         &self.all[..self.count]
     }
     /// The count of a service, which has this one before.
     #[inline(always)]
-    pub fn moved_of(&mut self, service: u32, before: u32) -> &mut Moved {
-        let at = self.moved().iter().position(|moved| moved.service == service).unwrap_or(self.count);
+    pub fn moved_of(&mut self, service: u32, before: u32) -> &mut u32 {
+        let at = self.moved().iter().position(|moved| moved.0 == service).unwrap_or(self.count);
         if at == self.count {
-            self.all[at] = Moved { service, before, after: before };
+            self.all[at] = (service, before, before);
             self.count += 1;
         }
-        &mut self.all[at]
+        &mut self.all[at].2
     }
 }
 
-pub type Weighed<M> = Result<Change<M>, Cause>;
-
+/// A move with what it breaks or changes, and whether it is done at the state where it was planned.
 pub struct Plan<M> {
     pub taken: Move,
-    pub weighed: Weighed<M>,
-    /// Whether it is done at the state where it was planned.
+    pub weighed: Result<Change<M>, Cause>,
     pub is_done: bool,
 }
 
@@ -94,26 +78,23 @@ pub enum Verdict<M> {
 }
 
 /// A cost, or a change of one.
-pub trait Money: Copy + Ord + Default + Send + Sync
-where
-    Self: Add<Output = Self> + Sub<Output = Self> + AddAssign + SubAssign,
+pub trait Money:
+    Copy + Ord + Default + Send + Sync + AddAssign + SubAssign + Add<Output = Self> + Sub<Output = Self>
 {
     const IS_NARROW: bool;
+    /// No change of cost is above the number at which this stops.
     fn of(x: i128) -> Self;
     fn wide(self) -> i128;
     fn product(a: u32, b: u64) -> Self;
-    /// Divided by a power of two, and cut to 16 bits.
-    fn scaled(self, power: u32) -> u16;
 }
 
 macro_rules! money {
-    ($type:ty, $is_narrow:expr) => {
+    ($type:ty, $is_narrow:expr, $most:expr) => {
         impl Money for $type {
             const IS_NARROW: bool = $is_narrow;
             #[inline(always)]
             fn of(x: i128) -> $type {
-                // No change of cost is above the greatest number that may be allowed.
-                x.min(1 << if $is_narrow { 61 } else { 126 }) as $type
+                x.min($most) as $type
             }
             #[inline(always)]
             fn wide(self) -> i128 {
@@ -123,18 +104,14 @@ macro_rules! money {
             fn product(a: u32, b: u64) -> $type {
                 (a as $type).wrapping_mul(b as $type)
             }
-            #[inline(always)]
-            fn scaled(self, power: u32) -> u16 {
-                (self >> power).min(65_535) as u16
-            }
         }
     };
 }
 
-money!(i64, true);
-money!(i128, false);
+money!(i64, true, 1 << 61);
+money!(i128, false, 1 << 126);
 
-/// The moved count of each service, and how many services have each count.
+/// The moved count of each service, how many services have each count, and the greatest count.
 pub struct Greatest {
     count: Vec<u32>,
     having: Vec<u32>,
@@ -152,28 +129,22 @@ impl Greatest {
         self.count[service as usize]
     }
     pub fn change(&mut self, service: u32, after: u32) {
-        let before = std::mem::replace(&mut self.count[service as usize], after);
+        let before = self.of(service);
+        let growth = self.growth(&[(service, before, after)]);
         self.having[before as usize] -= 1;
         self.having[after as usize] += 1;
-        self.most = self.most.max(after);
-        while self.having[self.most as usize] == 0 {
-            self.most -= 1;
-        }
+        self.count[service as usize] = after;
+        self.most = (i64::from(self.most) + growth) as u32;
     }
     /// How much the greatest count grows by changes of different services.
     #[inline(always)]
-    pub fn growth(&self, moved: &[Moved]) -> i64 {
-        let most = moved.iter().fold(self.most, |most, one| most.max(one.after));
-        let may_fall = most == self.most && moved.iter().any(|one| one.before == most && one.after < most);
-        if may_fall { self.fall(moved) } else { i64::from(most) - i64::from(self.most) }
-    }
-    #[cold]
-    fn fall(&self, moved: &[Moved]) -> i64 {
-        let has = |most: u32| {
-            let gain = |one: &Moved| u32::from(one.after == most).wrapping_sub(u32::from(one.before == most));
-            moved.iter().fold(self.having[most as usize], |having, one| having.wrapping_add(gain(one))) > 0
-        };
-        let most = (0..=self.most).rev().find(|&most| has(most)).unwrap_or(0);
+    pub fn growth(&self, moved: &[(u32, u32, u32)]) -> i64 {
+        let mut most = moved.iter().fold(self.most, |most, one| most.max(one.2));
+        let counts =
+            |most: u32| moved.iter().map(move |one| u32::from(one.2 == most).wrapping_sub(u32::from(one.1 == most)));
+        while counts(most).fold(self.having[most as usize], u32::wrapping_add) == 0 {
+            most -= 1;
+        }
         i64::from(most) - i64::from(self.most)
     }
 }

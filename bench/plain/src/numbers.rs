@@ -5,13 +5,6 @@ use crate::lanes::{digits_of, four_numbers};
 use std::fs::File;
 use std::io::{ErrorKind, Read};
 
-/// Why there is no number.
-#[derive(Debug)]
-pub enum Fault {
-    Read,
-    Bad,
-}
-
 const LONGEST: usize = 536_870_912;
 /// Bytes that are read at once.
 const PIECE: usize = 1 << 17;
@@ -55,7 +48,7 @@ impl Patterns {
         told
     }
     /// Gives the numbers of the first `end` bytes, which end with a white one. AFTER white bytes follow.
-    fn read(&mut self, bytes: &[u8], end: usize, to: &mut Vec<u32>) -> Result<(), Fault> {
+    fn read(&mut self, bytes: &[u8], end: usize, to: &mut Vec<u32>) -> Option<()> {
         to.clear();
         // Each number has two bytes at least, and four are written at once.
         to.reserve(end / 2 + 64);
@@ -65,7 +58,7 @@ impl Patterns {
             let block: &[u8; 64] = bytes[at..at + 64].try_into().expect("a block");
             let (digits, is_fine) = digits_of(block);
             if !is_fine {
-                return Err(Fault::Bad);
+                return None;
             }
             let mut from = 0;
             while from <= 48 {
@@ -92,24 +85,24 @@ impl Patterns {
         }
         // SAFETY: these were written.
         unsafe { to.set_len(made) };
-        Ok(())
+        Some(())
     }
 }
 
 /// The number that begins at a place, which goes behind its digits.
-fn long_number(bytes: &[u8], place: &mut usize) -> Result<u32, Fault> {
+fn long_number(bytes: &[u8], place: &mut usize) -> Option<u32> {
     let mut value = 0;
     while bytes[*place].is_ascii_digit() {
         value = value * 10 + u64::from(bytes[*place] - b'0');
         if value > u32::MAX.into() {
-            return Err(Fault::Bad);
+            return None;
         }
         *place += 1;
     }
-    Ok(value as u32)
+    Some(value as u32)
 }
 
-/// The numbers of a file in their order, read in pieces.
+/// The numbers of a file in their order, read in pieces. A fault is a status: 3 if reading fails, else the one that is told.
 pub struct Numbers<'p> {
     file: Option<File>,
     /// How many bytes were read, and how many of the last ones begin a number that isn't whole.
@@ -119,25 +112,26 @@ pub struct Numbers<'p> {
     patterns: &'p mut Patterns,
     values: Vec<u32>,
     next: usize,
+    pub bad: i32,
 }
 
 impl<'p> Numbers<'p> {
-    pub fn open(name: &str, patterns: &'p mut Patterns) -> Result<Numbers<'p>, Fault> {
-        let file = File::open(name).map_err(|_| Fault::Read)?;
-        Ok(Numbers { file: Some(file), bytes: vec![0; PIECE + AFTER], ..Numbers::of(Vec::new(), patterns) })
+    pub fn open(name: &str, bad: i32, patterns: &'p mut Patterns) -> Result<Numbers<'p>, i32> {
+        let file = File::open(name).map_err(|_| 3)?;
+        Ok(Numbers { file: Some(file), bytes: vec![0; PIECE + AFTER], bad, ..Numbers::of(Vec::new(), patterns) })
     }
     pub fn of(values: Vec<u32>, patterns: &'p mut Patterns) -> Numbers<'p> {
-        Numbers { file: None, length: 0, held: 0, bytes: Vec::new(), patterns, values, next: 0 }
+        Numbers { file: None, length: 0, held: 0, bytes: Vec::new(), patterns, values, next: 0, bad: 0 }
     }
     /// How many numbers are at hand: none only if there are no more.
-    fn at_hand(&mut self) -> Result<usize, Fault> {
+    fn at_hand(&mut self) -> Result<usize, i32> {
         while self.next == self.values.len() && self.file.is_some() {
             self.refill()?;
         }
         Ok(self.values.len() - self.next)
     }
     #[cold]
-    fn refill(&mut self) -> Result<(), Fault> {
+    fn refill(&mut self) -> Result<(), i32> {
         if self.held + AFTER == self.bytes.len() {
             self.bytes.resize(2 * self.bytes.len(), 0);
         }
@@ -145,7 +139,7 @@ impl<'p> Numbers<'p> {
         let got = match self.file.as_mut().map(|file| file.read(&mut self.bytes[self.held..most])) {
             Some(Err(fault)) if fault.kind() == ErrorKind::Interrupted => return Ok(()),
             Some(Ok(got)) => got,
-            _ => return Err(Fault::Read),
+            _ => return Err(3),
         };
         self.length += got;
         let have = self.held + got;
@@ -154,7 +148,7 @@ impl<'p> Numbers<'p> {
             self.file = None;
             (self.bytes[have], end) = (b' ', have + 1);
         } else if self.length > LONGEST {
-            return Err(Fault::Bad);
+            return Err(self.bad);
         }
         while end > 0 && self.bytes[end - 1].is_ascii_digit() {
             end -= 1;
@@ -162,26 +156,26 @@ impl<'p> Numbers<'p> {
         self.held = have.saturating_sub(end);
         let rest = self.bytes[have - self.held..have].to_vec();
         self.bytes[end..end + AFTER - 1].fill(b' ');
-        self.patterns.read(&self.bytes, end, &mut self.values)?;
+        self.patterns.read(&self.bytes, end, &mut self.values).ok_or(self.bad)?;
         self.bytes[..self.held].copy_from_slice(&rest);
         self.next = 0;
         Ok(())
     }
-    /// The next number, or Bad if there is none.
-    pub fn next(&mut self) -> Result<u32, Fault> {
+    /// The next number. It is a fault if there is none.
+    pub fn next(&mut self) -> Result<u32, i32> {
         Ok(self.some(1)?[0])
     }
-    pub fn within(&mut self, least: usize, most: usize) -> Result<usize, Fault> {
+    pub fn within(&mut self, least: usize, most: usize) -> Result<usize, i32> {
         let value = self.next()? as usize;
-        if (least..=most).contains(&value) { Ok(value) } else { Err(Fault::Bad) }
+        if (least..=most).contains(&value) { Ok(value) } else { Err(self.bad) }
     }
     /// Some of the next numbers: at least one, at most so many.
-    pub fn some(&mut self, most: usize) -> Result<&[u32], Fault> {
+    pub fn some(&mut self, most: usize) -> Result<&[u32], i32> {
         let count = most.min(self.at_hand()?);
         self.next += count;
-        if count == 0 { Err(Fault::Bad) } else { Ok(&self.values[self.next - count..self.next]) }
+        if count == 0 { Err(self.bad) } else { Ok(&self.values[self.next - count..self.next]) }
     }
-    pub fn fill(&mut self, mut to: &mut [u32]) -> Result<(), Fault> {
+    pub fn fill(&mut self, mut to: &mut [u32]) -> Result<(), i32> {
         while !to.is_empty() {
             let some = self.some(to.len())?;
             let (front, rest) = to.split_at_mut(some.len());
@@ -190,7 +184,7 @@ impl<'p> Numbers<'p> {
         }
         Ok(())
     }
-    pub fn has_ended(&mut self) -> Result<bool, Fault> {
+    pub fn has_ended(&mut self) -> Result<bool, i32> {
         Ok(self.at_hand()? == 0)
     }
 }

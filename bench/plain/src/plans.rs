@@ -4,7 +4,7 @@
 
 use crate::instance::{Process, Service, WINDOW};
 use crate::lanes::{Eight, Four, flat};
-use crate::moves::{Cause, Change, Money, Move, Plan, Step, Weighed};
+use crate::moves::{Cause, Change, Money, Move, Plan, Step};
 use crate::state::{Places, State};
 
 /// Steps of different processes, with what is known of these.
@@ -183,15 +183,15 @@ impl<M: Money, const Q: usize> State<'_, M, Q> {
     /// The change by moved processes and ways, and the moved counts. There is no way to nowhere.
     #[inline(always)]
     fn moved_by<const N: usize>(&self, steps: &Steps<'_, N, Q>) -> Change<M> {
-        let mut change = Change::none();
+        let mut change = Change::default();
         for (step, process) in steps.all.iter().zip(steps.process) {
             let moved = change.moved_of(process.service, self.greatest.of(process.service));
             let cost = M::product(self.inst.weights[0], process.cost.into());
             if step.from == process.home {
-                moved.after += 1;
+                *moved += 1;
                 change.local += cost;
             } else if step.to == process.home {
-                moved.after -= 1;
+                *moved -= 1;
                 change.local -= cost;
             }
             if step.to != NOWHERE {
@@ -202,7 +202,7 @@ impl<M: Money, const Q: usize> State<'_, M, Q> {
         change
     }
     /// What a move breaks, in the order of the causes, or what it changes.
-    fn weigh<const N: usize>(&self, all: [Step; N]) -> Weighed<M> {
+    fn weigh<const N: usize>(&self, all: [Step; N]) -> Result<Change<M>, Cause> {
         for (k, step) in all.iter().enumerate() {
             if all[..k].iter().any(|earlier| earlier.process == step.process) {
                 return Err(Cause::Repeat(step.process));
@@ -276,6 +276,11 @@ impl<M: Money, const Q: usize> State<'_, M, Q> {
         let part = if growth == 0 { 0 } else { i128::from(growth) * i128::from(self.inst.weights[1]) };
         change.local + M::of(part)
     }
+    /// Divided as the filters are, and cut to 16 bits.
+    #[inline(always)]
+    fn scaled(&self, cost: M) -> u16 {
+        (cost.wide() >> self.power).min(65_535) as u16
+    }
     fn plan_shift(&self, words: &[u64; 8], is_first_drawing: bool, allowed: M) -> Plan<M> {
         let (p, machines) = (self.by_process.of(words[1]), self.inst.machines);
         let step = |to: u32| Step { process: p as u32, from: self.at[p], to };
@@ -302,7 +307,7 @@ impl<M: Money, const Q: usize> State<'_, M, Q> {
         let (terms, floor) = self.terms_of(away.required[0], self.whole(&base));
         let mut mask = 0;
         if floor <= most {
-            limit = (most - floor).scaled(self.power);
+            limit = self.scaled(most - floor);
             mask = u64::MAX >> (64 - count);
             if !is_first_drawing {
                 mask &= self.window(&terms, home as usize, start, limit, &mut sums);
@@ -330,7 +335,7 @@ impl<M: Money, const Q: usize> State<'_, M, Q> {
                 if floor > most {
                     mask &= homes;
                 } else {
-                    limit = (most - floor).scaled(self.power);
+                    limit = self.scaled(most - floor);
                 }
             }
         }

@@ -11,8 +11,8 @@ pub enum Job {
 
 const MOST_PROPOSALS: u64 = 1_000_000;
 
-fn name(word: &str) -> Option<String> {
-    (!word.is_empty() && !word.starts_with('-')).then(|| word.to_string())
+fn name(word: &String) -> Option<String> {
+    (!word.is_empty() && !word.starts_with('-')).then(|| word.clone())
 }
 
 fn number(word: &str) -> Option<u64> {
@@ -20,7 +20,7 @@ fn number(word: &str) -> Option<u64> {
     is_number.then(|| word.parse().ok()).flatten()
 }
 
-fn lot(word: &str) -> Option<Lot> {
+fn lot(word: &String) -> Option<Lot> {
     if let Some(list) = word.strip_prefix("w:") {
         let words: Vec<u64> = list.split(',').map(number).collect::<Option<_>>()?;
         return words.len().is_multiple_of(8).then_some(Lot::Written(words));
@@ -30,59 +30,43 @@ fn lot(word: &str) -> Option<Lot> {
     (budget <= MOST_PROPOSALS).then_some(Lot::Seeded(seed, budget))
 }
 
-/// The value of an option that may stand in front; the outer None if it has none.
-fn option<'w>(rest: &mut &'w [String], flag: &str) -> Option<Option<&'w str>> {
+/// The value of an option that may stand in front, by what it has to be; the outer None if it isn't that.
+fn option<T>(rest: &mut &[String], flag: &str, read: impl Fn(&String) -> Option<T>) -> Option<Option<T>> {
     if rest.first().is_none_or(|word| word != flag) {
         return Some(None);
     }
-    let value = rest.get(1)?;
+    let value = read(rest.get(1)?)?;
     *rest = &rest[2..];
     Some(Some(value))
 }
 
-fn closed(rest: &mut &[String]) -> Option<Option<String>> {
-    match option(rest, "--closed")? {
-        Some(word) => Some(Some(name(word)?)),
-        None => Some(None),
-    }
-}
-
-fn last_closed(mut rest: &[String]) -> Option<Option<String>> {
-    let closed = closed(&mut rest)?;
-    rest.is_empty().then_some(closed)
-}
-
 pub fn job_of(words: &[String]) -> Option<Job> {
-    let (command, words) = words.split_first()?;
-    match (command.as_str(), words) {
-        ("check", [model, initial, new, rest @ ..]) => Some(Job::Check {
-            model: name(model)?,
-            initial: name(initial)?,
-            new: name(new)?,
-            closed: last_closed(rest)?,
-        }),
-        ("bound", [model]) => Some(Job::Bound { model: name(model)?, initial: None, closed: None }),
-        ("bound", [model, initial, rest @ ..]) => {
-            Some(Job::Bound { model: name(model)?, initial: Some(name(initial)?), closed: last_closed(rest)? })
-        }
-        ("solve", [model, initial, rest @ ..]) => {
-            let mut rest = rest;
-            let slack = option(&mut rest, "--slack")?.map_or(Some(0), number)?;
-            let closed = closed(&mut rest)?;
-            let is_first_drawing = match option(&mut rest, "--draws")? {
-                None | Some("2") => false,
-                Some("1") => true,
-                Some(_) => return None,
-            };
-            let all: Vec<Lot> = rest.iter().map(|word| lot(word)).collect::<Option<_>>()?;
-            let proposals: u64 = all.iter().map(Lot::budget).sum();
-            if !(1..=16).contains(&all.len()) || proposals > MOST_PROPOSALS {
-                return None;
-            }
-            let lots = Lots { slack, is_first_drawing, all };
-            Some(Job::Solve { model: name(model)?, initial: name(initial)?, closed, lots })
-        }
-        ("trial", [n]) => Some(Job::Trial(number(n)?)),
+    let (command, mut rest) = words.split_first()?;
+    let files = match command.as_str() {
+        "trial" if rest.len() == 1 => return number(&rest[0]).map(Job::Trial),
+        "check" => 3,
+        "bound" => rest.len().min(2),
+        "solve" => 2,
+        _ => return None,
+    };
+    let names: Vec<String> = rest.get(..files)?.iter().map(name).collect::<Option<_>>()?;
+    rest = &rest[files..];
+    let mut names = names.into_iter();
+    let model = names.next()?;
+    if command == "solve" {
+        let slack = option(&mut rest, "--slack", |word| number(word))?.unwrap_or(0);
+        let closed = option(&mut rest, "--closed", name)?;
+        let drawing = |word: &String| ["1", "2"].contains(&&word[..]).then(|| word == "1");
+        let is_first_drawing = option(&mut rest, "--draws", drawing)?.unwrap_or(false);
+        let all: Vec<Lot> = rest.iter().map(lot).collect::<Option<_>>()?;
+        let is_fine = (1..=16).contains(&all.len()) && all.iter().map(Lot::budget).sum::<u64>() <= MOST_PROPOSALS;
+        let lots = Lots { slack, is_first_drawing, all };
+        return is_fine.then_some(Job::Solve { model, initial: names.next()?, closed, lots });
+    }
+    let closed = if files > 1 { option(&mut rest, "--closed", name)? } else { None };
+    match (rest, command.as_str()) {
+        ([], "check") => Some(Job::Check { model, initial: names.next()?, new: names.next()?, closed }),
+        ([], _) => Some(Job::Bound { model, initial: names.next(), closed }),
         _ => None,
     }
 }
