@@ -3,7 +3,7 @@
 use crate::draws::{Draws, Lot, Lots};
 use crate::instance::{Ground, Instance};
 use crate::lanes::fetch;
-use crate::lines::{Counter, Text};
+use crate::lines::Text;
 use crate::moves::{Greatest, Money, Move, Plan, Verdict};
 use crate::state::State;
 use std::io::{self, Write};
@@ -104,7 +104,7 @@ impl<'l> Ahead<'l> {
 
 /// A run of one worker.
 fn alone<M: Money, const Q: usize>(mut state: State<'_, M, Q>, journal: &mut Journal<'_, M>, lots: &Lots) -> Text {
-    let (lot, mut counter) = (&lots.all[0], Counter::new());
+    let lot = &lots.all[0];
     let (budget, mut ahead) = (lot.budget(), Ahead::new(lot));
     let mut text = Text(Vec::with_capacity(budget as usize * 88));
     for k in 0..budget {
@@ -112,8 +112,7 @@ fn alone<M: Money, const Q: usize>(mut state: State<'_, M, Q>, journal: &mut Jou
         let allowed = lots.allowance(budget, k);
         let plan = state.plan(words, lots.is_first_drawing, M::of(allowed.into()));
         let verdict = journal.record(&plan, allowed);
-        text.entry_alone(&counter, &plan.taken, &verdict);
-        counter.go_on();
+        text.entry(k as u32, [0, k as u32, k as u32], &plan.taken, &verdict);
         if let Verdict::Done(_) = verdict {
             state.make(&plan.taken);
         }

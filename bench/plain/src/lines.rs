@@ -133,33 +133,6 @@ impl Pen {
     }
 }
 
-/// A number that goes up by one, with its digits.
-pub struct Counter {
-    n: u32,
-    digits: u64,
-    length: u32,
-}
-
-impl Counter {
-    pub fn new() -> Counter {
-        Counter { n: 0, digits: b'0'.into(), length: 1 }
-    }
-    pub fn go_on(&mut self) {
-        self.n += 1;
-        if self.n % 10 != 0 {
-            self.digits += 1 << (8 * (self.length - 1));
-            return;
-        }
-        let (high, low) = (self.n / 10_000, self.n % 10_000);
-        let (digits, length) = digits_of(if high == 0 { low } else { high });
-        (self.digits, self.length) = (digits.into(), length);
-        if high > 0 {
-            self.digits |= u64::from(FOURS[low as usize]) << (8 * length);
-            self.length += 4;
-        }
-    }
-}
-
 /// Text that grows by lines.
 #[derive(Default)]
 pub struct Text(pub Vec<u8>);
@@ -177,23 +150,24 @@ impl Text {
             now - length
         }
     }
-    /// The line of the only worker's proposal, which has one number as its place, its own and that of its plan.
-    pub fn entry_alone<M: Money>(&mut self, at: &Counter, taken: &Move, verdict: &Verdict<M>) {
-        self.line(|pen| {
-            let (digits, length) = (at.digits.to_le_bytes(), at.length as usize);
-            pen.write(digits, length);
-            pen.word(b" 0 ");
-            pen.write(digits, length);
-            pen.word(b" ");
-            pen.write(digits, length);
-            pen.entry(taken, verdict);
-        });
-    }
     /// The line of an entry with its place, worker, number and the place of its plan. Gives the number of its bytes.
-    pub fn entry<M: Money>(&mut self, place: u32, front: [u32; 3], taken: &Move, verdict: &Verdict<M>) -> usize {
+    pub fn entry<M: Money>(
+        &mut self,
+        place: u32,
+        [worker, k, at]: [u32; 3],
+        taken: &Move,
+        verdict: &Verdict<M>,
+    ) -> usize {
         self.line(|pen| {
+            let start = pen.0;
             pen.long(place.into());
-            pen.told(b"", front);
+            // SAFETY: there is room for LINE bytes, and a place has no more than eight.
+            let (digits, length) = unsafe { (*start.cast::<[u8; 8]>(), pen.0.offset_from(start) as usize) };
+            pen.told(b"", [worker]);
+            for n in [k, at] {
+                pen.word(b" ");
+                if n == place { pen.write(digits, length) } else { pen.long(n.into()) }
+            }
             pen.entry(taken, verdict);
         })
     }

@@ -106,13 +106,10 @@ impl<M: Money, const Q: usize> State<'_, M, Q> {
                 continue;
             }
             for (side, label) in labels.into_iter().enumerate() {
-                if N == 1 || !seen[..2 * j + side].contains(&label) {
-                    let before = self.locations.count(steps.service[k], label);
-                    has -= u32::from(before > 0);
-                    has += u32::from(match N {
-                        1 => side == 1 || before > 1,
-                        _ => self.count_after(steps, (&self.locations, |m| self.location(m)), number, label) > 0,
-                    });
+                if !seen[..2 * j + side].contains(&label) {
+                    let after = self.count_after(steps, (&self.locations, |m| self.location(m)), number, label);
+                    has += u32::from(after > 0);
+                    has -= u32::from(self.locations.count(steps.service[k], label) > 0);
                 }
                 seen[2 * j + side] = label;
             }
@@ -129,19 +126,15 @@ impl<M: Money, const Q: usize> State<'_, M, Q> {
                 continue;
             }
             let number = steps.process[k].service;
-            let is_less = |other: u32| least.is_none_or(|least| other < least);
+            let is_less = |least: Option<u32>, other: u32| least.is_none_or(|least| other < least);
             let lacks = |&need: &u32| self.hood_after(steps, need, entered) == 0;
-            if is_less(number) && self.ground.needs.of(number).iter().any(lacks) {
+            if is_less(least, number) && self.ground.needs.of(number).iter().any(lacks) {
                 least = Some(number);
             }
             let dependants = self.ground.dependants.of(number);
             if !dependants.is_empty() && self.hood_after(steps, number, left) == 0 {
-                for &other in dependants.iter().take_while(|&&other| least.is_none_or(|least| other < least)) {
-                    if self.hood_after(steps, other, left) > 0 {
-                        least = Some(other);
-                        break;
-                    }
-                }
+                let mut less = dependants.iter().take_while(|&&other| is_less(least, other));
+                least = less.find(|&&other| self.hood_after(steps, other, left) > 0).copied().or(least);
             }
         }
         least
@@ -322,21 +315,12 @@ impl<M: Money, const Q: usize> State<'_, M, Q> {
                 continue;
             }
             let steps = Steps { all: [step(to)], ..away };
-            let mut change = base;
-            if to == home {
-                change = self.moved_by(&steps);
-                change.local += leaving;
-            } else {
-                change.local += self.way(away.process[0], to);
-            }
+            let mut change = if to == home { self.moved_by(&steps) } else { base };
+            change.local += if to == home { leaving } else { self.way(away.process[0], to) };
             if let Some((whole, change)) = self.within(&steps, change, [to], most) {
-                best = Some((to, change));
-                most = whole - M::of(1);
-                if floor > most {
-                    mask &= homes;
-                } else {
-                    limit = self.scaled(most - floor);
-                }
+                (best, most) = (Some((to, change)), whole - M::of(1));
+                mask &= if floor > most { homes } else { u64::MAX };
+                limit = self.scaled(most - floor);
             }
         }
         match best {

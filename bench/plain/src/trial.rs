@@ -23,12 +23,8 @@ pub fn model_of(number: u64) -> Vec<u32> {
     }
     all.push(SERVICES as u32);
     for s in 0..SERVICES {
-        let spread = 1 + within(5_400 + s, 3);
-        if s % 5 == 0 {
-            all.extend([spread, 1, (s as u32 + 25) % SERVICES as u32]);
-        } else {
-            all.extend([spread, 0]);
-        }
+        all.extend([1 + within(5_400 + s, 3), u32::from(s % 5 == 0)]);
+        all.extend((s % 5 == 0).then_some((s as u32 + 25) % SERVICES as u32));
     }
     all.push(PROCESSES as u32);
     for p in 0..PROCESSES {
