@@ -12,6 +12,8 @@ import unittest
 ROOT = os.path.dirname(os.path.dirname(os.path.dirname(os.path.realpath(__file__))))
 SAMPLE = os.path.join(ROOT, "examples", "sample")
 PROGRAM = os.environ.get("REASSIGN", "")
+_anneal = os.environ.get("ANNEAL") or os.path.join(ROOT, "crates", "anneal", "out", "anneal")
+ANNEAL = _anneal if os.access(_anneal, os.X_OK) else ""  # ./anneal or `rt ci` makes it
 LOTS = ["7:10", "8:10"]
 
 

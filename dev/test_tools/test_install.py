@@ -8,7 +8,7 @@ import subprocess
 import sys
 import time
 
-from common import PROGRAM, ROOT, ToolCase, run, text_of
+from common import ANNEAL, PROGRAM, ROOT, ToolCase, run, text_of
 from reassign_tools.__main__ import TOOLS
 
 SAMPLE = [os.path.join(ROOT, "examples", "sample", name) for name in ("model", "initial")]
@@ -33,13 +33,14 @@ class Install(ToolCase):
         self.assertIn(f"version {version}", text_in("README.md"))
         self.assertIn(f".Os reassign {version}\n", text_in("docs/reassign.1"))
         self.assertIn(f'__version__ = "{version}"\n', text_in("python/reassign_tools/__init__.py"))
+        self.assertIn(f".Os reassign {version}\n", text_in("docs/anneal.1"))
         self.assertIn(f'const VERSION: &str = "anneal {version}\\n";\n', text_in("crates/ra_anneal/src/telling.rt"))
         versions = re.findall(r"^## \[(\d.*?)\]", text_in("CHANGELOG.md"), re.M)
         self.assertEqual(versions[0], version)
 
     def test_install(self):
         place, moved = os.path.abspath("a place"), os.path.abspath("moved")
-        self.expect_run(INSTALL, "--program", PROGRAM, place)
+        self.expect_run(INSTALL, "--program", PROGRAM, *(["--anneal", ANNEAL] if ANNEAL else []), place)
         listed = {line[2:] for line in text_of(f"{place}/share/reassign/files").splitlines() if line.startswith("f ")}
         found = {os.path.relpath(os.path.join(at, name), place) for at, folders, files in os.walk(place)
                  for name in files + [one for one in folders if os.path.islink(os.path.join(at, one))]}
@@ -50,7 +51,9 @@ class Install(ToolCase):
         for name in tools:
             self.assertIn("usage: ", self.expect_run(f"{place}/bin/{name}", "--help"))
         self.look_at_readers(place)
+        self.look_at_answers(place)
         self.expect_run(INSTALL, "--program", PROGRAM, place)
+        self.assertFalse(os.path.exists(f"{place}/bin/reassign-anneal"))
         self.expect_run("tar", "-C", place, "-czf", "packed.tar.gz", ".")
         os.mkdir(moved)
         self.expect_run("tar", "-C", moved, "-xzf", "packed.tar.gz")
@@ -73,6 +76,31 @@ class Install(ToolCase):
             self.expect_run(f"{root}{prefix}/bin/reassign-rounds", "--version")
             self.expect_run(UNINSTALL, prefix, env={**os.environ, "DESTDIR": destdir})
             self.assertFalse(os.path.exists(f"{root}{prefix}"))
+
+    def look_at_answers(self, place):
+        """The installed programs tell how to call them, and their versions, as those of the repository do. Each file that they
+        name is there. All other words are the program's."""
+        version = text_in("VERSION").strip()
+        os.symlink(f"{place}/bin/reassign", "by_link")
+        for name in (f"{place}/bin/reassign", "./by_link"):
+            self.assertEqual(self.expect_run(name, "--version"), f"reassign {version}\n")
+            told, here = self.expect_run(name, "--help"), self.expect_run(os.path.join(ROOT, "reassign"), "--help")
+            commands = told.partition("\n\nFor the best")[0]
+            self.assertEqual(commands, here.partition("\n\nFor the best")[0])
+            self.assertIn("usage: reassign COMMAND", commands)
+            files = re.findall(rf"{re.escape(place)}[\w/]*(?:\.md)?", told)
+            self.assertGreaterEqual(len(files), 4, told)
+            self.assertEqual([file for file in files if not os.path.exists(file)], [])
+            self.expect_line(2, self.usage_of(PROGRAM), name, "check", "--help")
+        if not ANNEAL:
+            return
+        self.assertEqual(self.expect_run(f"{place}/bin/reassign-anneal", "--version"), f"reassign-anneal {version}\n")
+        told = self.expect_run(f"{place}/bin/reassign-anneal", "--help")
+        self.assertEqual(told, self.expect_run(ANNEAL, "--help").replace("usage: anneal", "usage: reassign-anneal"))
+        self.expect_line(2, self.usage_of(ANNEAL), f"{place}/bin/reassign-anneal", "--nonsense")
+
+    def usage_of(self, program):
+        return run(program, "--nonsense").stderr.strip()
 
     def look_at_readers(self, place):
         """The man page and the completions, by the programs that read them, as far as they are on the machine."""

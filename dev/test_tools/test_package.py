@@ -10,7 +10,7 @@ import sys
 import tarfile
 import zipfile
 
-from common import PROGRAM, ROOT, ToolCase, run, text_of
+from common import ANNEAL, PROGRAM, ROOT, ToolCase, run, text_of
 
 SAMPLE = [os.path.join(ROOT, "examples", "sample", name) for name in ("model", "initial")]
 PLAIN = {key: value for key, value in os.environ.items() if key != "REASSIGN"}
@@ -25,7 +25,7 @@ class Packages(ToolCase):
     @classmethod
     def setUpClass(cls):
         super().setUpClass()
-        words = [os.path.join(ROOT, "dev", "package"), "--program", PROGRAM]
+        words = [os.path.join(ROOT, "dev", "package"), "--program", PROGRAM, *(["--anneal", ANNEAL] if ANNEAL else [])]
         cls.ran = [run(*words, "one"), subprocess.run([*words, os.path.abspath("two")], cwd="/", umask=0o077, text=True,
                                                       stdout=subprocess.PIPE, stderr=subprocess.PIPE)]
         cls.archive, cls.package = sorted(set(os.listdir("one")) - {"SHA256SUMS"})
@@ -47,11 +47,15 @@ class Packages(ToolCase):
             self.assertEqual((ran.returncode, ran.stderr), (0, ""), words)
             return ran.stdout
         self.assertIn("cost 4200\n", call(f"{place}/bin/reassign", "check", *SAMPLE, SAMPLE[1]))
+        if ANNEAL:
+            self.assertIn("cost 2411\n", call(f"{place}/bin/reassign-anneal", *SAMPLE, "1:100"))
+        raced = run(f"{place}/bin/reassign-race", "--instances", os.path.dirname(SAMPLE[0]), "--proposals", 5, env=PLAIN)
+        self.assertIn("\n| sample | 5 | reassign | 1 |", raced.stdout)
         tools = [name for name in os.listdir(f"{place}/bin") if name != "reassign"]
         self.assertGreaterEqual(len(tools), 5)
         for tool in tools:
             self.assertTrue(call(f"{place}/bin/{tool}", "--version").startswith(f"{tool} "))
-            self.assertTrue(os.path.exists(f"{place}/share/man/man1/{tool}.1"))
+            self.assertTrue(any(os.path.exists(f"{place}/share/man/man1/{tool}.1{ending}") for ending in ("", ".gz")), tool)
         self.assertIn("moved 0 of 3", run(f"{place}/bin/reassign-repair_words", *SAMPLE, "--out", "repaired", env=PLAIN).stdout)
 
     def test_archive(self):
@@ -81,6 +85,7 @@ class Packages(ToolCase):
             about = control.extractfile("./control").read().decode()
             sums = control.extractfile("./md5sums").read().decode()
         self.assertRegex(about, r"(?m)^Package: reassign\nVersion: \d")
+        self.assertRegex(about, r"(?m)^Maintainer: [^<]+ <\S+@\S+>$")
         with tarfile.open(fileobj=io.BytesIO(gzip.decompress(members["data.tar.gz"]))) as data:
             self.assertTrue(all(entry.uid == entry.gid == 0 and entry.mode & 0o022 == 0 for entry in data if not entry.issym()))
             data.extractall("root")
@@ -88,15 +93,26 @@ class Packages(ToolCase):
             digest, name = line.split("  ")
             self.assertEqual(hashlib.md5(bytes_of(f"root/{name}")).hexdigest(), digest, name)
         self.expect_works(os.path.abspath("root/usr"))
+        self.assertLess(os.path.getsize("root/usr/lib/reassign/reassign"), os.path.getsize(PROGRAM))
+        changes = gzip.decompress(bytes_of("root/usr/share/doc/reassign/changelog.Debian.gz")).decode()
+        self.assertIn(f"reassign ({re.search(r'Version: (.*)', about)[1]}) ", changes)
         if shutil.which("dpkg-deb"):
             ran = run("dpkg-deb", "-x", f"one/{self.package}", "by_dpkg")
             self.assertEqual((ran.returncode, ran.stderr), (0, ""))
             self.expect_works(os.path.abspath("by_dpkg/usr"))
 
+    def test_lintian(self):
+        """Debian's own judge of packages, if it is there, finds no error."""
+        if not shutil.which("lintian"):
+            self.skipTest("no lintian on this machine")
+        ran = run("lintian", "--fail-on", "error", f"one/{self.package}")
+        self.assertEqual(ran.returncode, 0, ran.stdout + ran.stderr)
+
     def test_refusals(self):
         words = [os.path.join(ROOT, "dev", "package")]
         self.assertEqual(run(*words).returncode, 2)
         self.assertEqual(run(*words, "--program", "nowhere", "three").returncode, 1)
+        self.assertEqual(run(*words, "--program", words[0], "three").returncode, 1)
         self.assertFalse(os.path.exists("three"))
 
 

@@ -15,7 +15,16 @@ PIECE = 1 << 20
 LONGEST_ERROR = 1 << 16  # bytes of an error line
 A_LINE, MOST_PRINTED = 64, 1 << 28  # bytes that a line takes beside its text, and that all lines may take
 STATUSES = range(2, 13)
+BINARIES = ("crates/reassign/out/reassign", "../lib/reassign/reassign")  # from the folders of the scripts that call it
 COSTS = ("cost", "load", "balance", "process", "service", "machine")
+
+
+def is_script(name):
+    try:
+        with open(name, "rb") as file:
+            return file.read(2) == b"#!"
+    except OSError:
+        return False
 
 
 class Program:
@@ -32,9 +41,10 @@ class Program:
             self.make()
 
     def binary(self):
-        """The program itself, which the repository's own call finds and calls."""
-        is_call = self.name == os.path.join(ROOT, "reassign")
-        return os.path.join(ROOT, "crates", "reassign", "out", "reassign") if is_call else os.path.abspath(self.name)
+        """The program's own file, which the repository's call of it finds, as an installed one does."""
+        folder = os.path.dirname(os.path.realpath(self.name))
+        places = (os.path.join(folder, place) for place in BINARIES) if is_script(self.name) else ()
+        return next(filter(os.path.isfile, places), os.path.abspath(self.name))
 
     def make(self):
         """The repository's own call proves and compiles the program if that is due, and says on standard error how far it
