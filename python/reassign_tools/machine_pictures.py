@@ -1,6 +1,8 @@
 """The picture of the machines: how much of each capacity is in use, before and after."""
-from .machine_uses import percents
-from .pictures import ACROSS, BLACK, BLUE, FAINT, GREEN, GRID, MIDDLE, ORANGE, PALE, PALE_GREEN, Picture, cut, grouped, wide
+from collections.abc import Callable, Sequence
+
+from .machine_uses import ResourceUse, percents
+from .pictures import ACROSS, BLACK, BLUE, FAINT, GREEN, GRID, MIDDLE, ORANGE, PALE, PALE_GREEN, Picture, Points, cut, grouped, wide
 from .words import shown
 
 MOST_DOTS = 120  # machines that are drawn as dots joined by lines
@@ -13,19 +15,21 @@ MOST_FULL = 5  # of the fullest machines that are named if there is no room for 
 FULL_SIZE, FULL_HEIGHT = 11, 32  # of the lines that name them
 ONE_COLUMN = 4  # resources; more stand in two columns
 HEIGHT, STEP, BESIDE, NARROW = 170, 236, 96, 500
+Floats = Sequence[float]
+Shape = Callable[[float], None]  # draws something so far down
 
 
 class Groups:
     """Machines in the order of their use at the start, in groups of nearly one size."""
 
-    def __init__(self, order):
+    def __init__(self, order: Sequence[int]) -> None:
         self.count = min(MOST_GROUPS, len(order) // GROUP)
         self.members = [order[at * len(order) // self.count:(at + 1) * len(order) // self.count] for at in range(self.count)]
 
-    def size(self):
+    def size(self) -> int:
         return round(sum(map(len, self.members)) / self.count)
 
-    def parts(self, values, part):
+    def parts(self, values: Floats, part: float) -> list[float]:
         """Of each group the value below which such a part of it is, counted from its end if the part is above a half."""
         chosen = []
         for group in self.members:
@@ -39,7 +43,7 @@ class MachineNames:
     """How the machines' names stand under an axis: side by side, or upright if there isn't room for that. If there is no room at
     all, and it is asked for, the fullest machines are named alone."""
 
-    def __init__(self, names, width, tells_fullest):
+    def __init__(self, names: Sequence[str], width: int, tells_fullest: bool) -> None:
         count, self.names = len(names), names
         self.size = 11 if count <= 30 else 8 if count <= MOST_ABREAST else 6.5
         self.are_shown = count <= MOST_ABREAST or NARROWEST * count <= width
@@ -48,13 +52,13 @@ class MachineNames:
         self.are_upright = self.are_shown and is_tight
         self.shown = [cut(name, self.size, LONGEST_NAME) for name in names] if self.are_upright else names
 
-    def height(self):
+    def height(self) -> int:
         """How much more room they need than names side by side."""
         if self.are_upright:
             return round(max(wide(name, self.size) for name in self.shown)) - 10
         return FULL_HEIGHT if self.tells_fullest else 0
 
-    def fullest(self, when, shares, width):
+    def fullest(self, when: str, shares: Floats, width: float) -> str:
         """A line that names the fullest machines, as many as there is room for."""
         line = f"fullest {when}:"
         for at, machine in enumerate(sorted(range(len(shares)), key=lambda machine: (-shares[machine], machine))[:MOST_FULL]):
@@ -68,14 +72,14 @@ class MachineNames:
 class Panel:
     """The use of each machine of one resource."""
 
-    def __init__(self, picture, use, names, left, top, width):
+    def __init__(self, picture: Picture, use: ResourceUse, names: MachineNames, left: float, top: int, width: int) -> None:
         self.picture, self.use, self.names = picture, use, names
         self.before, self.after, self.safety = map(use.shares, (use.before, use.after, use.safety))
         self.order = sorted(range(len(use.capacity)), key=lambda machine: (self.before[machine], machine))
         self.left, self.top, self.width = left, top, width
-        self.high = 1.05 * max(1.0, max(self.before), max(self.after))
+        self.high: float = 1.05 * max(1.0, max(self.before), max(self.after))
 
-    def draw(self):
+    def draw(self) -> None:
         self.draw_frame()
         if len(self.order) <= MOST_DOTS:
             self.draw_dots()
@@ -88,13 +92,13 @@ class Panel:
         if self.names.tells_fullest:
             self.draw_fullest()
 
-    def down(self, part):
+    def down(self, part: float) -> float:
         return self.top + HEIGHT * (1 - min(part, self.high) / self.high)
 
-    def across(self, at, count):
+    def across(self, at: int, count: int) -> float:
         return self.left + self.width * (at + 0.5) / count
 
-    def draw_frame(self):
+    def draw_frame(self) -> None:
         picture, left, end, bottom = self.picture, self.left, self.left + self.width, self.top + HEIGHT
         picture.text(left, self.top - 10, self.use.name, size=15, weight="bold")
         for mark in (0, 25, 50, 75, 100):
@@ -104,7 +108,7 @@ class Panel:
         picture.line(left, self.top, left, bottom)
         picture.line(left, bottom, end, bottom)
 
-    def draw_dots(self):
+    def draw_dots(self) -> None:
         picture, count = self.picture, len(self.order)
         radius = min(4, max(1.8, 0.4 * self.width / count))
         for at, machine in enumerate(self.order):
@@ -119,7 +123,7 @@ class Panel:
             picture.dot(x, self.down(self.after[machine]), max(radius - 0.7, 1.2), BLUE, BLUE)
         self.draw_names()
 
-    def draw_names(self):
+    def draw_names(self) -> None:
         """The machines under the axis, if they aren't too many."""
         names, count = self.names, len(self.order)
         for at, machine in enumerate(self.order if names.are_shown else []):
@@ -129,21 +133,23 @@ class Panel:
             else:
                 self.picture.text(x, y, name, "middle", names.size)
 
-    def draw_single(self):
+    def draw_single(self) -> None:
         """A bar for each machine after, and lines through all of them for what is before, and for safety."""
         count = len(self.order)
         width = self.width / count
         for at, machine in enumerate(self.order):
             y = self.down(self.after[machine])
             self.picture.bar(self.left + at * width, y, width, self.top + HEIGHT - y, MIDDLE)
-        steps = lambda values: [(self.left + (at + side) * width, self.down(values[machine]))
-                                for at, machine in enumerate(self.order) for side in (0, 1)]
+
+        def steps(values: Floats) -> Points:
+            return [(self.left + (at + side) * width, self.down(values[machine]))
+                    for at, machine in enumerate(self.order) for side in (0, 1)]
         self.picture.path(steps(self.before), BLACK, 1.5)
         self.picture.path(steps(self.safety), GREEN, 1.5)
 
-    def draw_groups(self, groups):
-        points = lambda values, part: [(self.across(at, groups.count), self.down(value))
-                                       for at, value in enumerate(groups.parts(values, part))]
+    def draw_groups(self, groups: Groups) -> None:
+        def points(values: Floats, part: float) -> Points:
+            return [(self.across(at, groups.count), self.down(value)) for at, value in enumerate(groups.parts(values, part))]
         picture = self.picture
         picture.band(points(self.after, 0), points(self.after, 1), PALE)
         picture.band(points(self.after, 0.1), points(self.after, 0.9), MIDDLE)
@@ -153,7 +159,7 @@ class Panel:
         picture.path(points(self.before, 0.5), BLACK, 1.5, "2 3")
         picture.path(points(self.safety, 0.5), GREEN, 1.5)  # on top, so that it is seen where the middle stands on it
 
-    def draw_ends(self):
+    def draw_ends(self) -> None:
         """How many machines there are, under the axis."""
         count = len(self.order)
         for at in (0, count // 4, count // 2, 3 * count // 4, count):
@@ -161,17 +167,16 @@ class Panel:
             self.picture.line(x, y, x, y + 5)
             self.picture.text(x, y + 18, grouped(at), "middle", 11)
 
-
-    def draw_fullest(self):
+    def draw_fullest(self) -> None:
         """The names of the fullest machines, below the axis."""
         for at, (when, shares) in enumerate((("before", self.before), ("after", self.after))):
             line = self.names.fullest(when, shares, self.width)
             self.picture.text(self.left, self.top + HEIGHT + 36 + 15 * at, line, size=FULL_SIZE)
 
 
-def draw_legend(picture, x, y, count, names):
+def draw_legend(picture: Picture, x: float, y: float, count: int, names: MachineNames) -> float:
     """What the colours mean, one below the other. Answers where it ends."""
-    rows = []
+    rows: list[tuple[Shape, str]] = []
     if count <= MOST_DOTS:
         rows += [(lambda y: picture.dot(x + 8, y, 4, "white", FAINT), "before"),
                  (lambda y: picture.dot(x + 8, y, 3.3, BLUE, BLUE), "after")]
@@ -192,15 +197,16 @@ def draw_legend(picture, x, y, count, names):
     return y + 24 * max(6, len(rows) + names.tells_fullest)
 
 
-def line_of(picture, x, colour, width, dash=""):
+def line_of(picture: Picture, x: float, colour: str, width: float, dash: str = "") -> Shape:
     return lambda y: picture.line(x, y, x + 18, y, colour, width, dash)
 
 
-def bar_of(picture, x, colour):
+def bar_of(picture: Picture, x: float, colour: str) -> Shape:
     return lambda y: picture.bar(x, y - 7, 18, 14, colour)
 
 
-def draw_machines(uses, machine_names, title, command, tells_fullest=False):
+def draw_machines(uses: Sequence[ResourceUse], machine_names: Sequence[str], title: str, command: str,
+                  tells_fullest: bool = False) -> str:
     """The picture of the machines, a panel for each resource. If there is no room for their names, the fullest may be told."""
     picture, count = Picture(80), len(machine_names)
     columns = 1 if len(uses) <= ONE_COLUMN else 2
@@ -221,5 +227,5 @@ def draw_machines(uses, machine_names, title, command, tells_fullest=False):
     return picture.written(max(bottom, end), title, command)
 
 
-def title_of(name, count):
+def title_of(name: str, count: int) -> str:
     return f"{shown(name)}: {grouped(count)} machines, before and after"

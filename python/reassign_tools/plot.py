@@ -17,17 +17,21 @@ A report that is cut off, or isn't one, is refused with its wrong line; so is on
 this start in this model. One that is cut between two entries, after its best state, can't be told. Whether a list is feasible
 `summary` says.
 
-The colours can be told apart by readers who are colour blind. For example
+A name with the ending .png or .pdf gets such a picture, if rsvg-convert or cairosvg is there. The colours can be told apart by
+readers who are colour blind. For example
 
     $ tools/plot --out /tmp/picture.svg examples/sample/new examples/sample/model examples/sample/initial"""
+import argparse
 import shlex
 import sys
+from collections.abc import Sequence
 
-from .files import read_list, target, write_whole
+from .files import read_list, target
 from .machine_pictures import draw_machines, title_of
 from .machine_uses import uses_of
 from .models import Model, same_sizes
 from .names import Names
+from .pictures import form_of, write_picture
 from .problems import Problem
 from .run_pictures import draw_run
 from .reports import is_list
@@ -36,12 +40,12 @@ from .running import run_tool
 from .words import Words, any_file_name, shown
 
 
-def parser():
+def parser() -> Words:
     words = Words("plot", __doc__)
     words.add_argument("report", metavar="REPORT|LIST", type=any_file_name)
     words.add_argument("model", metavar="MODEL", type=any_file_name, nargs="?")
     words.add_argument("initial", metavar="INITIAL", type=any_file_name, nargs="?")
-    words.add_argument("--out", metavar="FILE", type=any_file_name, help="where the picture goes (standard output)")
+    words.add_argument("--out", metavar="FILE", type=any_file_name, help="where the picture goes (standard output): .svg, .png or .pdf")
     words.add_argument("--run", action="store_true", help="draw the run, though there are a model and a start")
     words.add_argument("--names", metavar="FILE", type=any_file_name, help="the names of the model, as `named pack` writes them")
     words.add_argument("--title", metavar="TITLE", help="the title of the picture")
@@ -51,13 +55,13 @@ def parser():
 class Instance:
     """A model and a start, from which a report's list costs what the report says."""
 
-    def __init__(self, model_name, start_name):
+    def __init__(self, model_name: str, start_name: str) -> None:
         self.start_name, self.start = start_name, read_list(start_name)
         self.model = Model.read(model_name)
         same_sizes(self.model, start_name, self.start)
         self.start_cost = self.model.cost(self.start, self.start)
 
-    def has(self, report):
+    def has(self, report: RunReport) -> None:
         """Raises Problem with status 9 if a report isn't of this model and start."""
         end = report.assignment
         if len(end) != len(self.start) or max(end) >= self.model.machines:
@@ -71,7 +75,7 @@ class Instance:
                           f"{self.start_name} costs {self.start_cost}", 9)
 
 
-def machines(words, instance, end, command):
+def machines(words: argparse.Namespace, instance: Instance, end: Sequence[int], command: str) -> str:
     """The picture of the machines."""
     model = instance.model
     names = Names.read(words.names, words.model) if words.names else Names.numbers(model)
@@ -80,8 +84,8 @@ def machines(words, instance, end, command):
     return draw_machines(uses, names.machines, title, command, tells_fullest=bool(words.names))
 
 
-def picture_of(words):
-    files = filter(None, (words.report, words.model, words.initial))
+def picture_of(words: argparse.Namespace) -> str:
+    files: list[str] = [name for name in (words.report, words.model, words.initial) if name]
     options = ["--run"] * words.run + (["--names", words.names] if words.names else [])
     command = "tools/plot " + shown(shlex.join([*options, *files]))
     instance = Instance(words.model, words.initial) if words.model else None
@@ -96,10 +100,10 @@ def picture_of(words):
         instance.has(report)
     if instance and not words.run:
         return machines(words, instance, report.assignment, command)
-    return draw_run(report, instance, command, words.title and shown(words.title))
+    return draw_run(report, instance.start_cost if instance else None, command, shown(words.title) if words.title else None)
 
 
-def work(words):
+def work(words: argparse.Namespace) -> None:
     if words.model and not words.initial:
         raise Problem("MODEL stands alone, without INITIAL; plot --help shows how to call it", 2)
     if words.run and not words.model:
@@ -107,13 +111,15 @@ def work(words):
     if words.names and not words.model:
         raise Problem("--names is for a model and its machines; plot --help shows how to call it", 2)
     out = words.out and target(words.out, words.report, words.model, words.initial, words.names)
+    if out:
+        form_of(words.out)
     picture = picture_of(words).encode()
     if out:
-        write_whole(out, [picture])
+        write_picture(out, picture)
     else:
         sys.stdout.buffer.write(picture)
         sys.stdout.buffer.flush()
 
 
-def main(words=None):
+def main(words: Sequence[str] | None = None) -> None:
     run_tool(parser(), work, words)

@@ -15,7 +15,15 @@ spread (the most less the least, as a share of the way from the start's cost to 
 at the median, the median of their times (by the clock with --seconds, else as above), and how many runs left a list that breaks
 a rule ("infeasible"), left no list, crashed (ended by a signal, or with another status than 0), were ended after twice their
 time and a minute more ("time-out"), or were late, which is a tenth of their seconds and one second more. --csv and --json have
-a row for each run, and --curves is a picture of what is left over seconds, by median and quartiles.
+a row for each run, and --latex has the tables for a text. --curves is a picture of what is left over seconds, by median and
+quartiles, and --plot one of the costs. A picture is .svg, or .png or .pdf if rsvg-convert or cairosvg is there.
+
+--known FILE has the best costs that are known: lines of an instance and a cost, and what stands behind # doesn't count. They
+become columns and a line of --plot. --test compares each two solvers, with their slacks, by Wilcoxon's signed ranks over the same
+seeds, on each instance, and by the share of the way that is left on all. A run without a feasible list is dearer than any with
+one. Pairs that cost the same are left out; equal differences share the middle of their ranks. The rank sum is the lesser one, and
+p is how often such a one comes by chance if neither solver is better, on either side: exact for up to 50 pairs, and by the normal
+distribution for more. It isn't corrected for how many tests there are.
 
 On several machines: --list FILE writes one command a line, and puts all that they need into FOLDER, which the hosts share or
 which is copied to them. `parallel --sshloginfile HOSTS < FILE` or a Slurm array runs them; if a host has FOLDER elsewhere, its
@@ -28,23 +36,29 @@ import os
 import queue
 import shutil
 import threading
+from collections.abc import Callable, Iterator, Mapping, Sequence
 from dataclasses import replace
+from typing import TypeVar
 
 from .files import Room, read_whole, target, write_whole
+from .pictures import form_of, write_picture
 from .problems import Problem
 from .program import Program
-from .race_curves import curves
-from .race_plan import (AUTO, Instance, Plan, digest, instances_of, is_one_run, planned, proposals_of, seconds_of, seeds_of,
-                        slacks_of, solver_of)
-from .race_rows import Judge, csv_text, json_text, tables
+from .race_curves import costs, curves
+from .race_plan import (AUTO, Instance, Job, Plan, Solver, digest, instances_of, is_one_run, planned, proposals_of, seconds_of,
+                        seeds_of, slacks_of, solver_of)
+from .race_ranks import rank_table
+from .race_rows import Judge, Row, Table, csv_text, instance_table, json_text, read_known, run_table
 from .race_runs import Place, Running, run_unit, units_of
 from .running import PACKAGE, no_more_stops, run_tool, say, stopped_status
 from .words import MOST_LOTS, Words, file_name, number
 
 PLAN, RESULTS, TOOLS, PROGRAM, RUN = "plan.json", "results", "python", "program", "run"
+Read = TypeVar("Read")
+Done = tuple[Job | None, BaseException | None]
 
 
-def parser():
+def parser() -> Words:
     words = Words("race", __doc__)
     words.add_program()
     words.add_argument("--instances", metavar="PATTERN", type=file_name, nargs="+", default=[],
@@ -63,7 +77,11 @@ def parser():
     words.add_argument("--jobs", metavar="J", type=number(1, 1000), default=1, help="runs side by side (1)")
     words.add_argument("--csv", metavar="FILE", type=file_name, help="a row for each run")
     words.add_argument("--json", metavar="FILE", type=file_name, help="the same, with the curves")
-    words.add_argument("--curves", metavar="FILE", type=file_name, help="a picture (SVG) of the cost over seconds")
+    words.add_argument("--latex", metavar="FILE", type=file_name, help="the tables as LaTeX")
+    words.add_argument("--curves", metavar="FILE", type=file_name, help="a picture of what is left over seconds")
+    words.add_argument("--plot", metavar="FILE", type=file_name, help="a picture of the costs over seconds")
+    words.add_argument("--known", metavar="FILE", type=file_name, help="the best costs that are known")
+    words.add_argument("--test", action="store_true", help="a rank test between each two solvers")
     words.add_argument("--folder", metavar="FOLDER", type=file_name, help="keep the plan and the runs there")
     words.add_argument("--list", metavar="FILE", type=file_name, help="write the commands of the runs, and run nothing here")
     words.add_argument("--collect", metavar="FOLDER", type=file_name, help="judge what came back, and run nothing")
@@ -72,8 +90,8 @@ def parser():
     return words
 
 
-def listed(read):
-    def word(text):
+def listed(read: Callable[[str], Read]) -> Callable[[str], Read]:
+    def word(text: str) -> Read:
         try:
             return read(text)
         except ValueError:
@@ -81,7 +99,7 @@ def listed(read):
     return word
 
 
-def plan_of(options):
+def plan_of(options: argparse.Namespace) -> Plan:
     """The plan that the words of a call ask for."""
     if not options.instances:
         raise Problem("--instances is missing; race --help shows how to call it", 2)
@@ -92,15 +110,16 @@ def plan_of(options):
                      options.seconds or [], options.workers)
 
 
-def made_plan(instances, solvers, seeds, slacks, proposals, seconds, workers):
+def made_plan(instances: Sequence[Instance], solvers: Sequence[Solver], seeds: Sequence[int], slacks: Sequence[str] | None,
+              proposals: Sequence[int], seconds: Sequence[float], workers: int) -> Plan:
     """The plan of a race. A run of `solve` has slack 0 if no slacks are given, and `rounds` chooses."""
     if len({solver.name for solver in solvers}) < len(solvers):
         raise Problem("two solvers have one name", 2)
-    budgets = [(one, None) for one in proposals] + [(None, one) for one in seconds]
+    budgets: list[tuple[int | None, float | None]] = [*((one, None) for one in proposals), *((None, one) for one in seconds)]
     return with_slacks(planned(instances, solvers, seeds, slacks or [AUTO], budgets, workers), slacks)
 
 
-def with_slacks(plan, asked):
+def with_slacks(plan: Plan, asked: Sequence[str] | None) -> Plan:
     jobs = [replace(job, slack="0") if job.slack == AUTO and is_one_run(job) else job for job in plan.jobs]
     if asked and AUTO in asked and any(one != job for one, job in zip(jobs, plan.jobs)):
         raise Problem("--slack auto is for --seconds, and for more than 1000000 proposals", 2)
@@ -114,26 +133,28 @@ def with_slacks(plan, asked):
 class Race:
     """A plan that is run or judged here."""
 
-    def __init__(self, plan, program, folder):
+    def __init__(self, plan: Plan, program: Program, folder: str, known: Mapping[str, int] | None = None) -> None:
         self.plan, self.program, self.running = plan, program, Running()
         self.place = Place(folder, program.binary(), self.running)
-        self.judge = Judge(program, plan)
+        self.judge = Judge(program, plan, known)
 
-    def run_all(self, jobs):
+    def run_all(self, jobs: int) -> tuple[list[Row], bool]:
         """Makes the runs that aren't there yet, so many side by side. Answers the rows of those that are there in the end, and
         whether it was stopped."""
-        waiting, done = queue.SimpleQueue(), queue.SimpleQueue()
+        waiting: queue.SimpleQueue[list[Job]] = queue.SimpleQueue()
+        done: queue.SimpleQueue[Done] = queue.SimpleQueue()
         for unit in units_of(self.plan):
             waiting.put(unit)
         workers = [threading.Thread(target=self.work_through, args=(waiting, done), daemon=True) for _ in range(jobs)]
-        rows, is_stopped = {}, False
+        rows: dict[int, Row] = {}
+        is_stopped = False
         try:
             for worker in workers:
                 worker.start()
             for _ in self.plan.jobs:
                 job, fault = done.get()
-                if fault:
-                    raise fault
+                if fault or not job:
+                    raise fault or AssertionError
                 rows[job.number] = self.judge.row(job, self.place)
                 say(f"{len(rows)} of {len(self.plan.jobs)}: {job.told()}: {rows[job.number].told()}")
         except KeyboardInterrupt:
@@ -144,7 +165,7 @@ class Race:
             worker.join()
         return [rows[number] for number in sorted(rows)], is_stopped
 
-    def work_through(self, waiting, done):
+    def work_through(self, waiting: "queue.SimpleQueue[list[Job]]", done: "queue.SimpleQueue[Done]") -> None:
         while True:
             try:
                 unit = waiting.get_nowait()
@@ -157,22 +178,23 @@ class Race:
                 done.put((None, fault))
                 return
 
-    def rows(self):
+    def rows(self) -> list[Row]:
         """The rows of all runs that are there."""
         return [self.judge.row(job, self.place) for job in self.plan.jobs if self.place.has(job)]
 
 
-def raced(plan, program, folder, jobs):
+def raced(plan: Plan, program: Program, folder: str | None, jobs: int,
+          known: Mapping[str, int] | None = None) -> tuple[list[Row], bool]:
     """Runs a plan here, so many runs side by side. Answers its rows, and whether it was stopped."""
     with Room() as room:
-        return Race(plan, program, kept_folder(folder, plan) if folder else room("")).run_all(jobs)
+        return Race(plan, program, kept_folder(folder, plan) if folder else room(""), known).run_all(jobs)
 
 
-def run_here(options):
+def run_here(options: argparse.Namespace) -> tuple[list[Row], int]:
     """Runs a race here. Answers its rows, and the status."""
     plan, program = plan_of(options), Program(options.program)
     check_outputs(options, plan, program)
-    rows, is_stopped = raced(plan, program, options.folder, options.jobs)
+    rows, is_stopped = raced(plan, program, options.folder, options.jobs, known_of(options))
     if is_stopped:
         no_more_stops()
         again = "; the same call goes on" if options.folder else ""
@@ -180,7 +202,7 @@ def run_here(options):
     return rows, stopped_status() if is_stopped else 0
 
 
-def kept_folder(folder, plan):
+def kept_folder(folder: str, plan: Plan) -> str:
     """The folder in which the runs of a plan are kept. One that has another plan is refused."""
     name = os.path.join(folder, PLAN)
     if os.path.exists(name):
@@ -200,7 +222,7 @@ def kept_folder(folder, plan):
 # Elsewhere
 
 
-def write_list(options):
+def write_list(options: argparse.Namespace) -> None:
     """Puts all that the hosts need into the folder, and writes the commands."""
     plan, program = plan_of(options), Program(options.program)
     check_outputs(options, plan, program)
@@ -229,16 +251,16 @@ exec python3 "$here/{TOOLS}/{os.path.basename(PACKAGE)}" race --folder "$here" -
 """
 
 
-def write_commands(name, folder, plan):
+def write_commands(name: str, folder: str, plan: Plan) -> None:
     """Writes the commands of those units of which a run is missing."""
-    place = Place(os.path.join(folder, RESULTS), "", None)
+    place = Place(os.path.join(folder, RESULTS), "", Running())
     missing = [at for at, unit in enumerate(units_of(plan)) if not all(map(place.has, unit))]
     start = f'"${{RACE:-{quoted(folder)}}}/{RUN}"'
     write_whole(name, [f"{start} {at}\n".encode() for at in missing])
     say(f"{name} has {len(missing)} commands")
 
 
-def quoted(folder):
+def quoted(folder: str) -> str:
     """A folder's name between double quotes of the shell."""
     if any(letter in folder for letter in '"$`\\}\n'):
         raise Problem(f"{folder}: the name of a folder for other hosts may have no quotes, dollars, backslashes, braces or line "
@@ -246,7 +268,7 @@ def quoted(folder):
     return folder
 
 
-def run_one(options):
+def run_one(options: argparse.Namespace) -> None:
     """What a command of the list does, on any host."""
     if not options.folder:
         raise Problem("--run is for --folder; race --help shows how to call it", 2)
@@ -254,7 +276,8 @@ def run_one(options):
     units = units_of(plan)
     if options.run >= len(units):
         raise Problem(f"{options.folder} has no run {options.run}", 2)
-    at_hand = lambda at, file: os.path.join(options.folder, "instances", str(at), file)
+    def at_hand(at: int, file: str) -> str:
+        return os.path.join(options.folder, "instances", str(at), file)
     plan.instances = {name: Instance(name, at_hand(at, "model"), at_hand(at, "initial")) for at, name in enumerate(plan.instances)}
     running = Running()
     try:
@@ -265,7 +288,7 @@ def run_one(options):
         running.end_all()
 
 
-def collected(options):
+def collected(options: argparse.Namespace) -> tuple[list[Row], int]:
     """The rows of the runs that came back."""
     plan, digests = Plan.read(os.path.join(options.collect, PLAN))
     if options.instances:
@@ -280,7 +303,7 @@ def collected(options):
                 raise Problem(f"{one.model} or {one.initial} is another file than when {options.collect} was made", 9)
     program = Program(options.program)
     check_outputs(options, plan, program)
-    rows = Race(plan, program, os.path.join(options.collect, RESULTS)).rows()
+    rows = Race(plan, program, os.path.join(options.collect, RESULTS), known_of(options)).rows()
     say(f"{len(rows)} of {len(plan.jobs)} runs are there")
     if options.list:
         write_commands(options.list, os.path.realpath(options.collect), plan)
@@ -290,27 +313,51 @@ def collected(options):
 # The call
 
 
-def check_outputs(options, plan, program):
-    """Refuses an output that would destroy an input, or another output."""
-    outputs = list(filter(None, (options.csv, options.json, options.curves, options.list)))
-    inputs = [program.name, *(file for one in plan.instances.values() for file in (one.model, one.initial))]
+def known_of(options: argparse.Namespace) -> dict[str, int]:
+    """The best-known costs."""
+    return read_known(options.known) if options.known else {}
+
+
+def check_outputs(options: argparse.Namespace, plan: Plan, program: Program) -> None:
+    """Refuses an output that would destroy an input, or another output, and what can't be read or drawn, before any run."""
+    outputs = [name for name in (options.csv, options.json, options.latex, options.curves, options.plot, options.list) if name]
+    inputs = [program.name, options.known, *(file for one in plan.instances.values() for file in (one.model, one.initial))]
     for at, name in enumerate(outputs):
         target(name, *inputs, *outputs[:at])
+    for name in filter(None, (options.curves, options.plot)):
+        form_of(name)
+    known_of(options)
 
 
-def work(options):
+def tables_of(rows: Sequence[Row], has_test: bool) -> Iterator[Table]:
+    yield instance_table(rows)
+    yield run_table(rows)
+    if has_test:
+        yield rank_table(rows)
+
+
+def work(options: argparse.Namespace) -> int:
     if options.run is not None:
-        return run_one(options)
+        run_one(options)
+        return 0
     if options.list and not options.collect:
-        return write_list(options)
+        write_list(options)
+        return 0
     rows, status = collected(options) if options.collect else run_here(options)
-    for name, text in ((options.csv, csv_text), (options.json, json_text), (options.curves, curves)):
-        if name and rows:
+    if not rows:
+        return status
+    tables = list(tables_of(rows, options.test))
+    for name, text in ((options.csv, csv_text), (options.json, json_text)):
+        if name:
             write_whole(name, text(rows))
-    if rows:
-        print(tables(rows), end="")
+    if options.latex:
+        write_whole(options.latex, ["\n".join(table.latex() for table in tables).encode()])
+    for name, picture in ((options.curves, curves), (options.plot, costs)):
+        if name:
+            write_picture(name, picture(rows))
+    print("\n".join(table.markdown() for table in tables), end="")
     return status
 
 
-def main(words=None):
+def main(words: Sequence[str] | None = None) -> None:
     run_tool(parser(), work, words)

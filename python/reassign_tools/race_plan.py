@@ -5,6 +5,7 @@ import json
 import os
 import re
 import shlex
+from collections.abc import Mapping, Sequence
 from dataclasses import asdict, dataclass
 
 from .files import read_whole, write_whole
@@ -31,9 +32,9 @@ class Solver:
     name: str
     command: str
 
-    def words(self, values):
+    def words(self, values: Mapping[str, object]) -> list[str]:
         """The words of the command for one run."""
-        return [re.sub(r"\{(\w+)\}", lambda field: str(values[field[1]]), word) for word in shlex.split(self.command)]
+        return [re.sub(r"\{(\w+)\}", lambda field: str(values[str(field[1])]), word) for word in shlex.split(self.command)]
 
 
 @dataclass(frozen=True)
@@ -47,10 +48,10 @@ class Job:
     proposals: int | None
     seconds: float | None
 
-    def budget(self):
+    def budget(self) -> str:
         return f"{self.proposals:,} proposals" if self.proposals else f"{self.seconds:g} s"
 
-    def told(self):
+    def told(self) -> str:
         slack = f", slack {self.slack}" if self.slack else ""
         return f"{self.instance}, {self.solver}{slack}, {self.budget()}, seed {self.seed}"
 
@@ -58,12 +59,12 @@ class Job:
 @dataclass
 class Plan:
     """All that a race runs, in an order in which each solver meets the same load of the machine."""
-    instances: dict
-    solvers: dict
+    instances: dict[str, Instance]
+    solvers: dict[str, Solver]
     workers: int
-    jobs: list
+    jobs: list[Job]
 
-    def text(self):
+    def text(self) -> bytes:
         """The plan as JSON, with the SHA-256 of each file."""
         instances = [asdict(one) | {"model_sha256": digest(one.model), "initial_sha256": digest(one.initial)}
                      for one in self.instances.values()]
@@ -71,11 +72,11 @@ class Plan:
                  "jobs": [asdict(one) for one in self.jobs]}
         return json.dumps(whole, indent=1).encode() + b"\n"
 
-    def write(self, name):
+    def write(self, name: str) -> None:
         write_whole(name, [self.text()])
 
     @staticmethod
-    def read(name):
+    def read(name: str) -> "tuple[Plan, dict[str, tuple[str, str]]]":
         """The plan of a file, and the SHA-256 of its models and starts by the names of their instances."""
         try:
             whole = json.loads(read_whole(name))
@@ -87,7 +88,7 @@ class Plan:
             raise Problem(f"{name} is no plan of a race", 9) from None
 
 
-def digest(name):
+def digest(name: str) -> str:
     """The SHA-256 of a file."""
     try:
         with open(name, "rb") as file:
@@ -96,9 +97,10 @@ def digest(name):
         raise Problem(f"{name}: {fault.strerror}") from None
 
 
-def planned(instances, solvers, seeds, slacks, budgets, workers):
+def planned(instances: Sequence[Instance], solvers: Sequence[Solver], seeds: Sequence[int], slacks: Sequence[str],
+            budgets: Sequence[tuple[int | None, float | None]], workers: int) -> Plan:
     """The plan of all runs. `budgets` are pairs of proposals and seconds, one of which is None."""
-    jobs = []
+    jobs: list[Job] = []
     for seed in seeds:
         for instance in instances:
             for proposals, seconds in budgets:
@@ -111,11 +113,12 @@ def planned(instances, solvers, seeds, slacks, budgets, workers):
 # What the words of a call name
 
 
-def instances_of(patterns):
+def instances_of(patterns: Sequence[str]) -> list[Instance]:
     """The instances that patterns of file names match: model_X with assignment_X, and folders with `model` and `initial`.
 
     All names of which nothing can be made are told at once."""
-    found, wrong = {}, []
+    found: dict[str, Instance] = {}
+    wrong = []
     for pattern in patterns:
         names = sorted(glob.glob(pattern)) if glob.has_magic(pattern) else [pattern]
         some = [(name, instance_at(name)) for name in names]
@@ -127,7 +130,7 @@ def instances_of(patterns):
     return with_own_names(list(found.values()))
 
 
-def instance_at(name):
+def instance_at(name: str) -> Instance | None:
     """The instance of a folder or a model file, or None."""
     folder, file = os.path.split(name)
     if os.path.isdir(name):
@@ -143,21 +146,21 @@ def instance_at(name):
     return Instance(label, model, initial) if os.path.isfile(model) and os.path.isfile(initial) else None
 
 
-def why_none(pattern, names):
+def why_none(pattern: str, names: Sequence[str]) -> str:
     if not names or (names == [pattern] and not os.path.exists(pattern)):
         return "there is no such file"
     return "no instance: that is a file model_X with assignment_X beside it, or a folder with `model` and `initial`"
 
 
-def with_own_names(instances):
+def with_own_names(instances: Sequence[Instance]) -> list[Instance]:
     """The instances, those of which the names are the same named by their models' paths."""
     names = [one.name for one in instances]
     return [Instance(one.model, one.model, one.initial) if names.count(one.name) > 1 else one for one in instances]
 
 
-def numbers_of(word, most):
+def numbers_of(word: str, most: int) -> list[int]:
     """The numbers that a word like 1-3,7 names, in their order."""
-    numbers = []
+    numbers: list[int] = []
     for part in word.split(","):
         ends = part.split("-")
         if not 1 <= len(ends) <= 2 or not all(re.fullmatch("[0-9]{1,20}", end) for end in ends):
@@ -169,24 +172,24 @@ def numbers_of(word, most):
     return list(dict.fromkeys(numbers))
 
 
-def seeds_of(word):
+def seeds_of(word: str) -> list[int]:
     return numbers_of(word, LARGEST_SEED)
 
 
-def slacks_of(word):
+def slacks_of(word: str) -> list[str]:
     """Slacks, each a number or "auto"."""
     parts = [part if part == AUTO else str(numbers_of(part, LARGEST_SEED)[0]) for part in word.split(",")]
     return list(dict.fromkeys(parts))
 
 
-def proposals_of(word):
+def proposals_of(word: str) -> list[int]:
     budgets = numbers_of(word, 10**12)
     if not min(budgets):
         raise ValueError
     return budgets
 
 
-def seconds_of(word):
+def seconds_of(word: str) -> list[float]:
     """Seconds, which needn't be whole."""
     budgets = [float(part) for part in word.split(",") if re.fullmatch(r"[0-9]{1,9}(\.[0-9]{1,6})?", part)]
     if len(budgets) != word.count(",") + 1 or not min(budgets):
@@ -194,7 +197,7 @@ def seconds_of(word):
     return list(dict.fromkeys(budgets))
 
 
-def solver_of(word):
+def solver_of(word: str) -> Solver:
     """A solver by a word 'NAME: COMMAND'."""
     name, colon, command = word.partition(":")
     name, command = name.strip(), command.strip()
@@ -213,6 +216,6 @@ def solver_of(word):
     return Solver(name, command)
 
 
-def is_one_run(job):
+def is_one_run(job: Job) -> bool:
     """Whether the program's budget is that of one run, and not of `rounds`."""
     return job.proposals is not None and job.proposals <= MOST_PROPOSALS

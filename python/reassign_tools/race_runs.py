@@ -10,15 +10,17 @@ import subprocess
 import tempfile
 import threading
 import time
+from collections.abc import Callable, Iterator, Sequence
 from dataclasses import asdict, dataclass, field
 from statistics import median
+from typing import Any
 
 from . import __version__
 from .children import begin, forget, signal_group
 from .files import PIECE, list_text, read_whole, write_whole
 from .problems import Problem
 from .program import slack_words
-from .race_plan import OWN, digest, is_one_run
+from .race_plan import OWN, Instance, Job, Plan, Solver, digest, is_one_run
 from .running import command_of, stopped_status
 
 CURVE_POINTS = 150
@@ -26,6 +28,8 @@ CRASH, TIME_OUT = "crash", "time-out"  # how a run ends that doesn't end by itse
 PATIENCE = 5.0  # seconds that a program has to end well
 MOST_OUTCOME = 1 << 24  # bytes that a run says of itself
 SHORTEST = 0.001  # seconds that another solver gets at least
+Curve = list[tuple[float, int]]  # seconds, and the cost from there on
+Take = Callable[[bytes], None]
 
 
 @dataclass
@@ -41,9 +45,9 @@ class Outcome:
     proposals: int | None = None
     fault: str = ""
     end: str = ""
-    curve: list = field(default_factory=list)
+    curve: Curve = field(default_factory=list)
 
-    def solving(self):
+    def solving(self) -> float:
         """The processor time without that of reading the files."""
         return max(self.processor - (self.reading or 0.0), SHORTEST)
 
@@ -54,18 +58,19 @@ class Outcome:
 class Running:
     """The programs that run just now, each in a process group of its own, which can be ended together."""
 
-    def __init__(self):
-        self.lock, self.groups, self.is_over = threading.Lock(), set(), False
+    def __init__(self) -> None:
+        self.lock, self.is_over = threading.Lock(), False
+        self.groups: set[int] = set()
 
-    def start(self, words, **how):
+    def start(self, words: Sequence[str], **how: Any) -> "subprocess.Popen[bytes]":
         with self.lock:
             if self.is_over:
                 raise Problem("stopped", stopped_status())
-            run = begin(words, stdout=subprocess.PIPE, **how)
+            run: subprocess.Popen[bytes] = begin(words, stdout=subprocess.PIPE, **how)
             self.groups.add(run.pid)
         return run
 
-    def end_group(self, group):
+    def end_group(self, group: int) -> None:
         """Ends a program well, or else at once, and what it began."""
         signal_group(group, signal.SIGTERM)
         last = time.monotonic() + PATIENCE
@@ -73,14 +78,14 @@ class Running:
             time.sleep(0.02)
         signal_group(group, signal.SIGKILL)
 
-    def forget(self, run):
+    def forget(self, run: "subprocess.Popen[bytes]") -> None:
         """The program ended; what it left running ends too."""
         signal_group(run.pid, signal.SIGKILL)
         forget(run)
         with self.lock:
             self.groups.discard(run.pid)
 
-    def end_all(self):
+    def end_all(self) -> None:
         with self.lock:
             self.is_over = True
             groups = list(self.groups)
@@ -99,7 +104,7 @@ class Timed:
     processor: float
 
 
-def timed(running, words, take=None, limit=None):
+def timed(running: Running, words: Sequence[object], take: Take | None = None, limit: float | None = None) -> Timed:
     """Runs a program to its end, or for so many seconds as `limit`. Each line that it prints goes to `take`. What it left running
     ends with it."""
     with tempfile.TemporaryFile() as errors:
@@ -108,24 +113,30 @@ def timed(running, words, take=None, limit=None):
             run = running.start(list(map(str, words)), stderr=errors)
         except OSError as fault:
             return Timed(127, f"{words[0]}: {fault.strerror}", 0.0, 0.0)
+        printed = run.stdout
+        assert printed
         waiting = threading.Thread(target=wait_for, args=(running, run, limit, ended), daemon=True)
         waiting.start()
-        while line := run.stdout.readline(PIECE):
+        while line := printed.readline(PIECE):
             if take:
                 take(line)
         waiting.join()
         ended.seconds = time.monotonic() - began
-        run.stdout.close()
+        printed.close()
         errors.seek(max(0, errors.seek(0, os.SEEK_END) - 4096))
         lines = errors.read().decode(errors="replace").strip().splitlines()
         ended.error = lines[-1] if lines else ""
     return ended
 
 
-def wait_for(running, run, limit, ended):
+def wait_for(running: Running, run: "subprocess.Popen[bytes]", limit: float | None, ended: Timed) -> None:
     """Waits for the end of a program, which comes after its limit at the latest."""
     is_late = threading.Event()
-    alarm = threading.Timer(limit, lambda: (is_late.set(), running.end_group(run.pid))) if limit else None
+
+    def end_late() -> None:
+        is_late.set()
+        running.end_group(run.pid)
+    alarm = threading.Timer(limit, end_late) if limit else None
     if alarm:
         alarm.start()
     _, status, usage = os.wait4(run.pid, 0)
@@ -137,7 +148,7 @@ def wait_for(running, run, limit, ended):
     ended.processor = usage.ru_utime + usage.ru_stime
 
 
-def limit_of(seconds):
+def limit_of(seconds: float) -> float:
     """After how many seconds a run of another program is ended that should take so many."""
     return 2 * seconds + 60
 
@@ -148,26 +159,28 @@ def limit_of(seconds):
 class Head:
     """Takes a report line by line: the lines before its journal, and where its cost fell."""
 
-    def __init__(self):
-        self.lines, self.entries, self.least, self.falls = [], 0, None, []
+    def __init__(self) -> None:
+        self.lines: list[bytes] = []
+        self.entries, self.least = 0, math.inf
+        self.falls: list[tuple[int, int]] = []
 
-    def take(self, line):
+    def take(self, line: bytes) -> None:
         if len(self.lines) < 10:
             self.lines.append(line)
             return
         self.entries += 1
         if b" done " in line:
             cost = int(line[line.rindex(b" "):][:40])
-            if self.least is None or cost < self.least:
+            if cost < self.least:
                 self.least = cost
                 self.falls.append((self.entries, cost))
 
-    def assignment(self):
+    def assignment(self) -> list[int] | None:
         words = self.lines[8].split() if len(self.lines) == 10 else []
         return list(map(int, words[1:])) if words[:1] == [b"assignment"] else None
 
 
-def thinned(points):
+def thinned(points: Curve) -> Curve:
     """Some of the points of a curve: the last of each of so many steps, which grow by equal factors."""
     if len(points) <= CURVE_POINTS:
         return points
@@ -178,12 +191,14 @@ def thinned(points):
     return list(by_step.values())
 
 
-def run_solve(running, program, instance, job, workers, new):
+def run_solve(running: Running, program: str, instance: Instance, job: Job, proposals: int, workers: int, new: str) -> Outcome:
     """One run of `solve`, behind the same command with no proposal, which tells how long reading takes."""
     first = (job.seed - 1) * workers + 1
-    shares = [job.proposals // workers + (worker < job.proposals % workers) for worker in range(workers)]
+    shares = [proposals // workers + (worker < proposals % workers) for worker in range(workers)]
     words = [program, "solve", instance.model, instance.initial, *slack_words(int(job.slack))]
-    lots = lambda budgets: [f"{(first + worker) % 2**64}:{budget}" for worker, budget in enumerate(budgets)]
+
+    def lots(budgets: Sequence[int]) -> list[str]:
+        return [f"{(first + worker) % 2**64}:{budget}" for worker, budget in enumerate(budgets)]
     idle = timed(running, words + lots([0] * workers))
     head = Head()
     run = timed(running, words + lots(shares), head.take)
@@ -198,7 +213,7 @@ def run_solve(running, program, instance, job, workers, new):
     return outcome
 
 
-def run_rounds(running, program, instance, job, workers, new):
+def run_rounds(running: Running, program: str, instance: Instance, job: Job, workers: int, new: str) -> Outcome:
     """A run of `rounds`, for a number of seconds or for more proposals than one run may have."""
     log = f"{new}.log"
     budget = ["--proposals", job.proposals] if job.proposals else ["--seconds", f"{job.seconds:g}"]
@@ -223,10 +238,11 @@ def run_rounds(running, program, instance, job, workers, new):
 class Said:
     """Takes what another program prints: `proposals N`, and its curve as lines `at SECONDS COST`."""
 
-    def __init__(self):
-        self.proposals, self.curve = None, []
+    def __init__(self) -> None:
+        self.proposals: int | None = None
+        self.curve: Curve = []
 
-    def take(self, line):
+    def take(self, line: bytes) -> None:
         words = line.split(b" ") if len(line) < 200 else []
         try:
             if words[:1] == [b"proposals"] and len(words) == 2:
@@ -239,7 +255,7 @@ class Said:
             pass
 
 
-def run_other(running, solver, instance, job, seconds, new):
+def run_other(running: Running, solver: Solver, instance: Instance, job: Job, seconds: float, new: str) -> Outcome:
     """A run of another program, for so many seconds."""
     values = {"model": instance.model, "initial": instance.initial, "new": new, "seconds": f"{seconds:.6g}", "seed": job.seed}
     said = Said()
@@ -248,11 +264,11 @@ def run_other(running, solver, instance, job, seconds, new):
                    end=end_of(run), curve=thinned(said.curve))
 
 
-def end_of(run):
+def end_of(run: Timed) -> str:
     return TIME_OUT if run.status is None else CRASH if run.status else ""
 
 
-def fault_of(run):
+def fault_of(run: Timed) -> str:
     if run.status is None:
         return f"ended after {run.seconds:.0f} s"
     if not run.status:
@@ -262,7 +278,7 @@ def fault_of(run):
     return f"status {run.status}" + (f": {run.error}" if run.error else "")
 
 
-def version_of(words):
+def version_of(words: Sequence[str]) -> str:
     """What tells which program ran: the first digits of the SHA-256 of the file that a command's first word names."""
     name = shutil.which(words[0])
     return digest(name)[:12] if name else ""
@@ -278,30 +294,30 @@ class Place:
     program: str
     running: Running
 
-    def list_name(self, job):
+    def list_name(self, job: Job) -> str:
         return os.path.join(self.folder, f"{job.number}.list")
 
-    def outcome_name(self, job):
+    def outcome_name(self, job: Job) -> str:
         return os.path.join(self.folder, f"{job.number}.json")
 
-    def has(self, job):
+    def has(self, job: Job) -> bool:
         return os.path.exists(self.outcome_name(job))
 
 
-def units_of(plan):
+def units_of(plan: Plan) -> list[list[Job]]:
     """The jobs in groups that are run one after another. Another program that gets as long as this one took comes after all
     runs of this one on the same instance and with the same proposals; any other job is a group of its own."""
     timed_names = {name for name, solver in plan.solvers.items() if "{seconds}" in solver.command}
-    units = {}
+    units: dict[object, list[Job]] = {}
     for job in plan.jobs:
         is_grouped = job.proposals and timed_names and (job.solver == OWN or job.solver in timed_names)
         units.setdefault((job.instance, job.proposals) if is_grouped else job.number, []).append(job)
     return [sorted(unit, key=lambda job: job.solver != OWN) for unit in units.values()]
 
 
-def run_unit(plan, unit, place):
+def run_unit(plan: Plan, unit: Sequence[Job], place: Place) -> Iterator[Job]:
     """Makes those runs of a unit that aren't there yet, and yields each job when its outcome and its list are there."""
-    solving = []
+    solving: list[float] = []
     for job in unit:
         if not place.has(job):
             outcome = run_job(plan, job, place, median(solving) if solving else None)
@@ -313,7 +329,7 @@ def run_unit(plan, unit, place):
         yield job
 
 
-def run_job(plan, job, place, as_long):
+def run_job(plan: Plan, job: Job, place: Place, as_long: float | None) -> Outcome:
     instance, new = plan.instances[job.instance], place.list_name(job)
     for name in (new, f"{new}.log"):
         if os.path.exists(name):  # of a run that was stopped
@@ -324,14 +340,16 @@ def run_job(plan, job, place, as_long):
         outcome = run_other(place.running, solver, instance, job, seconds, new)
         outcome.version = version_of(shlex.split(solver.command))
     else:
-        run = run_solve if is_one_run(job) else run_rounds
-        outcome = run(place.running, place.program, instance, job, plan.workers, new)
+        if job.proposals is not None and is_one_run(job):
+            outcome = run_solve(place.running, place.program, instance, job, job.proposals, plan.workers, new)
+        else:
+            outcome = run_rounds(place.running, place.program, instance, job, plan.workers, new)
         outcome.version = f"{__version__} {digest(place.program)[:12]}"
     outcome.host = platform.node()
     return outcome
 
 
-def read_outcome(name):
+def read_outcome(name: str) -> Outcome:
     """What a run says of itself, of which nothing is believed but its form."""
     try:
         outcome = Outcome(**json.loads(read_whole(name, MOST_OUTCOME, 9)))
