@@ -17,6 +17,7 @@ SHORTEST_SHARE = 0.001  # of the longest time, from where on times are drawn
 SMALLEST_LEFT = 0.0001
 STEEP = 3.0  # how many times the least of some costs the most may be on an axis that isn't logarithmic
 ROOM = 0.05  # of an axis, beside what it shows
+FINEST = 1e-9  # of the greatest number, by which the ends of an axis differ at least
 
 
 def quantile(values: Sequence[float], part: float) -> float:
@@ -77,7 +78,7 @@ class Scale:
         known = list(values)
         low, high = min(known), max(known)
         self.of_costs, self.is_logarithmic = of_costs, not of_costs or high > STEEP * low > 0
-        room = 0.0 if self.is_logarithmic else max(ROOM * (high - low), 1.0)
+        room = max(ROOM * (high - low), 1.0, FINEST * high)
         self.low, self.high = (low / (1 + ROOM), high * (1 + ROOM)) if self.is_logarithmic else (max(low - room, 0.0), high + room)
 
     def part(self, value: float) -> float:
