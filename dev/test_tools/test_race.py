@@ -217,7 +217,7 @@ class Race(ToolCase):
     def test_stopped_rounds(self):
         os.makedirs("tmp", exist_ok=True)
         with unittest.mock.patch.dict(os.environ, TMPDIR=os.path.abspath("tmp")):
-            race = begin("race", "--instances", "made_a", "--seconds", "30", "--folder", "half")
+            race = begin("race", "--instances", "made_a", "--seconds", "3000", "--folder", "half")
             self.wait_for(lambda: os.path.exists("half/results/0.list"), race)
             race.send_signal(signal.SIGINT)
             _, error = race.communicate()
