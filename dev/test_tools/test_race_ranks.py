@@ -185,7 +185,8 @@ class Forms(ToolCase):
 
     def test_other_makers(self):
         """Either program will do; one that fails leaves nothing."""
-        with self.path_with("with_cairo", cairosvg='for svg; do test "$before" = --output && new=$svg; before=$svg; done; cp "$svg" "$new"'):
+        copy = 'for svg; do test "$before" = --output && new=$svg; before=$svg; done; cp "$svg" "$new"'
+        with self.path_with("with_cairo", cairosvg=copy):
             self.expect(0, "plot", "report", "--out", "one.pdf")
         self.assertEqual(text_of("one.pdf"), self.expect(0, "plot", "report"))
         with self.path_with("failing", rsvg_convert="echo 'it is broken' >&2; exit 1"):

@@ -187,8 +187,8 @@ class Table:
         return f"\\begin{{tabular}}{{{sides}}}\n\\hline\n{body}\\hline\n\\end{{tabular}}\n"
 
 
-LATEX = {"\\": r"\textbackslash{}", "~": r"\textasciitilde{}", "^": r"\textasciicircum{}", "<": r"\textless{}", ">": r"\textgreater{}",
-         **{letter: f"\\{letter}" for letter in "&%$#_{}"}}
+LATEX = {"\\": r"\textbackslash{}", "~": r"\textasciitilde{}", "^": r"\textasciicircum{}", "<": r"\textless{}",
+         ">": r"\textgreater{}", **{letter: f"\\{letter}" for letter in "&%$#_{}"}}
 
 
 def latex_word(word: str) -> str:
