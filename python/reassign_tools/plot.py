@@ -80,10 +80,10 @@ def machines(words, instance, end, command):
     return draw_machines(uses, names.machines, title, command, tells_fullest=bool(words.names))
 
 
-def picture_of(words):
+def picture_of(words, tidy=str):
     files = filter(None, (words.report, words.model, words.initial))
     options = ["--run"] * words.run + (["--names", words.names] if words.names else [])
-    command = "tools/plot " + shown(shlex.join([*options, *files]))
+    command = "tools/plot " + tidy(shown(shlex.join([*options, *files])))
     instance = Instance(words.model, words.initial) if words.model else None
     if is_list(words.report):
         if words.run or not instance:
