@@ -91,8 +91,8 @@ def machines_of(name: str, value: object) -> list[int]:
 
 
 class Given:
-    """What a call was given, as files, as long as it runs: those that it doesn't name itself are in `room`, and problems tell them
-    by the names of the arguments."""
+    """What a call was given, as files, as long as it runs: those that it doesn't name itself are in `room`, and problems tell
+    them by the names of the arguments."""
 
     def __enter__(self) -> "Given":
         self.place = Room()

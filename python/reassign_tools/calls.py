@@ -179,7 +179,8 @@ def verify(model: File | Model, initial: MachineList, report: File, lots: Sequen
 
 
 def repair(model: File | Model, initial: MachineList, seed: int = 1, turns: int = MOST_TURNS, idle: int = 100,
-           closed: Closed | None = None, only: bool = False, program: File | None = None, progress: Progress | None = None) -> Repaired:
+           closed: Closed | None = None, only: bool = False, program: File | None = None,
+           progress: Progress | None = None) -> Repaired:
     """Looks for a list that breaks no rule, from one that does, by runs of `reassign repair` that aim at the broken rules.
 
     It ends when there is one, after so many `turns`, or if nothing has fallen in so many (`idle`). The machines are closed too
@@ -209,9 +210,10 @@ def moves(model: File | Model, initial: MachineList, new: MachineList, at_most: 
         raise WrongValue("waves goes with per_service and through, and not with curve")
     with Given() as given:
         options = MovesOptions(
-            given.model(model), given.list("initial", initial), given.list("new", new), whole_if("at_most", at_most, 0, MOST_NUMBERS),
-            flag("curve", curve), whole_if("waves", waves, 1, MOST_NUMBERS), whole_if("per_service", per_service, 1, MOST_NUMBERS),
-            flag("through", through), given.closed(closed), flag("only", only), file_if("program", program))
+            given.model(model), given.list("initial", initial), given.list("new", new),
+            whole_if("at_most", at_most, 0, MOST_NUMBERS), flag("curve", curve), whole_if("waves", waves, 1, MOST_NUMBERS),
+            whole_if("per_service", per_service, 1, MOST_NUMBERS), flag("through", through), given.closed(closed),
+            flag("only", only), file_if("program", program))
         return found_moves(options, None, given.room, progress or silent)[0]
 
 
@@ -228,7 +230,8 @@ def summary(report: MachineList, model: File | Model, initial: MachineList, clos
         files = given.list("report", report), given.model(model), given.list("initial", initial)
         shut = given.closed(closed)
         words = None if lots is None else shlex.join(run_words(slack, shut, draws, lots))
-        options = SummaryOptions(*files, shut, words, flag("rules", rules), whole("top", top, 1, MOST_TOP), file_if("program", program))
+        options = SummaryOptions(*files, shut, words, flag("rules", rules), whole("top", top, 1, MOST_TOP),
+                                 file_if("program", program))
         return summed(options, given.names_of(names, options.model), given.room)[0]
 
 
@@ -292,7 +295,8 @@ def race(instances: Iterable[File], seeds: Iterable[SupportsIndex] = (1,), slack
              [one if isinstance(one, str) else str(whole("slacks", one, 0, LARGEST_SEED))
               for one in items_of("slacks", slacks, "a list of slacks")],
              [whole("proposals", one, 1, 10**12) for one in items_of("proposals", proposals, "a list of budgets")],
-             [positive("seconds", one) for one in items_of("seconds", seconds, "a list of budgets")], whole("workers", workers, 1, MOST_LOTS))
+             [positive("seconds", one) for one in items_of("seconds", seconds, "a list of budgets")],
+             whole("workers", workers, 1, MOST_LOTS))
     others = [solver_of(f"{name}: {command}") for name, command in (solvers or {}).items()]
     plan = made_plan(instances_of(names), others, *words)
     rows, is_stopped = raced(plan, program_of(program), file_if("folder", folder), whole("jobs", jobs, 1, 1000))

@@ -36,7 +36,8 @@ class Choice:
         self.heap: list[tuple[float, int, int, Group]] = []
         self.stamps: dict[int, int] = {}
         self.queued: dict[int, float] = {}
-        self.waiting: dict[tuple[str, int], set[int]] = {}  # who found no companions, by the machines and services on which that rests
+        # Who found no companions, by the machines and services on which that rests.
+        self.waiting: dict[tuple[str, int], set[int]] = {}
         self.parked: set[int] = set()
         self.most_together = MOST_TOGETHER
         for p in sorted(self.left):

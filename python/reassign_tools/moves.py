@@ -122,7 +122,8 @@ class Moves:
     """The moves between two lists. `start_cost` and `new_cost` are what the lists cost; `all` has those that bring something.
     Who leaves a closed machine moves first, and whatever it costs."""
 
-    def __init__(self, model: Model, start: list[int], new: list[int], closed: list[bool], start_cost: int, new_cost: int) -> None:
+    def __init__(self, model: Model, start: list[int], new: list[int], closed: list[bool], start_cost: int,
+                 new_cost: int) -> None:
         self.model, self.start, self.start_cost, self.new_cost = model, start, start_cost, new_cost
         self.leaves = frozenset(p for p, (home, machine) in enumerate(zip(start, new)) if home != machine and closed[home])
         self.stay_cost = 2 * (self.start_cost + self.new_cost) + 1
@@ -193,7 +194,8 @@ class Judge:
         return kept
 
 
-def found_moves(options: MovesOptions, names: Names | None, room: InRoom, tell: Callable[[str], object] = say) -> tuple[MoveList, Names]:
+def found_moves(options: MovesOptions, names: Names | None, room: InRoom,
+                tell: Callable[[str], object] = say) -> tuple[MoveList, Names]:
     """The moves that the options ask for, and the names, which are numbers if there are none."""
     given = given_list(options, names, room)
     judge = Judge(Program(options.program), options.model, options.initial, given, room)
@@ -325,7 +327,8 @@ def print_json(found: MoveList, names: Names, words: Namespace) -> None:
         told["curve"] = [asdict(one) for one in found.curve]
     if words.waves:
         told["waves"] = [{"cost_after": wave.cost, "moves": listed(wave.moves)} for wave in found.waves]
-        told["in_no_wave"] = [dict(zip(("process", "from", "to", "service", "rule"), one)) for one in left_of(found.in_no_wave, names)]
+        told["in_no_wave"] = [dict(zip(("process", "from", "to", "service", "rule"), one))
+                              for one in left_of(found.in_no_wave, names)]
     json.dump(told, sys.stdout, ensure_ascii=False)
     print()
 

@@ -95,7 +95,7 @@ class WorkerSum:
 @dataclass(frozen=True)
 class Summary:
     """A list beside the start from which it moves. `way_left` is the share of the way from the start's cost to the bound that is
-    left; machines and processes are numbers. That of a list has no `best_at`: it is for reports, as `entries` and `workers` are."""
+    left; machines and processes are numbers. `best_at`, `entries` and `workers` are of a report: of a list there is none."""
 
     sentence: str
     start: Costs
@@ -177,9 +177,9 @@ def summed(options: SummaryOptions, names: Names | None, room: InRoom) -> tuple[
     resources = names.shown(options.rules)
     uses = uses_of(model, names, initial, end, resources)
     moved, way = moves_between(model, initial, end), start.cost - bound
+    before, after = (fullest(model, model.use(one), options.top, resources) for one in (initial, end))
     return Summary(headline(uses, len(moved), model.processes), start, costs, bound, (costs.cost - bound) / way if way else 0.0,
-                   [use.summed() for use in uses], model.processes, moved,
-                   fullest(model, model.use(initial), options.top, resources), fullest(model, model.use(end), options.top, resources),
+                   [use.summed() for use in uses], model.processes, moved, before, after,
                    journal.head.best_at if journal else None, journal.places if journal else 0,
                    journal.workers if journal else []), names
 
@@ -197,7 +197,7 @@ def verify(program: Program, options: SummaryOptions, words: str) -> None:
 
 
 def judged_head(program: Program, options: SummaryOptions, closing: list[str], head: ReportHead, bound: int, name: str) -> Costs:
-    """The costs that a report tells, which have to be those of its list, written to the file `name`, with this model and start."""
+    """The costs that a report tells, which have to be those of its list, written to the file `name`, from this start."""
     write_whole(name, [list_text(head.assignment)])
     with telling(lambda line: line.replace(name, options.report, 1)):
         costs = program.costs(options.model, options.initial, name, *closing)
@@ -205,7 +205,8 @@ def judged_head(program: Program, options: SummaryOptions, closing: list[str], h
         if getattr(costs, word) != head.numbers[word]:
             raise Problem(f"{options.report}: line {at}: {word} is {getattr(costs, word)} with this model and start", 9)
     if bound != head.bound:
-        raise Problem(f"{options.report}: line {HEAD.index('bound') + 1}: the bound is {bound} with this model, start and closed list", 9)
+        at = HEAD.index("bound") + 1
+        raise Problem(f"{options.report}: line {at}: the bound is {bound} with this model, start and closed list", 9)
     return costs
 
 
@@ -225,7 +226,7 @@ def as_words(found: Summary, names: Names | None, title: str | None) -> dict[str
         "sentence": found.sentence, "start": asdict(found.start), "end": asdict(found.end), "bound": found.bound,
         "way_left": found.way_left, "resources": [asdict(one) for one in found.resources], "processes": found.processes,
         "moved": [moved(one) for one in found.moved],
-        "fullest_before": [full(one) for one in found.fullest_before], "fullest_after": [full(one) for one in found.fullest_after],
+        "fullest_before": list(map(full, found.fullest_before)), "fullest_after": list(map(full, found.fullest_after)),
     }
     if found.best_at is not None:
         told |= {"best_at": found.best_at, "entries": found.entries,

@@ -78,7 +78,8 @@ class Limits:
 class WaveChoice(Choice):
     """Takes those processes first that lower the cost most, as far as the wave has room for them."""
 
-    def __init__(self, model: Model, start: list[int], new: list[int], leaves: frozenset[int], stay_cost: int, limits: Limits) -> None:
+    def __init__(self, model: Model, start: list[int], new: list[int], leaves: frozenset[int], stay_cost: int,
+                 limits: Limits) -> None:
         self.limits = limits
         self.aside: list[tuple[Group, float]] = []
         super().__init__(model, start, new, start, leaves, stay_cost)

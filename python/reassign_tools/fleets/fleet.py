@@ -79,7 +79,8 @@ class Fleet:
         Raises FleetMistakes, which has all that is wrong, with places; its status is 3 if a file can't be read, else 4."""
         if not os.path.isdir(folder):
             mistakes = Mistakes()
-            mistakes.unreadable(Place(""), f"{folder} is no folder" if os.path.lexists(folder) else f"there is no folder {folder}")
+            mistakes.unreadable(Place(""), f"{folder} is no folder" if os.path.lexists(folder) else
+                                f"there is no folder {folder}")
             mistakes.close()
         return FleetReader(lambda: os.listdir(folder), lambda *asked: read_text(folder, *asked)).read()
 
@@ -143,8 +144,8 @@ def is_faultless(table: Table) -> bool:
 
 
 class FleetReader:
-    """Reads tables, and collects what is wrong in them. `files` gives those that are there, and `read_file` the text of one, or None,
-    which it tells."""
+    """Reads tables, and collects what is wrong in them. `files` gives those that are there, and `read_file` the text of one, or
+    None, which it tells."""
 
     def __init__(self, files: Callable[[], list[str]], read_file: Callable[[str, Mistakes, bool], str | None]) -> None:
         self.files, self.read_file, self.mistakes = files, read_file, Mistakes()

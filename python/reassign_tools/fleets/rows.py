@@ -10,6 +10,7 @@ from .amounts import amount_text
 from .tables import table_text
 
 Rows = Iterable[Mapping[str, object]]
+SECTIONS = ("resource", "balance", "ways", "weights")
 KINDS = {Mapping: "a dict", str: "a text"}
 
 
@@ -50,14 +51,18 @@ def rows_text(name: str, rows: Rows) -> str:
 
 def toml_text(settings: Mapping[str, object]) -> str:
     """The text of settings.toml: what belongs to no section, and then the sections."""
-    sections = {word: value for word, value in settings.items() if isinstance(value, (Mapping, list)) and word in ("resource", "balance", "ways", "weights")}
-    lines = [f"{json.dumps(word)} = {toml_value(f'settings[{word!r}]', value)}" for word, value in settings.items() if word not in sections]
-    for word, value in sections.items():
-        for at, section in enumerate([value] if isinstance(value, Mapping) else value):
-            name = f"settings[{word!r}]" + ("" if isinstance(value, Mapping) else f"[{at}]")
-            lines += ["", f"[{word}]" if isinstance(value, Mapping) else f"[[{word}]]"]
-            lines += [f"{json.dumps(key)} = {toml_value(f'{name}[{key!r}]', one)}" for key, one in of_type(name, section, Mapping).items()]
+    lines = toml_lines("settings", {word: value for word, value in settings.items() if word not in SECTIONS})
+    for word in filter(settings.__contains__, SECTIONS):
+        several = settings[word]
+        for at, section in enumerate(several) if isinstance(several, (list, tuple)) else [(None, several)]:
+            where, line = (f"settings[{word!r}]", f"[{word}]") if at is None else (f"settings[{word!r}][{at}]", f"[[{word}]]")
+            lines += ["", line, *toml_lines(where, of_type(where, section, Mapping))]
     return "\n".join(lines) + "\n"
+
+
+def toml_lines(name: str, words: Mapping[str, object]) -> list[str]:
+    return [f"{json.dumps(of_type(f'{name}: a key', word, str))} = {toml_value(f'{name}[{word!r}]', value)}"
+            for word, value in words.items()]
 
 
 def toml_value(name: str, value: object) -> str:
