@@ -25,7 +25,7 @@ def sources():
     """The files of the package, with their texts."""
     found = [os.path.relpath(os.path.join(at, name), HERE) for at, _, names in os.walk(os.path.join(HERE, PACKAGE)) for name in names]
     for name in sorted(found):
-        if name.endswith(".py"):
+        if name.endswith((".py", "py.typed")):
             with open(os.path.join(HERE, name), "rb") as file:
                 yield name, file.read()
 

@@ -4,14 +4,22 @@
     >>> check("examples/sample/model", [0, 3, 0], [0, 2, 1]).cost
     2411
 
-Whatever can't be done raises Problem, with a line that says why and the status with which a tool would end.
+Whatever can't be done raises Problem, with a line that says why and the status with which a tool would end. An argument that
+can't be one is a TypeError or a ValueError, which names it.
 """
 
 __version__ = "1.0.0"
 
-from .calls import Costs, Solved, check, race, rounds, solve, verify
+from .calls import Bound, Repaired, Solved, bound, check, moves, plot, race, repair, rounds, solve, summary, verify
 from .fleets.fleet import Fleet
+from .machine_uses import ResourceSum
 from .models import Model
-from .moves import Move, MoveList, moves
+from .moves import MoveList, Point
 from .names import Names
 from .problems import Problem
+from .program import Costs
+from .summary import Full, Summary, WorkerSum
+from .waves import Move, Stuck, Wave
+
+__all__ = ["Bound", "Costs", "Fleet", "Full", "Model", "Move", "MoveList", "Names", "Point", "Problem", "Repaired", "ResourceSum", "Solved", "Stuck",
+           "Summary", "Wave", "WorkerSum", "bound", "check", "moves", "plot", "race", "repair", "rounds", "solve", "summary", "verify"]

@@ -8,13 +8,14 @@ import errno
 import importlib
 import os
 import sys
+from typing import NoReturn
 
 TOOLS = ("evacuate", "moves", "named", "plot", "race", "repair_words", "rounds", "summary")
 STOPS = (signal.SIGINT, signal.SIGTERM, signal.SIGHUP)
 WANTS = ("cannot allocate memory", "failed to map segment", "can't start new thread", "cannot apply additional memory protection")
 
 
-def end_of(fault):
+def end_of(fault: BaseException) -> tuple[int, str]:
     """The status and the line with which a tool ends if nothing else catches a fault. This is the one place for what is left."""
     text = str(fault).splitlines()[0] if str(fault) else ""
     if isinstance(fault, KeyboardInterrupt):
@@ -29,7 +30,7 @@ def end_of(fault):
     return 1, f"this tool has a fault: {type(fault).__name__}: {text[:200]}; please report it"
 
 
-def leave(status, line):
+def leave(status: int, line: str) -> NoReturn:
     """Ends the process at once, with a line on standard error."""
     try:
         os.write(2, f"{sys.argv[1]}: {line}\n".encode(errors="replace"))
@@ -38,7 +39,7 @@ def leave(status, line):
     os._exit(status)
 
 
-def open_streams():
+def open_streams() -> None:
     """A standard stream that is closed becomes one that takes nothing, or says nothing, so that no other file gets its number."""
     for number, flags in enumerate((os.O_RDONLY, os.O_RDONLY, os.O_WRONLY)):
         try:
@@ -51,7 +52,7 @@ def open_streams():
         sys.stderr = open(2, "w", encoding="utf-8", closefd=False)
 
 
-def main():
+def main() -> int:
     name = sys.argv[1] if len(sys.argv) > 1 else ""
     if name not in TOOLS:
         print(f"usage: reassign_tools {'|'.join(TOOLS)} WORD ..", file=sys.stderr)
@@ -62,7 +63,8 @@ def main():
     signal.pthread_sigmask(signal.SIG_UNBLOCK, STOPS)
     try:
         open_streams()
-        return importlib.import_module(f"reassign_tools.{name}").main(sys.argv[2:])
+        importlib.import_module(f"reassign_tools.{name}").main(sys.argv[2:])
+        return 0
     except BaseException as fault:
         leave(*end_of(fault))
 

@@ -8,6 +8,7 @@ import subprocess
 import threading
 import time
 from functools import lru_cache
+from typing import Any
 
 from .problems import Problem, Stopped
 
@@ -16,19 +17,19 @@ PATIENCE = 3.0  # seconds that a command has to end well
 _prctl = ctypes.CDLL(None).prctl
 
 
-def end_with(parent, by=signal.SIGKILL):
+def end_with(parent: int, by: int = signal.SIGKILL) -> None:
     """Called in a new process: the system ends it if the thread that began it ends, whatever kills that."""
     _prctl(PR_SET_PDEATHSIG, int(by), 0, 0, 0)
     if os.getppid() != parent:
         os._exit(1)
 
 
-_begun = {}  # the commands that haven't ended, by their numbers
+_begun: dict[int, subprocess.Popen[bytes]] = {}  # the commands that haven't ended, by their numbers
 _begins = False  # whether the main thread begins a command
 _stop_waits = 0  # the signal by which it was to stop meanwhile
 
 
-def begin(command, **how):
+def begin(command: list[str], **how: Any) -> subprocess.Popen[bytes]:
     """Begins a command in a process group of its own, so that Ctrl-C reaches the tool alone, which ends the group then. If the
     tool is killed, the system ends the command (by setpriv of util-linux). Reads nothing from standard input. Raises OSError if
     there is no such command."""
@@ -53,14 +54,14 @@ def begin(command, **how):
 
 
 @lru_cache(maxsize=1)
-def ending_with_this():
+def ending_with_this() -> list[str]:
     """The first words of a command that ends with this thread."""
     if not (setpriv := shutil.which("setpriv")):
         raise Problem("there is no setpriv, which util-linux has: no program is begun that might outlive the tool")
     return [setpriv, "--pdeathsig", "KILL", "--"]
 
 
-def has_to_wait(number):
+def has_to_wait(number: int) -> bool:
     """Whether a stop has to wait, since a command is being begun: Python calls functions of its own then, which swallow what a
     signal's handler raises. `begin` raises Stopped after that."""
     global _stop_waits
@@ -68,14 +69,14 @@ def has_to_wait(number):
     return _begins
 
 
-def signal_group(group, by):
+def signal_group(group: int, by: int) -> None:
     try:
         os.killpg(group, by)
     except (ProcessLookupError, PermissionError):
         pass
 
 
-def end(run):
+def end(run: subprocess.Popen[bytes]) -> None:
     """Ends a command that was begun, and whatever it began itself: well, or else at once."""
     signal_group(run.pid, signal.SIGTERM)
     try:
@@ -87,12 +88,12 @@ def end(run):
     forget(run)
 
 
-def forget(run):
+def forget(run: subprocess.Popen[bytes]) -> None:
     """A command has ended."""
     _begun.pop(run.pid, None)
 
 
-def end_all():
+def end_all() -> None:
     """Ends all commands that haven't ended."""
     runs = list(_begun.values())
     for run in runs:

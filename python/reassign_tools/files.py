@@ -4,6 +4,8 @@ import os
 import re
 import shutil
 import tempfile
+from collections.abc import Callable, Iterable, Iterator
+from typing import BinaryIO, TextIO
 
 from .problems import Problem
 
@@ -12,11 +14,12 @@ LARGEST = 4294967295  # the largest number that a file may have
 MOST_BYTES = 536_870_912  # of a file that the program reads
 MOST_NUMBERS = 50_000  # of an assignment
 MOST_JSON = 1 << 30  # bytes of a JSON
+InRoom = Callable[[str], str]  # gives a file of a room its whole name
 LONG = 4000  # digits of a number of which the last ones aren't there yet
 ZEROS = re.compile(b"0*")  # in front of a number: many of them are found six times as fast as by `lstrip`
 
 
-def is_same(one, other):
+def is_same(one: str, other: str) -> bool:
     """Whether two names stand for one file, through links too, also if it isn't there yet."""
     one, other = os.path.realpath(one), os.path.realpath(other)
     try:
@@ -29,7 +32,7 @@ def is_same(one, other):
         return False
 
 
-def target(name, *others):
+def target(name: str, *others: str | None) -> str:
     """The file that a tool will write, checked before the work begins: a plain file, or none yet, in a folder that takes it,
     and none of the others that are named, which it would destroy. (An other one may be None.)"""
     for other in filter(None, others):
@@ -44,27 +47,27 @@ def target(name, *others):
     return name
 
 
-_for_a_while = set()  # the files and folders that are there for a while
+_for_a_while: set[str] = set()  # the files and folders that are there for a while
 
 
-def for_a_while(name):
+def for_a_while(name: str) -> str:
     """A file or a folder is going to be there for a while: if the tool ends before, it is removed then."""
     _for_a_while.add(name)
     return name
 
 
-def is_gone(name):
+def is_gone(name: str) -> None:
     """Such a file or folder isn't there any more, or stays."""
     _for_a_while.discard(name)
 
 
-def remove_what_is_left():
+def remove_what_is_left() -> None:
     """Removes whatever was to be there for a while, as a tool does when it ends."""
     for name in list(_for_a_while):
         remove(name)
 
 
-def remove(name):
+def remove(name: str) -> None:
     """Removes a file, or a folder with all that is in it, if it is there."""
     try:
         os.unlink(name)
@@ -75,7 +78,7 @@ def remove(name):
     is_gone(name)
 
 
-def write_whole(name, pieces):
+def write_whole(name: str, pieces: Iterable[bytes]) -> None:
     """Writes a file beside its place and then renames it, so that only a whole one is ever there."""
     name = os.path.realpath(name)
     beside = for_a_while(os.path.join(os.path.dirname(name), f".{os.path.basename(name)[:200]}.{os.getpid()}"))
@@ -92,7 +95,7 @@ def write_whole(name, pieces):
         remove(beside)
 
 
-def lock(name, what):
+def lock(name: str, what: str) -> TextIO:
     """Locks a file, which is made if it isn't there, until what this answers is closed. Raises Problem with status 7 if another
     call has locked it, since both would write what it stands for."""
     try:
@@ -116,7 +119,7 @@ class Room:
 
     PREFIX = "reassign-tools-"
 
-    def __enter__(self):
+    def __enter__(self) -> InRoom:
         try:
             remove_left(tempfile.gettempdir(), self.PREFIX)
             while not self.make():
@@ -125,7 +128,7 @@ class Room:
             raise Problem(f"write fault: {fault.strerror}", 7) from None
         return lambda name: os.path.join(self.folder, name)
 
-    def make(self):
+    def make(self) -> bool:
         """Makes the folder and locks it. Answers whether it is still there then: another tool may have taken it for a left one
         in between."""
         self.folder = for_a_while(os.path.join(tempfile.gettempdir(), f"{self.PREFIX}{os.urandom(8).hex()}"))
@@ -140,19 +143,19 @@ class Room:
         os.close(self.lock)
         return False
 
-    def __exit__(self, *_):
+    def __exit__(self, *_: object) -> None:
         remove(self.folder)
         os.close(self.lock)
 
 
-def remove_left(place, prefix):
+def remove_left(place: str, prefix: str) -> None:
     """Removes the folders of tools that were killed: those of this user that nobody has locked."""
     for name in os.listdir(place):
         if name.startswith(prefix):
             remove_unlocked(os.path.join(place, name))
 
 
-def remove_unlocked(folder):
+def remove_unlocked(folder: str) -> None:
     try:
         at = os.open(folder, os.O_RDONLY | os.O_DIRECTORY | os.O_NOFOLLOW)
     except OSError:
@@ -167,12 +170,12 @@ def remove_unlocked(folder):
         os.close(at)
 
 
-def number_of(word):
+def number_of(word: bytes) -> int:
     """The number that a word of a file says, whatever its zeros are: Python takes no more than 4,300 digits at once."""
     return int(word) if len(word) < 4000 else int(word.lstrip(b"0")[:4000] or b"0")
 
 
-def pieces_of(file, name, most=MOST_BYTES, status=3):
+def pieces_of(file: BinaryIO, name: str, most: int = MOST_BYTES, status: int = 3) -> Iterator[bytes]:
     """The pieces of a file that is open, which has no more bytes than `most`."""
     size = 0
     try:
@@ -185,7 +188,8 @@ def pieces_of(file, name, most=MOST_BYTES, status=3):
         raise Problem(f"{name}: {fault.strerror}") from None
 
 
-def read_whole(name, most=MOST_BYTES, status=3, is_begun=lambda piece: True):
+def read_whole(name: str, most: int = MOST_BYTES, status: int = 3,
+               is_begun: Callable[[bytes], bool] = lambda piece: True) -> bytes:
     """The bytes of a file, which are no more than `most`, and no zeros as in a device. Its first piece is to be one with which
     such a file may begin; else that piece alone is answered."""
     try:
@@ -205,17 +209,18 @@ def read_whole(name, most=MOST_BYTES, status=3, is_begun=lambda piece: True):
 class Numbers:
     """The numbers of a file, one after another, in pieces. What isn't one ends the tool with this status."""
 
-    def __init__(self, name, status):
-        self.name, self.status, self.words, self.at, self.cut = name, status, [], 0, b""
+    def __init__(self, name: str, status: int) -> None:
+        self.name, self.status, self.at, self.cut = name, status, 0, b""
+        self.words: list[bytes] = []
         try:
             self.pieces = pieces_of(open(name, "rb", buffering=0), name, status=status)
         except OSError as fault:
             raise Problem(f"{name}: {fault.strerror}") from None
 
-    def wrong(self, why):
+    def wrong(self, why: str) -> Problem:
         return Problem(f"{self.name} {why}", self.status)
 
-    def fill(self):
+    def fill(self) -> bool:
         """Takes in one more piece. Answers whether there was one."""
         piece = next(self.pieces, b"")
         if piece.translate(None, b"0123456789 \t\r\n"):
@@ -227,7 +232,7 @@ class Numbers:
         self.words, self.at = self.words[self.at:] + more, 0
         return bool(piece)
 
-    def next_words(self, count):
+    def next_words(self, count: int) -> list[bytes]:
         """The next words, as they stand."""
         while len(self.words) - self.at < count:
             if not self.fill() and len(self.words) < count:
@@ -235,7 +240,7 @@ class Numbers:
         self.at += count
         return self.words[self.at - count:self.at]
 
-    def numbers_of(self, words):
+    def numbers_of(self, words: list[bytes]) -> list[int]:
         """The numbers that words say, none of which is too large."""
         try:
             numbers = list(map(int, words))
@@ -245,29 +250,30 @@ class Numbers:
             raise self.wrong(f"has a number above {LARGEST:,}")
         return numbers
 
-    def take(self, count):
+    def take(self, count: int) -> list[int]:
         return self.numbers_of(self.next_words(count))
 
-    def one(self):
+    def one(self) -> int:
         return self.take(1)[0]
 
-    def count(self, what, most, least=0):
+    def count(self, what: str, most: int, least: int = 0) -> int:
         """A number that says how many there are of something."""
         count = self.one()
         if not least <= count <= most:
             raise self.wrong(f"has {count:,} {what}; possible are {least:,} to {most:,}")
         return count
 
-    def rest(self):
+    def rest(self) -> Iterator[list[int]]:
         """The numbers that are left, in lists of some."""
         while self.fill() or self.words:
             words, self.words = self.words, []
             yield self.numbers_of(words)
 
 
-def read_list(name, status=5):
+def read_list(name: str, status: int = 5) -> list[int]:
     """The numbers of an assignment."""
-    numbers, found = Numbers(name, status), []
+    numbers = Numbers(name, status)
+    found: list[int] = []
     for some in numbers.rest():
         found += some
         if len(found) > MOST_NUMBERS:
@@ -275,9 +281,9 @@ def read_list(name, status=5):
     return found
 
 
-def read_closed(name, machines):
+def read_closed(name: str, machines: int) -> set[int]:
     """The machines of a closed list, of which a model has so many, by their numbers."""
-    closed = set()
+    closed: set[int] = set()
     for some in Numbers(name, 10).rest():
         closed.update(some)
         if max(closed, default=0) >= machines:
@@ -285,5 +291,5 @@ def read_closed(name, machines):
     return closed
 
 
-def list_text(numbers):
+def list_text(numbers: Iterable[int]) -> bytes:
     return (" ".join(map(str, numbers)) + "\n").encode()

@@ -1,9 +1,10 @@
 """Words of proposals."""
+from collections.abc import Iterable, Sequence
 
 MOST_BYTES = 131_071  # of one word of a command, on Linux
 
 
-def lot_of(proposals):
+def lot_of(proposals: Iterable[Sequence[int]]) -> tuple[str, int]:
     """One lot of written proposals, each of up to eight numbers, and how many of them fit into it."""
     text, size = [], 2
     for proposal in proposals:

@@ -2,7 +2,9 @@
 import json
 from array import array
 from collections import Counter
+from collections.abc import Iterator, Sequence
 from dataclasses import dataclass, field
+from typing import Self
 
 from .files import LARGEST, Numbers, number_of, read_closed
 from .problems import Problem
@@ -15,24 +17,24 @@ MOST_BALANCES = 10
 class Model:
     """A model. Resources, machines, services and processes are counted from 0, as in its file (docs/FORMATS.md)."""
 
-    transient: list  # by resource: 0 or 1
-    load_weights: list
-    hoods: list  # by machine
-    locations: list
-    capacity: list  # by machine: a row by resource
-    safety: list
-    ways: list  # by machine: the costs of the ways from it, as they stand in the file, in one row of bytes
-    spreads: list  # by service
-    needs: list  # by service: the services that it depends on
-    service: list  # by process
-    required: list  # by process: a row by resource
-    move_cost: list
-    balances: list  # (first, second, target, weight)
-    weights: list  # of processes, services and machines moved
-    rows: dict = field(default_factory=dict, repr=False)
+    transient: list[int]  # by resource: 0 or 1
+    load_weights: list[int]
+    hoods: list[int]  # by machine
+    locations: list[int]
+    capacity: list[list[int]]  # by machine: a row by resource
+    safety: list[list[int]]
+    ways: list[bytes]  # by machine: the costs of the ways from it, as they stand in the file, in one row of bytes
+    spreads: list[int]  # by service
+    needs: list[list[int]]  # by service: the services that it depends on
+    service: list[int]  # by process
+    required: list[list[int]]  # by process: a row by resource
+    move_cost: list[int]
+    balances: list[Sequence[int]]  # (first, second, target, weight)
+    weights: list[int]  # of processes, services and machines moved
+    rows: dict[int, "array[int]"] = field(default_factory=dict, repr=False)
 
     @classmethod
-    def read(cls, name):
+    def read(cls, name: str) -> Self:
         """The model of a file. Raises Problem with status 3 if the file can't be read, and 4 if it is no model as far as its
         fields go; whether each number is in its range `reassign check` says."""
         numbers = Numbers(name, 4)
@@ -59,7 +61,7 @@ class Model:
             services.append(service)
             required.append(row)
             move_cost.append(cost)
-        balances = [take(4) for _ in range(numbers.count("balances", MOST_BALANCES))]
+        balances: list[Sequence[int]] = [take(4) for _ in range(numbers.count("balances", MOST_BALANCES))]
         model = cls(flags[0::2], flags[1::2], hoods, locations, capacity, safety, ways, spreads, needs, services, required,
                     move_cost, balances, take(3))
         for what, some, most in (("service", [*services, *(one for row in needs for one in row)], len(spreads)),
@@ -69,22 +71,22 @@ class Model:
         return model
 
     @property
-    def resources(self):
+    def resources(self) -> int:
         return len(self.transient)
 
     @property
-    def machines(self):
+    def machines(self) -> int:
         return len(self.capacity)
 
     @property
-    def services(self):
+    def services(self) -> int:
         return len(self.spreads)
 
     @property
-    def processes(self):
+    def processes(self) -> int:
         return len(self.required)
 
-    def way_costs(self, machine):
+    def way_costs(self, machine: int) -> "array[int]":
         """The row of ways as numbers, which are kept."""
         if machine not in self.rows:
             row = self.ways[machine]
@@ -97,13 +99,14 @@ class Model:
                 self.rows[machine] = array("I", costs)
         return self.rows[machine]
 
-    def stay_cost(self, machine):
+    def stay_cost(self, machine: int) -> int:
         """The way from a machine to itself, which a model may give any cost."""
         return number_of(self.ways[machine].split(maxsplit=machine + 1)[machine])
 
-    def pieces(self):
+    def pieces(self) -> Iterator[bytes]:
         """The text of the model, in pieces."""
-        line = lambda *words: (" ".join(map(str, words)) + "\n").encode()
+        def line(*words: object) -> bytes:
+            return (" ".join(map(str, words)) + "\n").encode()
         yield line(self.resources)
         for flag, weight in zip(self.transient, self.load_weights):
             yield line(flag, weight)
@@ -122,14 +125,14 @@ class Model:
             yield line(*balance)
         yield line(*self.weights)
 
-    def use(self, assignment):
+    def use(self, assignment: list[int]) -> list[list[int]]:
         """What is used of each resource, by machine."""
         rows = [[0] * self.resources for _ in range(self.machines)]
         for machine, required in zip(assignment, self.required):
             rows[machine] = [used + more for used, more in zip(rows[machine], required)]
         return rows
 
-    def left_behind(self, start, now):
+    def left_behind(self, start: list[int], now: list[int]) -> list[list[int]]:
         """What the processes that left their first machine require together of each resource there."""
         rows = [[0] * self.resources for _ in range(self.machines)]
         for home, machine, required in zip(start, now, self.required):
@@ -137,7 +140,7 @@ class Model:
                 rows[home] = [used + more for used, more in zip(rows[home], required)]
         return rows
 
-    def cost(self, start, now):
+    def cost(self, start: list[int], now: list[int]) -> int:
         """What an assignment costs, as moved from a start."""
         cost = 0
         for used, capacity, safety in zip(self.use(now), self.capacity, self.safety):
@@ -146,10 +149,11 @@ class Model:
                 cost += weight * max(0, goal * (capacity[first] - used[first]) - (capacity[second] - used[second]))
         return cost + sum(self.moves_cost(start, now))
 
-    def moves_cost(self, start, now):
+    def moves_cost(self, start: list[int], now: list[int]) -> tuple[int, int, int]:
         """What the moves from a start cost: process, service, machine."""
         process = machine = 0
-        moved, stayed = Counter(), Counter()
+        moved: Counter[int] = Counter()
+        stayed: Counter[int] = Counter()
         for p, (home, there) in enumerate(zip(start, now)):
             if home == there:
                 stayed[home] += 1
@@ -160,14 +164,14 @@ class Model:
         machine += sum(count * self.stay_cost(home) for home, count in stayed.items())
         return self.weights[0] * process, self.weights[1] * max(moved.values(), default=0), self.weights[2] * machine
 
-    def members(self):
+    def members(self) -> list[list[int]]:
         """The processes of each service."""
-        members = [[] for _ in range(self.services)]
+        members: list[list[int]] = [[] for _ in range(self.services)]
         for process, service in enumerate(self.service):
             members[service].append(process)
         return members
 
-    def groups(self):
+    def groups(self) -> list[list[int]]:
         """The services in groups: two that depend on each other, directly or through others, are in one."""
         near = [set(needs) for needs in self.needs]
         for service, needs in enumerate(self.needs):
@@ -187,13 +191,13 @@ class Model:
         return groups
 
 
-def same_sizes(model, name, *lists):
+def same_sizes(model: Model, name: str, *lists: list[int]) -> None:
     for one in lists:
         if len(one) != model.processes or any(not 0 <= machine < model.machines for machine in one):
             raise Problem(f"{name}: the lists and the model don't belong together", 5)
 
 
-def closed_flags(model, name):
+def closed_flags(model: Model, name: str | None) -> list[bool]:
     flags = [False] * model.machines
     for machine in read_closed(name, model.machines) if name else ():
         flags[machine] = True

@@ -21,12 +21,16 @@ import csv
 import json
 import os
 import sys
+from argparse import Namespace
+from collections.abc import Callable, Iterable
+from typing import Any, NoReturn
 
+from .broken_rules import Broken
 from .files import is_same, target, write_whole
 from .fleets import kubernetes
 from .fleets.changes import MOST_EDITS, changes, edits_text, obstacles, read_both
 from .fleets.fleet import Fleet
-from .fleets.packed import Packed, judge, unpack
+from .fleets.packed import Judgement, Packed, judge, unpack
 from .fleets.packing import FILES, pack
 from .problems import Problem, ProblemWithLines
 from .program import Program
@@ -91,15 +95,15 @@ KUBECTL = kubernetes.__doc__
 class Command(Words):
     """The words of one of the commands."""
 
-    def __init__(self, **how):
+    def __init__(self, **how: Any) -> None:
         argparse.ArgumentParser.__init__(self, formatter_class=argparse.RawDescriptionHelpFormatter, allow_abbrev=False, **how)
 
 
-def parser():
+def parser() -> Words:
     words = Words("named", __doc__)
     commands = words.add_subparsers(dest="command", metavar="COMMAND", required=True, parser_class=Command)
 
-    def command(name, work, text, help, *operands):
+    def command(name: str, work: Callable[[Namespace], None], text: str, help: str, *operands: str) -> Command:
         one = commands.add_parser(name, description=text, help=help)
         one.set_defaults(work=work)
         for operand in operands:
@@ -119,7 +123,7 @@ def parser():
     return words
 
 
-def pack_fleet(words):
+def pack_fleet(words: Namespace) -> None:
     if is_same(words.out, words.fleet):
         raise Problem(f"{words.out} and {words.fleet} are one folder; name another for the model", 2)
     fleet = Fleet.read(words.fleet)
@@ -134,21 +138,21 @@ def pack_fleet(words):
           f"{counted(len(fleet.processes), 'process', 'processes')} into {words.out}")
 
 
-def refuse_over(output, folder, files):
+def refuse_over(output: str, folder: str, files: Iterable[str]) -> None:
     """Refuses an output that is one of the files of a folder."""
     for file in files:
         if is_same(output, os.path.join(folder, file)):
             raise Problem(f"{output} and {os.path.join(folder, file)} are one file, which would be lost", 2)
 
 
-def check(words):
+def check(words: Namespace) -> None:
     packed, program = Packed.read(words.out), Program(words.program)
     name = words.list or packed.file("initial")
     found = judge(packed, program, name)
     if words.json:
         json.dump(checked(packed, found, name), sys.stdout, ensure_ascii=False)
         print()
-        return found.status and end_check(packed, found)
+        return end_check(packed, found) if found.status else None
     parts = [("today's placement", found.initial_rules)] if words.list and found.initial_rules else []
     for whose, rules in [*parts, (name if words.list else "today's placement", found.rules)]:
         for rule in rules:
@@ -163,17 +167,18 @@ def check(words):
         end_check(packed, found)
 
 
-def end_check(packed, found):
+def end_check(packed: Packed, found: Judgement) -> NoReturn:
     """Ends with the status and the line of `reassign check`, by names."""
     sys.stdout.flush()
-    raise Problem(packed.names.line(found.error), found.status)
+    raise Problem(packed.names.line(found.error), found.status or 0)
 
 
-def checked(packed, found, name):
+def checked(packed: Packed, found: Judgement, name: str) -> dict[str, object]:
     """All that is told of a list, for scripts."""
-    rules = lambda some: [{"rule": one.cause[0], "numbers": one.cause[1:], "by_name": packed.names.cause(*one.cause),
-                           "processes": [packed.names.processes[p] for p in one.processes]} for one in some]
-    words = {"list": name, "feasible": not found.status, "rules": rules(found.rules), "rules_today": rules(found.initial_rules),
+    def rules(some: list[Broken]) -> list[dict[str, object]]:
+        return [{"rule": one.cause[0], "numbers": one.cause[1:], "by_name": packed.names.cause(*one.cause),
+                 "processes": [packed.names.processes[p] for p in one.processes]} for one in some]
+    words: dict[str, object] = {"list": name, "feasible": not found.status, "rules": rules(found.rules), "rules_today": rules(found.initial_rules),
              "skews": [one.as_words() for one in found.skews]}
     if not found.status:
         words["fullest"] = list(fullest(packed.names, found.model, packed.placement(name)))
@@ -181,7 +186,7 @@ def checked(packed, found, name):
     return words
 
 
-def print_list(words):
+def print_list(words: Namespace) -> None:
     packed = Packed.read(words.out)
     now = packed.placement(words.list)
     writer = csv.writer(sys.stdout, lineterminator="\n")
@@ -189,12 +194,12 @@ def print_list(words):
     writer.writerows(zip(packed.names.processes, (packed.names.machines[machine] for machine in now)))
 
 
-def unpack_list(words):
+def unpack_list(words: Namespace) -> None:
     packed = Packed.read(words.out)
     unpack(packed, packed.placement(words.list), words.fleet2)
 
 
-def diff(words):
+def diff(words: Namespace) -> None:
     old, new = read_both(Fleet.read, (words.old, words.new))
     count, lines = obstacles(old, new)
     if count:
@@ -213,19 +218,19 @@ def diff(words):
         print(f"edit {at} {one.told}")
 
 
-def from_kubectl(words):
+def from_kubectl(words: Namespace) -> None:
     for line in kubernetes.make_fleet(words.nodes, words.pods, words.fleet, words.split):
         print(line)
 
 
-def work(words):
+def work(words: Namespace) -> None:
     try:
-        return words.work(words)
+        words.work(words)
     except ProblemWithLines as problem:
         for line in problem.lines:
             print(line, file=sys.stderr)
         raise
 
 
-def main(words=None):
+def main(words: list[str] | None = None) -> NoReturn:
     run_tool(parser(), work, words)

@@ -2,11 +2,15 @@
 import hashlib
 import json
 import re
+from collections.abc import Callable
 from dataclasses import dataclass, field
+from fractions import Fraction
+from typing import Any, Self
 
-from .files import MOST_JSON, list_text, pieces_of, read_whole, write_whole
+from .files import MOST_JSON, InRoom, list_text, pieces_of, read_whole, write_whole
 from .fleets.amounts import amount, amount_text
 from .fleets.mistakes import Mistakes
+from .models import Model
 from .problems import Problem
 
 LISTS = ("resources", "units", "machines", "neighbourhoods", "locations", "services", "processes")
@@ -19,18 +23,18 @@ class Names:
     """Names in the order of a model's numbers; those of neighbourhoods and locations by their labels."""
 
     model_sha256: str
-    resources: list
-    units: list  # what one of the model's numbers means, as fractions
-    machines: list
-    neighbourhoods: list
-    locations: list
-    services: list
-    processes: list
-    tables: dict = field(default_factory=dict, repr=False)  # the texts of the tables, by their files
-    rules: list = field(default_factory=list)  # the resources that stand for a rule, and for nothing that processes use
+    resources: list[str]
+    units: list[Fraction]  # what one of the model's numbers means, as fractions
+    machines: list[str]
+    neighbourhoods: list[str]
+    locations: list[str]
+    services: list[str]
+    processes: list[str]
+    tables: dict[str, str] = field(default_factory=dict, repr=False)  # the texts of the tables, by their files
+    rules: list[str] = field(default_factory=list)  # the resources that stand for a rule, and for nothing that processes use
 
     @classmethod
-    def read(cls, name, model):
+    def read(cls, name: str, model: str) -> Self:
         """The names of a file, which have to belong to the model in the file `model`.
 
         Raises Problem with status 3 if a file can't be read, and 4 if it has no names or those of another model."""
@@ -56,39 +60,41 @@ class Names:
         return names
 
     @classmethod
-    def numbers(cls, model):
+    def numbers(cls, model: Model) -> Self:
         """Numbers as names, for a model that has none."""
-        count = lambda many: list(map(str, range(many)))
+        def count(many: int) -> list[str]:
+            return list(map(str, range(many)))
         return cls("", [f"resource {r}" for r in range(model.resources)], [], count(model.machines), [], [],
                    count(model.services), count(model.processes))
 
-    def text(self):
+    def text(self) -> str:
         """What the file says."""
-        words = {word: getattr(self, word) for word in LISTS}
+        words: dict[str, list[str]] = {word: getattr(self, word) for word in LISTS}
         words["units"] = [amount_text(unit) for unit in self.units]
         whole = {"model_sha256": self.model_sha256, **words, "rules": self.rules, "tables": self.tables}
         return json.dumps(whole, ensure_ascii=False, indent=0) + "\n"
 
-    def shown(self, with_rules=False):
+    def shown(self, with_rules: bool = False) -> list[int]:
         """The numbers of the resources that are shown: all, or those that don't stand for a rule."""
         everything = range(len(self.resources))
         return [r for r in everything if with_rules or self.resources[r] not in self.rules] or list(everything)
 
-    def amount(self, resource, count):
+    def amount(self, resource: int, count: int) -> str:
         """So many units of a resource, as people write an amount."""
         return amount_text(count * self.units[resource]) if self.units else str(count)
 
-    def neighbourhood(self, label):
+    def neighbourhood(self, label: int) -> str:
         return self.neighbourhoods[label] if label < len(self.neighbourhoods) else str(label)
 
-    def location(self, label):
+    def location(self, label: int) -> str:
         return self.locations[label] if label < len(self.locations) else str(label)
 
-    def cause(self, kind, *numbers):
+    def cause(self, *cause: str | int) -> str:
         """A broken rule in the program's words, with names in the place of its numbers; as it stands if there are no names."""
-        return " ".join((kind, *map(str, CAUSES[kind](self, *numbers) if self.model_sha256 else numbers)))
+        kind, *numbers = cause
+        return " ".join((str(kind), *map(str, CAUSES[str(kind)](self, *numbers) if self.model_sha256 else numbers)))
 
-    def line(self, line):
+    def line(self, line: str) -> str:
         """The line with which the program refuses a list, by names; any other one as it stands."""
         if found := BROKEN.fullmatch(line):
             return found[1] + self.cause(found[2], *map(int, found[3].split()))
@@ -96,7 +102,7 @@ class Names:
             return found[1] + self.processes[int(found[2])] + found[3]
         return line
 
-    def closed_file(self, name, room):
+    def closed_file(self, name: str | None, room: InRoom) -> str | None:
         """The name of a closed list with numbers, as the program reads it: of the file `name` itself if it has nothing else, or
         of one in the room if `name` has a machine's name in each line. None stays None. Raises Problem with status 3 if the file
         can't be read, and 10 if there is no machine of a name."""
@@ -105,7 +111,8 @@ class Names:
         text = read_whole(name, status=10)
         if not text.translate(None, b"0123456789 \t\r\n"):
             return name
-        machines, closed = {machine: at for at, machine in enumerate(self.machines)}, []
+        machines = {machine: at for at, machine in enumerate(self.machines)}
+        closed: list[int] = []
         for at, line in enumerate(text.decode("utf-8-sig", errors="replace").splitlines(), 1):
             machine = line.strip()
             if machine and machine not in machines:
@@ -115,12 +122,12 @@ class Names:
         return room("closed")
 
 
-def room_words(names, machine, resource, used, capacity):
+def room_words(names: Names, machine: int, resource: int, used: int, capacity: int) -> tuple[str, str, str, str]:
     """The words of a capacity that is broken, by names."""
     return names.machines[machine], names.resources[resource], names.amount(resource, used), names.amount(resource, capacity)
 
 
-CAUSES = {
+CAUSES: dict[str, Callable[..., tuple[str | int, ...]]] = {
     "capacity": room_words,
     "transient": room_words,
     "conflict": lambda names, service, machine: (names.services[service], names.machines[machine]),
@@ -130,7 +137,7 @@ CAUSES = {
 }
 
 
-def hash_of(name):
+def hash_of(name: str) -> str:
     """The SHA-256 of a model's file."""
     digest = hashlib.sha256()
     try:

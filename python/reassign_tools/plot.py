@@ -24,7 +24,7 @@ readers who are colour blind. For example
 import argparse
 import shlex
 import sys
-from collections.abc import Sequence
+from collections.abc import Callable, Sequence
 
 from .files import read_list, target
 from .machine_pictures import draw_machines, title_of
@@ -84,10 +84,10 @@ def machines(words: argparse.Namespace, instance: Instance, end: Sequence[int], 
     return draw_machines(uses, names.machines, title, command, tells_fullest=bool(words.names))
 
 
-def picture_of(words: argparse.Namespace) -> str:
+def picture_of(words: argparse.Namespace, tidy: Callable[[str], str] = str) -> str:
     files: list[str] = [name for name in (words.report, words.model, words.initial) if name]
     options = ["--run"] * words.run + (["--names", words.names] if words.names else [])
-    command = "tools/plot " + shown(shlex.join([*options, *files]))
+    command = "tools/plot " + tidy(shown(shlex.join([*options, *files])))
     instance = Instance(words.model, words.initial) if words.model else None
     if is_list(words.report):
         if words.run or not instance:

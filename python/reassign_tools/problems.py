@@ -1,5 +1,6 @@
 """What ends a tool before its aim."""
 import signal
+from collections.abc import Callable, Iterator
 from contextlib import contextmanager
 
 
@@ -16,26 +17,36 @@ class Problem(Exception):
     12   what differs between two fleets can't be written as edits
     """
 
-    def __init__(self, line, status=3):
+    def __init__(self, line: str, status: int = 3) -> None:
         super().__init__(line)
         self.line, self.status = line, status
+
+    def __str__(self) -> str:
+        return self.line
+
+
+class WrongValue(Problem, ValueError):
+    """An argument of a call that isn't possible: a ValueError, and a problem with status 2."""
+
+    def __init__(self, line: str) -> None:
+        super().__init__(line, 2)
 
 
 class ProblemWithLines(Problem):
     """A problem of which there is more to tell: `lines`, which come before its own."""
 
-    def __init__(self, lines, line, status):
+    def __init__(self, lines: list[str], line: str, status: int) -> None:
         super().__init__(line, status)
         self.lines = lines
 
 
 @contextmanager
-def telling(tell):
-    """A problem that comes up in here goes on with the line that `tell` makes of its own."""
+def telling(tell: Callable[[str], str] | None) -> Iterator[None]:
+    """A problem that comes up in here goes on with the line that `tell`, if there is one, makes of its own."""
     try:
         yield
     except Problem as problem:
-        problem.line = tell(problem.line)
+        problem.line = tell(problem.line) if tell else problem.line
         raise
 
 
@@ -43,6 +54,6 @@ class Stopped(KeyboardInterrupt):
     """Ctrl-C, or the system's call to end, by its signal. A notebook, in which no tool runs, gets its KeyboardInterrupt
     instead."""
 
-    def __init__(self, number=signal.SIGINT):
+    def __init__(self, number: int = signal.SIGINT) -> None:
         super().__init__("stopped")
         self.signal = number

@@ -198,7 +198,7 @@ class Repair:
         self.model, self.first = Model.read(words.model), read_list(words.initial)
         same_sizes(self.model, words.model, self.first)
         self.names = names or Names.numbers(self.model)
-        closed = with_fleet(words, given, self.names, room)
+        closed = with_fleet(words, given, self.names, room, tell)
         self.flags, self.closing = closed_flags(self.model, closed), closed_words(closed)
         self.chance = random.Random(words.seed)
         self.start_name, self.start, self.now = words.initial, self.first, list(self.first)

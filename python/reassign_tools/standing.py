@@ -3,6 +3,7 @@ from collections import Counter
 from operator import add, gt, sub
 
 from .files import number_of
+from .models import Model
 
 
 class Standing:
@@ -15,7 +16,8 @@ class Standing:
     `leaves` has the processes that leave a closed machine. While one of them stays there, `cost` has `stay_cost` more, which is
     more than any list between both costs."""
 
-    def __init__(self, model, start, new, now, leaves=frozenset(), stay_cost=0):
+    def __init__(self, model: Model, start: list[int], new: list[int], now: list[int],
+                 leaves: frozenset[int] = frozenset(), stay_cost: int = 0) -> None:
         self.model, self.start, self.new, self.now = model, start, new, list(now)
         self.leaves, self.stay_cost = leaves, stay_cost
         self.use = model.use(now)
@@ -23,11 +25,13 @@ class Standing:
         self.ways = self.costs_of_ways()
         self.needs = [[needed for needed in dict.fromkeys(needs) if needed != service]
                       for service, needs in enumerate(model.needs)]
-        self.needed_by = [[] for _ in self.needs]
+        self.needed_by: list[list[int]] = [[] for _ in self.needs]
         for service, needs in enumerate(self.needs):
             for needed in needs:
                 self.needed_by[needed].append(service)
-        self.on_machine, self.in_location, self.in_hood = Counter(), Counter(), Counter()
+        self.on_machine: Counter[tuple[int, int]] = Counter()
+        self.in_location: Counter[tuple[int, int]] = Counter()
+        self.in_hood: Counter[tuple[int, int]] = Counter()
         self.locations, self.moved = [0] * model.services, [0] * model.services
         self.levels = Counter({0: model.services})  # how many services have so many moved processes
         self.most_moved = 0
@@ -42,9 +46,11 @@ class Standing:
                 self.cost += self.ways[process][1]
                 self.count_moved(model.service[process], 1)
 
-    def costs_of_ways(self):
+    def costs_of_ways(self) -> dict[int, tuple[int, int]]:
         """For each process that differs, what it costs that it stays, and that it moves, but for its service."""
-        model, by_home, ways = self.model, {}, {}
+        model = self.model
+        by_home: dict[int, list[int]] = {}
+        ways = {}
         for process, (home, machine) in enumerate(zip(self.start, self.new)):
             if home != machine:
                 by_home.setdefault(home, []).append(process)
@@ -56,7 +62,7 @@ class Standing:
                                  way_weight * number_of(row[self.new[process]]) + weight * model.move_cost[process])
         return ways
 
-    def weigh(self, machine, use):
+    def weigh(self, machine: int, use: list[int]) -> int:
         """What load and balance cost on a machine with this use."""
         cost, (capacity, safety) = 0, self.rooms[machine]
         for weight, used, safe in zip(self.model.load_weights, use, safety):
@@ -68,26 +74,26 @@ class Standing:
                 cost += weight * lack
         return cost
 
-    def other(self, process):
+    def other(self, process: int) -> int:
         """The machine to which a process can go: the one of both lists on which it isn't."""
         return self.new[process] if self.now[process] == self.start[process] else self.start[process]
 
-    def leaving(self, process):
+    def leaving(self, process: int) -> int:
         """By how much the cost of the machine that a process is on grows if it leaves."""
         machine = self.now[process]
         return self.weigh(machine, list(map(sub, self.use[machine], self.model.required[process]))) - self.weighed[machine]
 
-    def entering(self, process):
+    def entering(self, process: int) -> int:
         """By how much the cost of the machine where a process goes grows."""
         machine = self.other(process)
         return self.weigh(machine, list(map(add, self.use[machine], self.model.required[process]))) - self.weighed[machine]
 
-    def going(self, process):
+    def going(self, process: int) -> int:
         """By how much the costs of its move and of its way grow if a process goes."""
         stay, move = self.ways[process]
         return move - stay if self.now[process] == self.start[process] else stay - move
 
-    def count_moved(self, service, more):
+    def count_moved(self, service: int, more: int) -> None:
         """Counts one moved process of a service more, or one less."""
         before, most = self.moved[service], self.most_moved
         self.moved[service] = count = before + more
@@ -97,7 +103,7 @@ class Standing:
             self.most_moved = count
         self.cost += self.model.weights[1] * (self.most_moved - most)
 
-    def enter(self, process, machine):
+    def enter(self, process: int, machine: int) -> None:
         """Counts a process of its service on a machine."""
         model, service = self.model, self.model.service[process]
         if self.on_machine[service, machine]:
@@ -114,7 +120,7 @@ class Standing:
             self.broken += self.lonely(service, hood)
         self.in_hood[service, hood] += 1
 
-    def leave(self, process, machine):
+    def leave(self, process: int, machine: int) -> None:
         """Counts it there no more."""
         model, service = self.model, self.model.service[process]
         self.on_machine[service, machine] -= 1
@@ -131,13 +137,13 @@ class Standing:
         if not self.in_hood[service, hood]:
             self.broken -= self.lonely(service, hood)
 
-    def lonely(self, service, hood):
+    def lonely(self, service: int, hood: int) -> int:
         """By how much more dependencies are broken in a neighbourhood if the service is there than if it isn't."""
         there = self.in_hood
         return (sum(not there[needed, hood] for needed in self.needs[service])
                 - sum(there[asking, hood] > 0 for asking in self.needed_by[service]))
 
-    def go(self, process):
+    def go(self, process: int) -> None:
         """Takes a process to its other machine."""
         here, there, required = self.now[process], self.other(process), self.model.required[process]
         self.cost += self.going(process)

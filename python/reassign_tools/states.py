@@ -1,21 +1,24 @@
 """An assignment, and what a shift of one process would break in it."""
+from .models import Model
+
+Cause = tuple[str | int, ...]  # a broken rule as the program tells it: its word and its numbers
 
 
 class State:
     """An assignment with what it uses, and what a shift of one process would break."""
 
-    def __init__(self, model, start, now, closed):
+    def __init__(self, model: Model, start: list[int], now: list[int], closed: list[bool]) -> None:
         self.model, self.start, self.now, self.closed = model, start, list(now), closed
         self.use = model.use(now)
         self.held = model.left_behind(start, now)
         self.members = model.members()
-        self.needed_by = [[] for _ in range(model.services)]
+        self.needed_by: list[list[int]] = [[] for _ in range(model.services)]
         for service, needs in enumerate(model.needs):
             for needed in set(needs):
                 self.needed_by[needed].append(service)
-        self.known_lonely = {}  # by process and neighbourhood
+        self.known_lonely: dict[tuple[int, int], tuple[int, int, int] | None] = {}  # by process and neighbourhood
 
-    def shift(self, process, machine):
+    def shift(self, process: int, machine: int) -> None:
         """Takes a process to a machine, whatever that breaks."""
         here, home, required = self.now[process], self.start[process], self.model.required[process]
         self.use[here] = [used - less for used, less in zip(self.use[here], required)]
@@ -27,11 +30,11 @@ class State:
         self.now[process] = machine
         self.known_lonely.clear()
 
-    def hoods_of(self, service, without=None):
+    def hoods_of(self, service: int, without: int | None = None) -> set[int]:
         hoods = self.model.hoods
         return {hoods[self.now[p]] for p in self.members[service] if p != without}
 
-    def room_lacks(self, process, machine):
+    def room_lacks(self, process: int, machine: int) -> Cause | None:
         """The first capacity, else the first transient capacity, that a process would break on a machine which it isn't
         on, as the program's cause: (word, machine, resource, used, capacity), or None."""
         model, used = self.model, self.use[machine]
@@ -47,7 +50,7 @@ class State:
                     return "transient", machine, resource, want, capacity[resource]
         return None
 
-    def breaks(self, process, machine):
+    def breaks(self, process: int, machine: int) -> Cause | None:
         """What a shift of a process to a machine would break first, in the program's words, or None."""
         model, service = self.model, self.model.service[process]
         lacks = self.room_lacks(process, machine)
@@ -66,14 +69,14 @@ class State:
             return "closed", process, machine
         return None
 
-    def lonely(self, process, hood):
+    def lonely(self, process: int, hood: int) -> tuple[int, int, int] | None:
         """The first service, with one that it needs and the neighbourhood in which that would be missing, if a process went
         to a neighbourhood; or None."""
         if (process, hood) not in self.known_lonely:
             self.known_lonely[process, hood] = self.first_lonely(process, hood)
         return self.known_lonely[process, hood]
 
-    def first_lonely(self, process, hood):
+    def first_lonely(self, process: int, hood: int) -> tuple[int, int, int] | None:
         model, service = self.model, self.model.service[process]
         own = self.hoods_of(service, process) | {hood}
         for asking in sorted({service, *self.needed_by[service]}):

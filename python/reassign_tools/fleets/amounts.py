@@ -20,7 +20,7 @@ class NoAmount(ValueError):
 
 
 @lru_cache(maxsize=1 << 16)
-def amount(text):
+def amount(text: str) -> Fraction:
     """The amount that a text says, as a fraction. Raises NoAmount.
 
     >>> amount("500m")
@@ -32,13 +32,13 @@ def amount(text):
     return Fraction(found[1]) * Fraction(10) ** int(found[2] or 0) * SUFFIXES[found[3]]
 
 
-def whole_number(text):
+def whole_number(text: str) -> int | None:
     """The number of a model that a text says; None if it says none."""
     digits = text.lstrip("0") or "0"
     return int(digits) if text.isascii() and text.isdigit() and len(digits) <= 10 and int(digits) <= LARGEST else None
 
 
-def meant(text):
+def meant(text: str) -> str:
     """A question that offers the amount that was meant, or nothing."""
     plain = re.sub(r"[\s_']", "", text)
     found = re.fullmatch(r"([0-9]+(?:[.,][0-9]+)*)([a-zA-Z]*)", plain)
@@ -55,23 +55,24 @@ def meant(text):
     return f"is it '{number}{suffix}'?"
 
 
-def suffix_of(text):
+def suffix_of(text: str) -> str:
     """The suffix of an amount."""
-    return FORM.fullmatch(text)[3]
+    found = FORM.fullmatch(text)
+    return found[3] if found else ""
 
 
-def in_units(value, unit, up):
+def in_units(value: Fraction, unit: Fraction, up: bool) -> int:
     """How many of a unit an amount is, rounded up or down."""
     count = value / unit
     return -(-count.numerator // count.denominator) if up else count.numerator // count.denominator
 
 
-def loses_much(value, unit, count):
+def loses_much(value: Fraction, unit: Fraction, count: int) -> bool:
     """Whether rounding takes more than a hundredth of an amount."""
     return abs(count * unit - value) * 100 > value
 
 
-def amount_text(value):
+def amount_text(value: Fraction) -> str:
     """An amount as people write it, without loss: from a million on with the largest suffix that leaves it whole.
 
     >>> amount_text(Fraction(65536 * 2**20))

@@ -1,21 +1,26 @@
 """The edits that make the model of one fleet that of another (docs/FORMATS.md, "The file of edits")."""
+from collections.abc import Callable, Iterable, Iterator, Sequence
 from dataclasses import dataclass, fields
 from fractions import Fraction
+from typing import Any, TypeVar
 
 from ..texts import counted
 from .amounts import amount_text
-from .mistakes import FleetMistakes, cut_short
+from .fleet import Fleet, Machine, Process, Service
+from .mistakes import FleetMistakes, Mistake, cut_short
 
 MOST_EDITS = 100_000
 MOST_NAMED = 3  # rows that are named in a line about many
 ADD, RETIRE, RESIZE = 1, 2, 3
+T = TypeVar("T", Machine, Service, Process)
+Word = tuple[str, Any, Any, Callable[[Any], str]]  # what may differ, its value in both, and how that is written
 
 
 @dataclass(frozen=True)
 class Change:
     """An edit: its numbers as the file of edits has them, and what it does, by names."""
 
-    numbers: tuple
+    numbers: tuple[int, ...]
     told: str
 
 
@@ -29,10 +34,12 @@ class Difference:
     said: str
 
 
-def read_both(read, folders):
+def read_both(read: Callable[[str], Fleet], folders: Iterable[str]) -> list[Fleet]:
     """The fleets of two folders, by the function that reads one. Raises FleetMistakes with the mistakes of both, whose files
     have their folders."""
-    fleets, wrong, status = [], [], 4
+    fleets: list[Fleet] = []
+    wrong: list[Mistake] = []
+    status = 4
     for folder in folders:
         try:
             fleets.append(read(folder))
@@ -44,7 +51,7 @@ def read_both(read, folders):
     return fleets
 
 
-def obstacles(old, new):
+def obstacles(old: Fleet, new: Fleet) -> tuple[int, list[str]]:
     """What differs between two fleets and can't be an edit: how many differences there are, and the lines that tell them.
     First come the settings, then machines, services and processes in the order of their files. What is the same for many rows
     is one line."""
@@ -55,9 +62,9 @@ def obstacles(old, new):
     return len(settings) + len(rows), [*settings, *lines]
 
 
-def grouped(differences):
+def grouped(differences: list[Difference]) -> list[list[Difference]]:
     """Differences in groups that say the same of several rows, in the order of their first ones. A few are told apart."""
-    groups = {}
+    groups: dict[tuple[str, str, str], list[Difference]] = {}
     for one in differences:
         groups.setdefault((one.row, one.word, one.said), []).append(one)
     found = []
@@ -70,7 +77,7 @@ def grouped(differences):
     return found
 
 
-def told(group):
+def told(group: list[Difference]) -> str:
     """The line of a group of differences."""
     first = group[0]
     if len(group) == 1:
@@ -80,14 +87,14 @@ def told(group):
             f"({named} and {counted(len(group) - MOST_NAMED, 'other')})")
 
 
-def setting_text(value):
+def setting_text(value: object) -> str:
     """The value of a setting as it is told."""
     if isinstance(value, Fraction):
         return f"{float(value):.10g}"
     return str(value).lower() if isinstance(value, bool) else repr(value)
 
 
-def differing_resources(old, new):
+def differing_resources(old: Fleet, new: Fleet) -> Iterator[str]:
     """The lines about resources and their settings."""
     before, after = ({one.name: one for one in fleet.resources} for fleet in (old, new))
     for name, was in before.items():
@@ -109,7 +116,7 @@ def differing_resources(old, new):
         yield "the resources stand in another order"
 
 
-def differing_settings(old, new):
+def differing_settings(old: Fleet, new: Fleet) -> Iterator[str]:
     """The lines about balances, ways and weights."""
     if old.settings.balances != new.settings.balances:
         yield "settings.toml: the balances differ"
@@ -122,7 +129,7 @@ def differing_settings(old, new):
         yield f"{new.settings.ways.file or old.settings.ways.file}: the costs of ways differ"
 
 
-def differing(row, old, new, words):
+def differing(row: str, old: Sequence[T], new: Sequence[T], words: Callable[[T, T], Iterable[Word]]) -> Iterator[Difference]:
     """The differences between two lists of things with names, by a function for what is in both. It gives words, each with its
     value in both, and how the value is written."""
     before, after = ({one.name: one for one in some} for some in (old, new))
@@ -136,12 +143,12 @@ def differing(row, old, new, words):
     yield from (Difference(row, name, "new", "only in the new fleet") for name in after if name not in before)
 
 
-def differing_machines(old, new):
+def differing_machines(old: Fleet, new: Fleet) -> Iterator[Difference]:
     before, after = ({one.name: (at, one) for at, one in enumerate(fleet.resources)} for fleet in (old, new))
     common = [(*before[name], *after[name]) for name in before if name in after and before[name][1].unit == after[name][1].unit]
 
-    def words(was, one):
-        yield "state", *("closed" if some.closed else "open" for some in (was, one)), str
+    def words(was: Machine, one: Machine) -> Iterator[Word]:
+        yield "state", was.closed, one.closed, lambda closed: "closed" if closed else "open"
         for word in ("neighbourhood", "location"):
             yield word, getattr(was, word), getattr(one, word), repr
         for past, resource, now, other in common:
@@ -153,24 +160,24 @@ def differing_machines(old, new):
     return differing("machine", old.machines, new.machines, words)
 
 
-def differing_services(old, new):
-    def words(was, one):
+def differing_services(old: Fleet, new: Fleet) -> Iterator[Difference]:
+    def words(was: Service, one: Service) -> Iterator[Word]:
         yield "spread", was.spread, one.spread, str
-        needs = [sorted(fleet.services[at].name for at in some.depends_on) for fleet, some in ((old, was), (new, one))]
-        yield "depends_on", *needs, lambda names: repr(";".join(names))
+        past, now = (sorted(fleet.services[at].name for at in some.depends_on) for fleet, some in ((old, was), (new, one)))
+        yield "depends_on", past, now, lambda names: repr(";".join(names))
     return differing("service", old.services, new.services, words)
 
 
-def differing_processes(old, new):
+def differing_processes(old: Fleet, new: Fleet) -> Iterator[Difference]:
     """Those of processes that are in both fleets: others are retired or added."""
-    def words(was, one):
+    def words(was: Process, one: Process) -> Iterator[Word]:
         yield "service", old.services[was.service].name, new.services[one.service].name, repr
         yield "machine", old.machines[was.machine].name, new.machines[one.machine].name, repr
         yield "move_cost", was.move_cost, one.move_cost, str
     return (one for one in differing("process", old.processes, new.processes, words) if one.word not in ("old", "new"))
 
 
-def changes(old, new):
+def changes(old: Fleet, new: Fleet) -> list[Change]:
     """The edits from one fleet to another, between which `obstacles` found nothing. Those come first that need no room: who
     requires less of everything, and who is retired; then who is added, and who requires more."""
     machines = {one.name: at for at, one in enumerate(old.machines)}
@@ -199,10 +206,10 @@ def changes(old, new):
     return found + [resize(numbers, one) for one in resized if one.name not in small]
 
 
-def resize(numbers, process):
+def resize(numbers: dict[str, int], process: Process) -> Change:
     return Change((RESIZE, numbers[process.name], *process.requirement), f"resize {process.name}")
 
 
-def edits_text(found):
+def edits_text(found: list[Change]) -> str:
     """The file of edits, one in each line."""
     return "".join(" ".join(map(str, one.numbers)) + "\n" for one in found)

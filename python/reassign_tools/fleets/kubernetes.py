@@ -28,8 +28,10 @@ import json
 import os
 import re
 from collections import Counter
+from collections.abc import Callable, Iterator, Sequence
 from dataclasses import dataclass
 from fractions import Fraction
+from typing import Any, TypeVar
 
 from ..files import MOST_JSON, read_whole, write_whole
 from ..models import MOST_RESOURCES
@@ -38,7 +40,7 @@ from ..texts import counted, some
 from .amounts import NoAmount, amount, amount_text
 from .fleet import MACHINES, PROCESSES, SERVICES
 from .mistakes import Mistakes, Place
-from .node_rules import FIXED, ZONES, keepings
+from .node_rules import FIXED, ZONES, Json, keepings
 from .packing import whole_folder
 from .settings import FILE as SETTINGS, quoted
 from .tables import table_text
@@ -47,6 +49,7 @@ from .topology import Constraints
 MAIN = ("cpu", "memory", "pods")
 UNITS = {"cpu": "1m", "memory": "1Mi", "ephemeral-storage": "1Mi"}
 NO_ZONE = "none"
+T = TypeVar("T")
 HASH = "pod-template-hash"
 BUDGETS = ("PodDisruptionBudget",)
 
@@ -54,38 +57,38 @@ BUDGETS = ("PodDisruptionBudget",)
 @dataclass
 class Node:
     name: str
-    labels: dict
-    taints: list
+    labels: Json
+    taints: list[Json]
     is_closed: bool
-    room: dict  # amounts by resource
+    room: dict[str, Fraction]  # amounts by resource
 
     @property
-    def zone(self):
+    def zone(self) -> str:
         return next((self.labels[label] for label in ZONES if label in self.labels), NO_ZONE)
 
 
 @dataclass
 class Pod:
     name: str  # with its namespace
-    owner: tuple  # namespace, kind, name
+    owner: tuple[str, str, str]  # namespace, kind, name
     node: str
-    spec: dict
-    requests: dict
+    spec: Json
+    requests: dict[str, Fraction]
     has_ended: bool
-    labels: dict
+    labels: Json
 
     @property
-    def is_static(self):
+    def is_static(self) -> bool:
         return self.owner[1] == "Node"
 
 
 class Reader:
     """Reads what kubectl wrote, and collects what is wrong there."""
 
-    def __init__(self, file):
+    def __init__(self, file: str) -> None:
         self.file, self.mistakes = file, Mistakes()
 
-    def items(self, kind, also=()):
+    def items(self, kind: str, also: tuple[str, ...] = ()) -> tuple[list[Json], list[Json]]:
         """The objects of a kind, and, as a second list, those of others that may stand there."""
         text = read_whole(self.file, MOST_JSON, 4, begins_json)
         if not begins_json(text):
@@ -109,9 +112,10 @@ class Reader:
             raise Problem(f"{self.file}: has no {kind}", 4)
         return own, [one for one in items if one.get("kind", kind) != kind]
 
-    def read_each(self, kind, read, also=()):
+    def read_each(self, kind: str, read: Callable[[Json], T], also: tuple[str, ...] = ()) -> tuple[list[T], list[Json]]:
         """Each object of a kind, read, and the others that may stand there; what is wrong is told at once."""
-        made, (own, others) = [], self.items(kind, also)
+        made: list[T] = []
+        own, others = self.items(kind, also)
         for at, item in enumerate(own):
             name = f"{kind} {at}"
             try:
@@ -126,22 +130,22 @@ class Reader:
         return made, others
 
 
-def begins_json(text):
+def begins_json(text: bytes) -> bool:
     """Whether a text may be JSON, by its first letter."""
     return text.removeprefix(b"\xef\xbb\xbf").lstrip()[:1] in (b"{", b"[")
 
 
-def amounts(words):
+def amounts(words: dict[str, str] | None) -> dict[str, Fraction]:
     return {name: amount(str(text)) for name, text in (words or {}).items()}
 
 
-def node_of(item):
+def node_of(item: Json) -> Node:
     meta, spec = item["metadata"], item.get("spec") or {}
     return Node(meta["name"], meta.get("labels") or {}, spec.get("taints") or [], bool(spec.get("unschedulable")),
                 amounts(item["status"]["allocatable"]))
 
 
-def pod_of(item):
+def pod_of(item: Json) -> Pod:
     meta, spec, namespace = item["metadata"], item["spec"], item["metadata"].get("namespace", "default")
     owners = meta.get("ownerReferences") or []
     owner = next((one for one in owners if one.get("controller")), owners[0] if owners else None)
@@ -156,10 +160,13 @@ def pod_of(item):
                phase in ("Succeeded", "Failed"), meta.get("labels") or {})
 
 
-def requests_of(spec):
+def requests_of(spec: Json) -> dict[str, Fraction]:
     """What a pod requests: its containers together, or the greatest of those that run before them, and its overhead."""
-    total, most = Counter(), Counter()
-    asked = lambda one: amounts((one.get("resources") or {}).get("requests"))
+    total: Counter[str] = Counter()  # of fractions
+    most: Counter[str] = Counter()
+
+    def asked(one: Json) -> Any:
+        return amounts((one.get("resources") or {}).get("requests"))
     for one in spec.get("initContainers") or []:
         if one.get("restartPolicy") == "Always":
             total.update(asked(one))
@@ -168,11 +175,12 @@ def requests_of(spec):
             most |= total + Counter(asked(one))
     for one in spec["containers"]:
         total.update(asked(one))
-    asked_together = {**(most | total), **asked(spec)}  # what stands at the pod itself goes before
-    return {**(Counter(asked_together) + Counter(amounts(spec.get("overhead")))), "pods": Fraction(1)}
+    asked_together: Any = {**(most | total), **asked(spec)}  # what stands at the pod itself goes before
+    overhead: Any = amounts(spec.get("overhead"))
+    return {**{name: Fraction(value) for name, value in (Counter(asked_together) + Counter(overhead)).items()}, "pods": Fraction(1)}
 
 
-def make_fleet(nodes_file, pods_file, folder, split):
+def make_fleet(nodes_file: str, pods_file: str, folder: str, split: bool) -> list[str]:
     """Writes the tables of a cluster into a new folder. Answers what is to be told, line by line."""
     if os.path.lexists(folder):
         raise Problem(f"{folder} is there already; name a folder that isn't", 2)
@@ -192,8 +200,10 @@ def make_fleet(nodes_file, pods_file, folder, split):
 class Cluster:
     """Nodes and pods, as a fleet."""
 
-    def __init__(self, nodes, pods, split, budgets=()):
-        self.nodes, self.told, self.budgets = nodes, [], budgets
+    def __init__(self, nodes: list[Node], pods: list[Pod], split: bool,
+                 budgets: Sequence[Json] = ()) -> None:
+        self.nodes, self.budgets = nodes, budgets
+        self.told: list[str] = []
         self.numbers = {node.name: at for at, node in enumerate(nodes)}
         self.pods = self.kept_pods(pods)
         if not self.pods:
@@ -207,9 +217,11 @@ class Cluster:
                           f"the {MOST_RESOURCES} resources that a model may have: {', '.join(one.name for one in self.kept)}", 4)
         self.tell_rules()
 
-    def kept_pods(self, pods):
+    def kept_pods(self, pods: list[Pod]) -> list[Pod]:
         """The pods that the model has. The others are told, and those of a DaemonSet take their room from their nodes."""
-        kept, daemons, left = [], Counter(), {"ended": [], "pending": [], "on nodes that aren't there": []}
+        kept = []
+        daemons: Counter[str] = Counter()
+        left: dict[str, list[str]] = {"ended": [], "pending": [], "on nodes that aren't there": []}
         for pod in pods:
             if pod.has_ended:
                 left["ended"].append(pod.name)
@@ -230,9 +242,9 @@ class Cluster:
                       f"node{'' if count == 1 else 's'}" for name, count in daemons.items()]
         return kept
 
-    def named_services(self, split):
+    def named_services(self, split: bool) -> list[str]:
         """The service of each pod, by name."""
-        together = {}
+        together: dict[tuple[tuple[str, str, str], str], list[str]] = {}
         for pod in self.pods:
             together.setdefault((pod.owner, pod.node), []).append(pod.name)
         pairs = {key: names for key, names in together.items() if len(names) > 1}
@@ -244,10 +256,10 @@ class Cluster:
                                    "own", 6)
         apart = {owner for owner, _ in pairs}
         self.told += lines + [f"split: each pod of {owner[1]} {owner[0]}/{owner[2]} is a service of its own" for owner in sorted(apart)]
-        kinds = {}
+        kinds: dict[tuple[str, str], set[str]] = {}
         for pod in self.pods:
             kinds.setdefault((pod.owner[0], pod.owner[2]), set()).add(pod.owner[1])
-        def name(pod):
+        def name(pod: Pod) -> str:
             namespace, kind, own = pod.owner
             several = len(kinds[namespace, own]) > 1
             return f"{namespace}/{own} ({kind})" if several else f"{namespace}/{own}"
@@ -255,7 +267,7 @@ class Cluster:
         return [name(pod) if pod.owner not in apart else pod.name if pod.name not in taken else f"{pod.name} (Pod)"
                 for pod in self.pods]
 
-    def tell_rules(self):
+    def tell_rules(self) -> None:
         self.told += [f"closed: {node.name} is unschedulable" for node in self.nodes if node.is_closed]
         self.told += [f"no zone: {node.name}" for node in self.nodes if node.zone == NO_ZONE]
         for one in self.kept:
@@ -269,7 +281,7 @@ class Cluster:
         self.told.append(f"{counted(len(self.nodes), 'node')}, {counted(len(set(self.services)), 'service')}, "
                          f"{counted(len(self.pods), 'pod')}, {counted(len(self.resources), 'resource')}")
 
-    def left_out(self):
+    def left_out(self) -> Iterator[str]:
         """What the model leaves out, by kinds."""
         for what, has in (("affinities between pods", self.has_affinity), ("volumes", self.has_volume), ("host ports", self.has_port)):
             services = [service for pod, service in zip(self.pods, self.services) if has(pod)]
@@ -282,29 +294,29 @@ class Cluster:
             yield "pod disruption budgets, if there are some: `kubectl get pods,pdb` tells them"
 
     @staticmethod
-    def has_affinity(pod):
+    def has_affinity(pod: Pod) -> bool:
         return any(((pod.spec.get("affinity") or {}).get(word) or {}).get("requiredDuringSchedulingIgnoredDuringExecution")
                    for word in ("podAffinity", "podAntiAffinity"))
 
     @staticmethod
-    def has_volume(pod):
+    def has_volume(pod: Pod) -> bool:
         return any("persistentVolumeClaim" in one for one in pod.spec.get("volumes") or [])
 
     @staticmethod
-    def has_port(pod):
+    def has_port(pod: Pod) -> bool:
         return any(port.get("hostPort") for one in pod.spec["containers"] for port in one.get("ports") or [])
 
     # Tables
 
-    def texts(self):
+    def texts(self) -> dict[str, str]:
         """The texts of the tables and the settings, by their files."""
         return {MACHINES: self.machines_text(), SERVICES: self.services_text(), PROCESSES: self.processes_text(),
                 SETTINGS: self.settings_text()}
 
-    def rule_columns(self):
+    def rule_columns(self) -> list[str]:
         return [one.name for one in self.kept] + [FIXED] * bool(self.fixed)
 
-    def machines_text(self):
+    def machines_text(self) -> str:
         there = [Counter(self.numbers[self.pods[at].node] for at in one.pods) for one in self.kept]
         fixed = Counter(self.numbers[self.pods[at].node] for at in self.fixed)
         rows = []
@@ -315,12 +327,12 @@ class Cluster:
                          *[fixed[at]] * bool(self.fixed)])
         return table_text(["machine", "zone", "state", *self.resources, *self.rule_columns()], rows)
 
-    def services_text(self):
+    def services_text(self) -> str:
         spreads = self.constraints
         return table_text(["service", "spread", "skew", "depends_on"],
                           [[service, spreads.spread(service), spreads.skew(service), ""] for service in dict.fromkeys(self.services)])
 
-    def processes_text(self):
+    def processes_text(self) -> str:
         kept, fixed = [set(one.pods) for one in self.kept], set(self.fixed)
         rows = []
         for at, (pod, service) in enumerate(zip(self.pods, self.services)):
@@ -329,7 +341,7 @@ class Cluster:
                          *(int(at in some) for some in kept), *[int(at in fixed)] * bool(self.fixed)])
         return table_text(["process", "service", "machine", *self.resources, *self.rule_columns()], rows)
 
-    def settings_text(self):
+    def settings_text(self) -> str:
         lines = ['neighbourhood = "zone"', 'location = "zone"']
         for name in self.resources:
             unit = UNITS.get(name, "1Mi" if name.startswith("hugepages-") else "1")

@@ -1,10 +1,18 @@
 """To which nodes of a Kubernetes cluster a pod is kept: by node selectors, node affinity, and taints."""
+from __future__ import annotations
+
+from collections.abc import Callable, Iterable, Iterator, Mapping, Sequence
 from dataclasses import dataclass, field
+from typing import TYPE_CHECKING, Any
+
+if TYPE_CHECKING:
+    from .kubernetes import Node, Pod
 
 ZONES = ("topology.kubernetes.io/zone", "failure-domain.beta.kubernetes.io/zone")
 CORDON = "node.kubernetes.io/unschedulable"  # the taint of a node that is closed anyway
 KEEPING = ("NoSchedule", "NoExecute")
 FIXED = "fixed"
+Json = dict[str, Any]  # an object as kubectl writes it
 
 
 @dataclass
@@ -12,11 +20,11 @@ class Kept:
     """Pods that are kept to some nodes by one rule."""
 
     name: str
-    nodes: frozenset  # those where they may be
-    pods: list = field(default_factory=list)
+    nodes: frozenset[int]  # those where they may be
+    pods: list[int] = field(default_factory=list)
 
 
-def matches(expression, values):
+def matches(expression: Json, values: Mapping[str, Any]) -> bool:
     """Whether one expression of a node selector term holds for labels or fields."""
     key, operator, wanted = expression.get("key", ""), expression.get("operator"), expression.get("values") or []
     value = values.get(key)
@@ -36,20 +44,20 @@ def matches(expression, values):
     return False
 
 
-def term_holds(term, node):
+def term_holds(term: Json, node: Node) -> bool:
     """Whether a term of node affinity holds for a node. One without expressions holds for none."""
     labels, fields = term.get("matchExpressions") or [], term.get("matchFields") or []
     return bool(labels or fields) and (all(matches(one, node.labels) for one in labels)
                                        and all(matches(one, {"metadata.name": node.name}) for one in fields))
 
 
-def term_told(term):
+def term_told(term: Json) -> str:
     told = [f"{one.get('key')} {one.get('operator')} {' '.join(one.get('values') or [])}".strip()
             for one in [*(term.get("matchExpressions") or []), *(term.get("matchFields") or [])]]
     return " and ".join(told)
 
 
-def tolerates(tolerations, taint):
+def tolerates(tolerations: Iterable[Json], taint: Json) -> bool:
     """Whether one of the tolerations lets a pod onto a node with this taint."""
     for one in tolerations:
         is_same = one.get("operator") == "Exists" or (one.get("value") or "") == (taint.get("value") or "")
@@ -59,18 +67,18 @@ def tolerates(tolerations, taint):
     return False
 
 
-def rules_of(spec, nodes):
+def rules_of(spec: Json, nodes: Sequence[Node]) -> Iterator[tuple[str, frozenset[int]]]:
     """The rules that keep a pod to nodes: the name of each, and the numbers of those nodes where it lets the pod be."""
-    def those(holds):
+    def those(holds: Callable[[Node], bool]) -> frozenset[int]:
         return frozenset(at for at, node in enumerate(nodes) if holds(node))
     for key, value in (spec.get("nodeSelector") or {}).items():
-        yield f"{key}={value}", those(lambda node: node.labels.get(key) == value)
+        yield f"{key}={value}", those(lambda node: bool(node.labels.get(key) == value))
     affinity = (spec.get("affinity") or {}).get("nodeAffinity") or {}
     required = affinity.get("requiredDuringSchedulingIgnoredDuringExecution")
     if required:
         terms = required.get("nodeSelectorTerms") or []
         yield " or ".join(map(term_told, terms)), those(lambda node: any(term_holds(term, node) for term in terms))
-    taints = {}
+    taints: dict[tuple[object, ...], tuple[Json, set[int]]] = {}
     for at, node in enumerate(nodes):
         for taint in node.taints:
             if taint.get("effect") in KEEPING and taint.get("key") != CORDON:
@@ -82,12 +90,13 @@ def rules_of(spec, nodes):
             yield f"no taint {taint.get('key')}{value}", frozenset(range(len(nodes))) - tainted
 
 
-def keepings(pods, nodes):
+def keepings(pods: list[Pod], nodes: list[Node]) -> tuple[list[Kept], list[int]]:
     """The rules that keep pods to nodes, each once, and the pods that can be on no other node than their own or are fixed to
     one. Of rules that let a pod be on the same nodes only the first is kept, and of two of which one says more only that."""
-    by_nodes, fixed = {}, []
+    by_nodes: dict[frozenset[int], Kept] = {}
+    fixed = []
     everywhere = frozenset(range(len(nodes)))
-    known = {}
+    known: dict[str, list[tuple[str, frozenset[int]]]] = {}
     for at, pod in enumerate(pods):
         key = repr([pod.spec.get(word) for word in ("nodeSelector", "affinity", "tolerations")])
         if key not in known:
@@ -101,7 +110,8 @@ def keepings(pods, nodes):
                 kept = by_nodes.setdefault(some, Kept(name, some))
                 if at not in kept.pods[-1:]:
                     kept.pods.append(at)
-    found, names = list(by_nodes.values()), set()
+    found = list(by_nodes.values())
+    names: set[str] = set()
     for kept in found:
         while kept.name in names:
             kept.name += "'"

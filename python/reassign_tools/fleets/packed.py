@@ -1,17 +1,19 @@
 """The files that `named pack` wrote, read again."""
 import os
 from dataclasses import dataclass
+from typing import Self
 
-from ..broken_rules import broken_rules
+from ..broken_rules import Broken, broken_rules
 from ..files import Room, list_text, write_whole
 from ..models import Model, closed_flags, same_sizes
 from ..names import Names
 from ..problems import Problem
+from ..program import Program
 from ..reports import read_placement
 from ..texts import counted
 from .fleet import PROCESSES
 from .packing import whole_folder
-from .skews import broken_skews
+from .skews import Skew, broken_skews
 from .tables import rows_of, table_text
 
 
@@ -21,20 +23,20 @@ class Packed:
 
     folder: str
     names: Names
-    initial: list
+    initial: list[int]
 
     @classmethod
-    def read(cls, folder):
+    def read(cls, folder: str) -> Self:
         """The packed fleet of a folder. Raises Problem if its files can't be read or don't belong together."""
         names = Names.read(os.path.join(folder, "names.json"), os.path.join(folder, "model"))
         packed = cls(folder, names, [])
         packed.initial = packed.placement(packed.file("initial"))
         return packed
 
-    def file(self, name):
+    def file(self, name: str) -> str:
         return os.path.join(self.folder, name)
 
-    def placement(self, name):
+    def placement(self, name: str) -> list[int]:
         """The machines of a list or report, which has to have one of this fleet for each process."""
         found, processes, machines = read_placement(name), self.names.processes, self.names.machines
         if not found:
@@ -54,16 +56,16 @@ class Packed:
 class Judgement:
     """What `reassign check` says of a list, and all rules that today's placement and the list break."""
 
-    status: int
-    lines: list  # what the program prints
+    status: int | None
+    lines: list[str]  # what the program prints
     error: str  # its line on standard error
     model: Model
-    initial_rules: list
-    rules: list
-    skews: list  # that the list breaks beside today's, which is no rule
+    initial_rules: list[Broken]
+    rules: list[Broken]
+    skews: list[Skew]  # that the list breaks beside today's, which is no rule
 
 
-def judge(packed, program, name):
+def judge(packed: Packed, program: Program, name: str) -> Judgement:
     """Judges a list or report by the program and by the rules here, which have to agree."""
     now = packed.placement(name)
     closed = packed.file("closed")
@@ -86,7 +88,7 @@ def judge(packed, program, name):
                      list(broken_skews(model, packed.names, packed.initial, now)))
 
 
-def unpack(packed, now, folder):
+def unpack(packed: Packed, now: list[int], folder: str) -> None:
     """Writes the tables of a packed fleet into a new folder, with the machines of a list."""
     if os.path.lexists(folder):
         raise Problem(f"{folder} is there already; name a folder that isn't", 2)
@@ -97,7 +99,7 @@ def unpack(packed, now, folder):
             write_whole(os.path.join(beside, file), [text.encode()])
 
 
-def moved_text(text, names, now):
+def moved_text(text: str, names: Names, now: list[int]) -> str:
     """The table of processes with the machines of a list. All other cells stay."""
     header, *rows = [row.cells for row in rows_of(text)]
     at, name_at = header.index("machine"), header.index("process")

@@ -1,33 +1,40 @@
 """A fleet as the files of the program: model, initial, closed, names.json."""
+from __future__ import annotations
+
 import hashlib
 import os
+from collections.abc import Iterable, Iterator, Sequence
 from fractions import Fraction
+from typing import TYPE_CHECKING
 
-from ..files import for_a_while, list_text, remove, write_whole
-from ..models import LARGEST, Model
+from ..files import LARGEST, for_a_while, list_text, remove, write_whole
+from ..models import Model
 from ..names import Names
 from ..problems import Problem
 from .amounts import amount_text
 from .mistakes import Mistakes
 from .way_tables import way_rows
 
+if TYPE_CHECKING:
+    from .fleet import Fleet
+
 NAMES = "names.json"
 FILES = ("model", "initial", "closed", NAMES)
 
 
-def labels_of(names):
+def labels_of(names: Iterable[str]) -> tuple[list[int], list[str]]:
     """A number for each name, by the first use, and the names in this order."""
-    numbers = {}
+    numbers: dict[str, int] = {}
     return [numbers.setdefault(name, len(numbers)) for name in names], list(numbers)
 
 
-def model_of(fleet):
+def model_of(fleet: Fleet) -> Model:
     """The model of a fleet. Raises FleetMistakes if a balance asks for more than a model's number can say."""
     machines, services, processes, settings = fleet.machines, fleet.services, fleet.processes, fleet.settings
     weights = settings.weights
     return Model(
         transient=[int(one.transient) for one in fleet.resources],
-        load_weights=[one.load_weight for one in fleet.resources],
+        load_weights=[one.load_weight or 0 for one in fleet.resources],
         hoods=labels_of(one.neighbourhood for one in machines)[0],
         locations=labels_of(one.location for one in machines)[0],
         capacity=[one.capacity for one in machines],
@@ -43,15 +50,17 @@ def model_of(fleet):
     )
 
 
-def balances_of(fleet):
+def balances_of(fleet: Fleet) -> list[Sequence[int]]:
     """The balance objectives as a model has them. An amount as the target becomes one of units, rounded to the nearest."""
     numbers = {one.name: at for at, one in enumerate(fleet.resources)}
-    mistakes, balances = Mistakes(), []
+    mistakes = Mistakes()
+    balances: list[Sequence[int]] = []
     for at, one in enumerate(fleet.settings.balances):
         first, second = numbers[one.first], numbers[one.second]
-        target = one.target
-        if isinstance(target, Fraction):
-            exact = target * fleet.resources[first].unit / fleet.resources[second].unit
+        if isinstance(one.target, int):
+            target = one.target
+        else:
+            exact = one.target * fleet.resources[first].unit / fleet.resources[second].unit
             target = round(exact)
             if abs(target - exact) * 100 > exact:
                 place = fleet.settings.place("balance", at, "target")
@@ -66,7 +75,7 @@ def balances_of(fleet):
     return balances
 
 
-def names_of(fleet, model_hash):
+def names_of(fleet: Fleet, model_hash: str) -> Names:
     """The names of a fleet in the order of its model's numbers."""
     return Names(
         model_sha256=model_hash,
@@ -82,13 +91,13 @@ def names_of(fleet, model_hash):
     )
 
 
-def pack(fleet, folder):
+def pack(fleet: Fleet, folder: str) -> None:
     """Writes the files of a fleet into a folder, which is made if it isn't there. The names come last, so that those of an
     earlier fleet are refused as another model's if the last step is broken off."""
     digest = hashlib.sha256()
     model = fleet.model()
 
-    def hashed():
+    def hashed() -> Iterator[bytes]:
         for piece in model.pieces():
             digest.update(piece)
             yield piece
@@ -104,13 +113,13 @@ class whole_folder:
     """A folder in which files are written, beside the place where they will stand: they are put there when all are whole, the
     names last. A folder that isn't there yet is then there with all of its files, or not at all."""
 
-    def __init__(self, folder):
+    def __init__(self, folder: str) -> None:
         self.folder = os.path.realpath(folder)
         self.is_new = not os.path.exists(self.folder)
         above, name = os.path.split(self.folder)
         self.beside = os.path.join(above if self.is_new else self.folder, f".{name}.{os.getpid()}")
 
-    def __enter__(self):
+    def __enter__(self) -> str:
         above = os.path.dirname(self.beside)
         if not self.is_new and not os.path.isdir(self.folder):
             raise Problem(f"{self.folder} is no folder", 2)
@@ -122,7 +131,7 @@ class whole_folder:
             raise Problem(f"write fault: {self.folder}: {fault.strerror}", 7) from None
         return self.beside
 
-    def __exit__(self, kind, *_):
+    def __exit__(self, kind: object, *_: object) -> None:
         try:
             if kind is None and self.is_new:
                 os.rename(self.beside, self.folder)

@@ -1,8 +1,9 @@
 """Services that depend on each other in rings."""
 from collections import deque
+from collections.abc import Iterator, Sequence
 
 
-def rings(needs):
+def rings(needs: Sequence[Sequence[int]]) -> Iterator[tuple[list[int], int]]:
     """The rings among things that need others, by their numbers: for each group of several that all need each other, directly
     or not, a shortest ring from its first one, and how many are in the group.
 
@@ -14,7 +15,7 @@ def rings(needs):
             yield shortest_ring(min(members), set(members), needs), len(members)
 
 
-def groups(needs):
+def groups(needs: Sequence[Sequence[int]]) -> list[list[int]]:
     """The groups of things of which each needs each other one, in the order of their first ones."""
     order, seen = [], set()
     for root in range(len(needs)):
@@ -30,18 +31,19 @@ def groups(needs):
             else:
                 seen.add(following)
                 path.append((following, iter(needs[following])))
-    needed_by = [[] for _ in needs]
+    needed_by: list[list[int]] = [[] for _ in needs]
     for at, some in enumerate(needs):
         for one in some:
             needed_by[one].append(at)
-    group, found = set(), []
+    group: set[int] = set()
+    found = []
     for root in reversed(order):
         if root not in group:
             found.append(reached(root, needed_by, group))
     return sorted(found, key=min)
 
 
-def reached(root, following, taken):
+def reached(root: int, following: list[list[int]], taken: set[int]) -> list[int]:
     """What is reached from a root and isn't taken yet. It is taken then."""
     taken.add(root)
     members = [root]
@@ -53,9 +55,10 @@ def reached(root, following, taken):
     return members
 
 
-def shortest_ring(start, members, needs):
+def shortest_ring(start: int, members: set[int], needs: Sequence[Sequence[int]]) -> list[int]:
     """The numbers of a shortest ring of several members, from the start on."""
-    before, queue = {}, deque([start])
+    before: dict[int, int] = {}
+    queue = deque([start])
     while True:
         at = queue.popleft()
         for one in needs[at]:

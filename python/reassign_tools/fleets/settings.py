@@ -2,24 +2,28 @@
 import json
 import re
 import tomllib
+from collections.abc import Callable, Iterable, Iterator
 from dataclasses import dataclass, field
 from decimal import Decimal
 from fractions import Fraction
+from typing import Any, Self, TypeVar
 
-from ..models import LARGEST
+from ..files import LARGEST
 from .amounts import NoAmount, amount, amount_text
-from .mistakes import Place
+from .mistakes import Mistakes, Place
 
 FILE = "settings.toml"
 MOST_BALANCES = 10
+T = TypeVar("T")
+Readers = dict[str, Callable[[object], object]]
 
 
 @dataclass
 class Resource:
-    """A resource. What one of the model's numbers means is `unit`; none means that the amounts in the tables decide."""
+    """A resource. What one of the model's numbers means is `unit`; 0 means that the amounts in the tables decide."""
 
     name: str
-    unit: Fraction | None = None
+    unit: Fraction = Fraction(0)
     transient: bool = False
     load_weight: int | None = None  # none means that what the fleet has of it decides
     safety: Fraction | str = Fraction(4, 5)  # a share of the capacity, or the name of a column
@@ -60,39 +64,39 @@ class Settings:
     """The settings. No resources means that the columns of machines.csv decide. If one is wrong that may name columns, they
     aren't `sure`: nobody knows then which columns there have to be."""
 
-    neighbourhood: list = field(default_factory=lambda: ["zone"])
-    location: list = field(default_factory=lambda: ["rack"])
+    neighbourhood: list[str] = field(default_factory=lambda: ["zone"])
+    location: list[str] = field(default_factory=lambda: ["rack"])
     move_cost: int = 1
     spread: int = 1
-    ignored: list = field(default_factory=list)
-    resources: list = field(default_factory=list)
-    balances: list = field(default_factory=list)
+    ignored: list[str] = field(default_factory=list)
+    resources: list[Resource] = field(default_factory=list)
+    balances: list[Balance] = field(default_factory=list)
     ways: Ways = field(default_factory=Ways)
     weights: Weights = field(default_factory=Weights)
-    places: dict = field(default_factory=dict, repr=False)  # of sections and words in the file
+    places: dict[tuple[str, int, str], tuple[int, int]] = field(default_factory=dict, repr=False)  # of sections and words in the file
     sure: bool = True
 
     @classmethod
-    def read(cls, text, mistakes):
+    def read(cls, text: str | None, mistakes: Mistakes) -> Self:
         """The settings of a text, or the defaults if there is none. Mistakes are added to those that are given."""
         settings = cls()
         try:
             words = tomllib.loads(text or "", parse_float=Decimal)
         except (ValueError, RecursionError) as fault:
             settings.sure = False
-            tell_no_toml(text, fault, mistakes)
+            tell_no_toml(text or "", fault, mistakes)
             return settings
         settings.places = places_of(text or "")
         Reader(settings, mistakes).fill(words)
         return settings
 
-    def place(self, section, at=0, word=""):
+    def place(self, section: str, at: int = 0, word: str = "") -> Place:
         """Where a word stands: that of a section, of which there may be several, or a section itself."""
         keys = (section, at, word), (section or word, at, "")
         line, column = next((self.places[key] for key in keys if key in self.places), (0, 0))
         return Place(FILE, line, column)
 
-    def lines(self):
+    def lines(self) -> Iterator[str]:
         """The settings as they are written, each word of them."""
         yield f"neighbourhood = {written_names(self.neighbourhood)}"
         yield f"location = {written_names(self.location)}"
@@ -104,10 +108,10 @@ class Settings:
             yield from ("", "[[resource]]", f"name = {quoted(one.name)}", f"unit = {quoted(amount_text(one.unit))}",
                         f"transient = {str(one.transient).lower()}", f"load_weight = {one.load_weight}", f"safety = {safety}",
                         *["rule = true"] * one.rule)
-        for one in self.balances:
-            target = one.target if isinstance(one.target, int) else quoted(amount_text(one.target))
-            yield from ("", "[[balance]]", f"first = {quoted(one.first)}", f"second = {quoted(one.second)}",
-                        f"target = {target}", f"weight = {one.weight}")
+        for balance in self.balances:
+            target = balance.target if isinstance(balance.target, int) else quoted(amount_text(balance.target))
+            yield from ("", "[[balance]]", f"first = {quoted(balance.first)}", f"second = {quoted(balance.second)}",
+                        f"target = {target}", f"weight = {balance.weight}")
         ways, weights = self.ways, self.weights
         yield from ("", "[ways]", f"same_location = {ways.same_location}", f"same_neighbourhood = {ways.same_neighbourhood}",
                     f"elsewhere = {ways.elsewhere}")
@@ -117,7 +121,7 @@ class Settings:
                     f"machine = {weights.machine}")
 
 
-def tell_no_toml(text, fault, mistakes):
+def tell_no_toml(text: str, fault: Exception, mistakes: Mistakes) -> None:
     """Tells where a text is no TOML: each value that has no quotation marks, with what to write, and the fault if it is another
     line's."""
     found = re.fullmatch(r"(.*) \(at line (\d+), column (\d+)\)", str(fault))
@@ -126,7 +130,7 @@ def tell_no_toml(text, fault, mistakes):
     for line, words in enumerate(text.splitlines(), 1):
         setting = re.fullmatch(r"\s*([\w.-]+)\s*=\s*(.*?)\s*(?:#[^\"]*)?", words)
         meant = meant_value(setting[2]) if setting else None
-        if meant:
+        if setting and meant:
             lines.add(line)
             mistakes.add(Place(FILE, line, setting.start(2) + 1),
                          f"no TOML: {setting[2]!r} can't be read; write {setting[1]} = {meant}")
@@ -134,7 +138,7 @@ def tell_no_toml(text, fault, mistakes):
         mistakes.add(place, f"no TOML: {found[1] if found else fault}")
 
 
-def meant_value(value):
+def meant_value(value: str) -> str | None:
     """What a value has to be written as that TOML can't read, if it lacks its quotation marks or has others; else None."""
     if is_value(value):
         return None
@@ -148,7 +152,7 @@ def meant_value(value):
     return quoted(plain) if re.fullmatch(r"[\w./%:-]+( [\w./%:-]+)*", plain) else None
 
 
-def is_value(text):
+def is_value(text: str) -> bool:
     """Whether TOML can read a text as a value."""
     try:
         tomllib.loads(f"value = {text}")
@@ -157,11 +161,11 @@ def is_value(text):
     return True
 
 
-def quoted(text):
+def quoted(text: str) -> str:
     return json.dumps(text, ensure_ascii=False)
 
 
-def written_names(names):
+def written_names(names: list[str]) -> str:
     return quoted(names[0]) if len(names) == 1 else json.dumps(names, ensure_ascii=False)
 
 
@@ -169,37 +173,38 @@ class Wrong(ValueError):
     """A value that a setting can't have; its text says what it can be."""
 
 
-def whole(value):
+def whole(value: object) -> int:
     if type(value) is not int or not 0 <= value <= LARGEST:
         raise Wrong(f"a whole number from 0 to {LARGEST:,}")
     return value
 
 
-def truth(value):
+def truth(value: object) -> bool:
     if type(value) is not bool:
         raise Wrong("true or false")
     return value
 
 
-def name(value):
+def name(value: object) -> str:
     if type(value) is not str or not value:
         raise Wrong("a name in quotation marks")
     return value
 
 
-def file(value):
-    if "/" in name(value) or value.startswith("."):
+def file(value: object) -> str:
+    found = name(value)
+    if "/" in found or found.startswith("."):
         raise Wrong("the name of a file in the fleet's folder")
-    return value
+    return found
 
 
-def names(value):
+def names(value: object) -> list[str]:
     if type(value) is not list or any(type(one) is not str for one in value):
         raise Wrong("a list of names in quotation marks")
     return value
 
 
-def columns(value):
+def columns(value: object) -> list[str]:
     if type(value) is str and value:
         return [value]
     if value == [] or type(value) is not list or any(type(one) is not str for one in value):
@@ -207,7 +212,7 @@ def columns(value):
     return value
 
 
-def unit(value):
+def unit(value: object) -> Fraction:
     wrong = "an amount above 0 in quotation marks, such as \"1m\" or \"1Mi\""
     if type(value) is not str:
         raise Wrong(wrong)
@@ -219,16 +224,17 @@ def unit(value):
     return amount(value)
 
 
-def share(value):
+def share(value: object) -> Fraction | str:
     if type(value) is str and value:
         return value
-    if type(value) not in (int, Decimal) or not (Decimal(value).is_finite() and 0 <= value <= 1
-                                                 and Decimal(value).as_tuple().exponent >= -30):
-        raise Wrong("a share of the capacity from 0 to 1, or the name of a column")
-    return Fraction(value)
+    if isinstance(value, (int, Decimal)) and not isinstance(value, bool) and Decimal(value).is_finite() and 0 <= value <= 1:
+        _, _, exponent = Decimal(value).as_tuple()
+        if isinstance(exponent, int) and exponent >= -30:
+            return Fraction(value)
+    raise Wrong("a share of the capacity from 0 to 1, or the name of a column")
 
 
-def target(value):
+def target(value: object) -> int | Fraction:
     if type(value) is str:
         try:
             return amount(value)
@@ -237,20 +243,20 @@ def target(value):
     return whole(value)
 
 
-OWN = {"neighbourhood": columns, "location": columns, "move_cost": whole, "spread": whole, "ignored": names}
-RESOURCE = {"name": name, "unit": unit, "transient": truth, "load_weight": whole, "safety": share, "rule": truth}
-BALANCE = {"first": name, "second": name, "target": target, "weight": whole}
-WAYS = {"same_location": whole, "same_neighbourhood": whole, "elsewhere": whole, "file": file}
-WEIGHTS = {"process": whole, "service": whole, "machine": whole}
+OWN: Readers = {"neighbourhood": columns, "location": columns, "move_cost": whole, "spread": whole, "ignored": names}
+RESOURCE: Readers = {"name": name, "unit": unit, "transient": truth, "load_weight": whole, "safety": share, "rule": truth}
+BALANCE: Readers = {"first": name, "second": name, "target": target, "weight": whole}
+WAYS: Readers = {"same_location": whole, "same_neighbourhood": whole, "elsewhere": whole, "file": file}
+WEIGHTS: Readers = {"process": whole, "service": whole, "machine": whole}
 
 
 class Reader:
     """Reads the words of settings into their places."""
 
-    def __init__(self, settings, mistakes):
+    def __init__(self, settings: Settings, mistakes: Mistakes) -> None:
         self.settings, self.mistakes = settings, mistakes
 
-    def fill(self, words):
+    def fill(self, words: dict[str, Any]) -> None:
         settings = self.settings
         parts = {name: words.pop(name, kind()) for name, kind in
                  (("resource", list), ("balance", list), ("ways", dict), ("weights", dict))}
@@ -271,7 +277,7 @@ class Reader:
                 self.wrong(("resource", at, "name"), f"two resources are named {one.name!r}")
             seen.add(one.name)
 
-    def listed(self, items, section, readers, kind, needed):
+    def listed(self, items: object, section: str, readers: Readers, kind: Callable[..., T], needed: tuple[str, ...]) -> list[T]:
         made = []
         for at, item in enumerate(items if type(items) is list else []):
             if not self.is_table(item, section, at):
@@ -285,13 +291,13 @@ class Reader:
                 made.append(one)
         return made
 
-    def is_table(self, item, section, at=0):
+    def is_table(self, item: object, section: str, at: int = 0) -> bool:
         if type(item) is dict:
             return True
         self.wrong((section, at, ""), f"[{section}] has to be a table")
         return False
 
-    def take(self, into, readers, words, section, at=0, also=()):
+    def take(self, into: object, readers: Readers, words: dict[str, Any], section: str, at: int = 0, also: Iterable[str] = ()) -> None:
         """Sets what the words say."""
         for word, value in words.items():
             if word not in readers:
@@ -303,15 +309,17 @@ class Reader:
             except Wrong as wrong:
                 self.wrong((section, at, word), f"{word} has to be {wrong}")
 
-    def wrong(self, key, text):
+    def wrong(self, key: tuple[str, int, str], text: str) -> None:
         if key[0] in ("", "resource"):
             self.settings.sure = False
         self.mistakes.add(self.settings.place(*key), text)
 
 
-def places_of(text):
+def places_of(text: str) -> dict[tuple[str, int, str], tuple[int, int]]:
     """The line and column of each section and word, by (section, number of the section, word)."""
-    places, counts, section, at = {}, {}, "", 0
+    places: dict[tuple[str, int, str], tuple[int, int]] = {}
+    counts: dict[str, int] = {}
+    section, at = "", 0
     for line, words in enumerate(text.splitlines(), 1):
         if found := re.match(r"\s*(\[+)\s*\"?([\w-]+)\"?\s*\]+", words):
             section = found[2]

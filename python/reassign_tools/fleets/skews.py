@@ -1,7 +1,10 @@
 """By how much the processes of a service in two locations differ. That is no rule of a model: it is told beside the rules."""
 from collections import Counter
+from collections.abc import Iterator
 from dataclasses import asdict, dataclass
 
+from ..models import Model
+from ..names import Names
 from .amounts import whole_number
 from .fleet import SERVICES
 from .tables import rows_of
@@ -19,15 +22,15 @@ class Skew:
     allowed: int
     today: int
 
-    def told(self):
+    def told(self) -> str:
         return (f"note: {self.service} has {self.most} in {self.most_in} and {self.least} in {self.least_in}: its skew is "
                 f"{self.most - self.least}, today {self.today}, and {self.allowed} is asked for")
 
-    def as_words(self):
+    def as_words(self) -> dict[str, int | str]:
         return asdict(self)
 
 
-def allowed_skews(names):
+def allowed_skews(names: Names) -> dict[int, int]:
     """What the column `skew` says, by the numbers of services."""
     header, *rows = [row.cells for row in rows_of(names.tables.get(SERVICES, ""))] or [[]]
     if "skew" not in header or "service" not in header:
@@ -37,7 +40,7 @@ def allowed_skews(names):
     return {number: skew for number, skew in found.items() if number is not None and skew is not None}
 
 
-def broken_skews(model, names, today, now):
+def broken_skews(model: Model, names: Names, today: list[int], now: list[int]) -> Iterator[Skew]:
     """The skews that a list breaks and today's placement doesn't, or not as much."""
     members = model.members()
     for service, allowed in allowed_skews(names).items():
@@ -50,7 +53,7 @@ def broken_skews(model, names, today, now):
                 yield Skew(names.services[service], names.location(most), after[most], names.location(least), after[least], allowed, was)
 
 
-def places_for(model, members):
+def places_for(model: Model, members: list[int]) -> list[int]:
     """The locations with a machine that is large enough for the first of these processes."""
     required = model.required[members[0]]
     return sorted({location for location, capacity in zip(model.locations, model.capacity)

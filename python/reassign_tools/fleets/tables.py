@@ -2,12 +2,13 @@
 import csv
 import io
 import os
+from collections.abc import Callable, Iterable, Iterator
 from dataclasses import dataclass
 
 from ..files import read_whole
 from ..problems import Problem
 from ..texts import counted
-from .mistakes import Place
+from .mistakes import Mistakes, Place
 
 csv.field_size_limit(1 << 16)
 SEPARATORS = {";": "semicolons", "\t": "tabs", "|": "bars"}
@@ -21,20 +22,26 @@ class Row:
     """A row: the number of its first line in the file, and its cells."""
 
     line: int
-    cells: list
+    cells: list[str]
+
+    def cell(self, at: int | None) -> str:
+        """The cell of a column; nothing if there is no such column."""
+        return "" if at is None else self.cells[at]
 
 
 class Table:
     """A table. `rows` are those that have a cell for each column; the others are `faulty`, and told as mistakes. Columns at the
     end that have neither a name nor a cell are passed over. If the table can't be read to its end, it isn't `whole`."""
 
-    def __init__(self, file, text, mistakes):
+    def __init__(self, file: str, text: str, mistakes: Mistakes) -> None:
         self.file, self.text, self.mistakes = file, text, mistakes
-        self.columns, self.rows, self.faulty = [], [], []
+        self.columns: list[str] = []
+        self.rows: list[Row] = []
+        self.faulty: list[Row] = []
         self.header_line, self.whole = 1, True
         self.read()
 
-    def read(self):
+    def read(self) -> None:
         separator = other_separator(self.text)
         if separator:
             self.stop(1, f"the columns are separated by {separator}; save the table with commas between them")
@@ -64,25 +71,25 @@ class Table:
                 self.faulty.append(row)
                 self.mistakes.add(Place(self.file, row.line), self.miscounted(row.cells))
 
-    def stop(self, line, why):
+    def stop(self, line: int, why: str) -> None:
         """Tells why the table can't be read from a line on."""
         self.whole = False
         self.mistakes.add(Place(self.file, line), why)
 
-    def miscounted(self, cells):
+    def miscounted(self, cells: list[str]) -> str:
         """What is wrong with a row that has too few or too many cells."""
         lacking, extra = self.columns[len(cells):], cells[len(self.columns):]
         which = f"none for {', '.join(map(repr, lacking))}" if lacking else f"{', '.join(map(repr, extra))} in none"
         return f"{counted(len(cells), 'cell')} in a table of {counted(len(self.columns), 'column')}: {which}"
 
-    def needs(self, *names, why=""):
+    def needs(self, *names: str, why: str = "") -> None:
         """Tells those columns that are missing."""
         for name in dict.fromkeys(names):
             if self.columns and name not in self.columns:
                 self.mistakes.add(Place(self.file, self.header_line), f"no column {name!r}{why}"
                                   f"{self.mistakes.nearest(name, self.columns)}")
 
-    def knows(self, names):
+    def knows(self, names: set[str]) -> None:
         """Tells those columns that have no meaning."""
         for at, name in enumerate(self.columns, 1):
             if name and name not in names:
@@ -90,26 +97,26 @@ class Table:
                                   f"{self.mistakes.nearest(name, list(names))}; if it is to be passed over, name it in "
                                   "`ignored` of settings.toml")
 
-    def at(self, name):
+    def at(self, name: str) -> int | None:
         """The number of a column, or None."""
         return self.columns.index(name) if name in self.columns else None
 
-    def faulty_names(self, at):
+    def faulty_names(self, at: int) -> set[str] | None:
         """The cells of a column in those rows that were told, so that nobody is told that they aren't there. None if the table
         isn't whole, so that any name may be there."""
         return {row.cells[at] for row in self.faulty if at < len(row.cells)} if self.whole else None
 
-    def place(self, row, at):
-        return Place(self.file, row.line, at + 1, self.columns[at])
+    def place(self, row: Row, at: int | None) -> Place:
+        return Place(self.file, row.line) if at is None else Place(self.file, row.line, at + 1, self.columns[at])
 
 
-def other_separator(text):
+def other_separator(text: str) -> str | None:
     """What separates the columns instead of commas, in words; None if it is commas, or nothing does."""
     first = text.lstrip().split("\n", 1)[0]
     return next((SEPARATORS[one] for one in SEPARATORS if one in first), None) if "," not in first else None
 
 
-def rows_of(text, tell=lambda line, why: None):
+def rows_of(text: str, tell: Callable[[int, str], None] = lambda line, why: None) -> Iterator[Row]:
     """The rows of a text that aren't blank, without the blanks around cells. What can't be read is told, with its line; the lines
     after that are read as if it weren't there."""
     lines = list(io.StringIO(text, newline=""))
@@ -128,7 +135,7 @@ def rows_of(text, tell=lambda line, why: None):
             begin, faults = line, faults + 1
 
 
-def read_text(folder, file, mistakes, is_needed=True):
+def read_text(folder: str, file: str, mistakes: Mistakes, is_needed: bool = True) -> str | None:
     """The text of a file of a folder, without a byte order mark; None if it isn't there or can't be read, which is told."""
     name = os.path.join(folder, file)
     if not os.path.lexists(name):
@@ -154,7 +161,7 @@ def read_text(folder, file, mistakes, is_needed=True):
         return None
 
 
-def table_text(columns, rows, end="\n"):
+def table_text(columns: Iterable[str], rows: Iterable[Iterable[object]], end: str = "\n") -> str:
     """The text of a table."""
     written = io.StringIO(newline="")
     writer = csv.writer(written, lineterminator=end)
