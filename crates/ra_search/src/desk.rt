@@ -8,27 +8,53 @@ use std::sync::ledger::Ledger;
 use std::sync::{Mutex, RwLock, Wait};
 use std::thread;
 
-/// Where the searchers of a search stand, with the order that they carry out next. Whoever is free takes the next of them,
-/// so what they do is the same however many threads there are.
+/// The seat of a searcher, and for which order it was taken up last.
+#[derive(Drop)]
+pub(crate) struct Seat<'a> {
+    pub(crate) searcher: Mutex<Searcher<'a>>,
+    begun: AtomicU64,
+}
+
+impl<'a> Seat<'a> {
+    /// A seat whose searcher was taken up for no order.
+    pub(crate) fn make(searcher: Searcher<'a>) -> Seat<'a> {
+        Seat {
+            searcher: Mutex::new(searcher),
+            begun: AtomicU64::new(0),
+        }
+    }
+
+    /// Takes the searcher up for an order, if nobody has done so before.
+    fn is_taken_up(&self, number: u64) -> bool {
+        let before = number.wrapping_sub(1);
+        self.begun
+            .compare_exchange(before, number, Ordering::SeqCst, Ordering::SeqCst)
+            .is_ok()
+    }
+}
+
+/// Where the searchers of a search sit, with the order that they carry out next. Each thread first takes up those that it had
+/// before, whose numbers are near it then, and helps the others after that. So what they do is the same however many threads
+/// there are.
 #[derive(Drop)]
 pub(crate) struct Desk<'a> {
-    pub(crate) seats: Vec<Mutex<Searcher<'a>>>,
+    pub(crate) seats: Vec<Seat<'a>>,
     pub(crate) order: RwLock<Order>,
-    /// How many orders were given.
+    /// How many threads there are.
+    pub(crate) threads: usize,
+    /// How many orders were given, and how many searchers have carried out the present one.
     given: AtomicU64,
-    /// How many searchers were taken up for the present order, and how many have carried it out.
-    begun: AtomicU64,
     ended: AtomicU64,
 }
 
 impl<'a> Desk<'a> {
     /// A desk for these searchers, with an order that nobody was given.
-    pub(crate) fn make(seats: Vec<Mutex<Searcher<'a>>>, order: Order) -> Desk<'a> {
+    pub(crate) fn make(seats: Vec<Seat<'a>>, order: Order, threads: usize) -> Desk<'a> {
         Desk {
             seats,
             order: RwLock::new(order),
+            threads,
             given: AtomicU64::new(0),
-            begun: AtomicU64::new(0),
             ended: AtomicU64::new(0),
         }
     }
@@ -45,9 +71,8 @@ impl<'a> Desk<'a> {
     /// Has all searchers carry out the order, and helps with it.
     pub(crate) fn carry_out<R: Wait, L: Ledger>(&self, rt: &R, steps: &mut Steps<L>) {
         self.ended.store(0, Ordering::SeqCst);
-        self.begun.store(0, Ordering::SeqCst);
-        self.given.fetch_add(1, Ordering::SeqCst);
-        self.help(rt, steps);
+        let before = self.given.fetch_add(1, Ordering::SeqCst);
+        self.help(rt, before.wrapping_add(1), 0, steps);
         let mut waits = 0;
         let all = self.seats.len() as u64;
         for _ in rt.forever() {
@@ -64,8 +89,8 @@ impl<'a> Desk<'a> {
         self.given.fetch_add(1, Ordering::SeqCst);
     }
 
-    /// Helps with one order after another, until there are no more.
-    pub(crate) fn attend<R: Wait, L: Ledger>(&self, rt: &R, steps: &mut Steps<L>) {
+    /// Helps with one order after another, as the thread of this number, until there are no more.
+    pub(crate) fn attend<R: Wait, L: Ledger>(&self, rt: &R, thread: usize, steps: &mut Steps<L>) {
         let mut seen = 0;
         let mut waits = 0;
         for _ in rt.forever() {
@@ -78,7 +103,7 @@ impl<'a> Desk<'a> {
                 if self.is_over(rt) {
                     return;
                 }
-                self.help(rt, steps);
+                self.help(rt, given, thread, steps);
             }
         }
     }
@@ -88,27 +113,43 @@ impl<'a> Desk<'a> {
         matches!(&order.task, Task::Stop)
     }
 
-    /// Takes up one searcher after another that nobody has taken up for the present order.
-    fn help<R: Wait, L: Ledger>(&self, rt: &R, steps: &mut Steps<L>) {
-        for _ in 0..self.seats.len() {
-            let k = self.begun.fetch_add(1, Ordering::SeqCst);
-            if k >= self.seats.len() as u64 {
-                return;
+    /// Takes up the searchers of a thread, one after another, and then those of others that nobody has taken up.
+    fn help<R: Wait, L: Ledger>(&self, rt: &R, number: u64, thread: usize, steps: &mut Steps<L>) {
+        let all = self.seats.len();
+        for k in 0..all {
+            if k % self.threads.max(1) == thread {
+                self.take_up(rt, k, number, steps);
             }
+        }
+        for k in 0..all {
+            self.take_up(rt, k, number, steps);
+        }
+    }
+
+    /// Has a searcher carry out an order, if nobody has taken it up.
+    fn take_up<R: Wait, L: Ledger>(&self, rt: &R, k: usize, number: u64, steps: &mut Steps<L>) {
+        let seat = &self.seats[k];
+        if seat.is_taken_up(number) {
             let order = self.order.read(rt);
-            self.seats[k as usize].lock(rt).obey(&order, steps);
+            seat.searcher.lock(rt).obey(&order, steps);
             self.ended.fetch_add(1, Ordering::SeqCst);
         }
     }
 }
 
-/// Waits a little, the longer the more often it has waited, and in the end for as long as the system runs other threads.
+/// How many times a thread looks again before it lets others run.
+const LOOKS: u32 = 200;
+
+/// For how long it waits between two looks.
+const SPINS: u32 = 8;
+
+/// Waits a little, or after many times for as long as the system runs other threads.
 fn pause(waits: u32) -> u32 {
-    if waits > 12 {
+    if waits > LOOKS {
         thread::yield_now();
         return waits;
     }
-    for _ in 0..1u32 << waits {
+    for _ in 0..SPINS {
         spin_loop();
     }
     waits + 1

@@ -161,7 +161,7 @@ impl<'a> Hunt<'a> {
             lost: 0,
         };
         for k in 0..desk.seats.len() {
-            let mut guard = desk.seats[k].lock(rt);
+            let mut guard = desk.seats[k].searcher.lock(rt);
             let seat = &mut *guard;
             self.take_moves(seat, heat, &mut merged, steps);
             merged.tries = merged.tries.saturating_add(seat.take_tries());

@@ -9,7 +9,7 @@ ghost use Rattle.ra_search.specs.Found.{IsFound};
 ghost use Rattle.ra_search.specs.Hunting.{HasHunted};
 ghost use Rattle.ra_search.specs.Kept.{IsKept};
 
-use crate::desk::Desk;
+use crate::desk::{Desk, Seat};
 use crate::found::Found;
 use crate::hunt::Hunt;
 use crate::kept::Kept;
@@ -22,8 +22,8 @@ use ra_topology::Topology;
 use ra_world::World;
 use std::alloc::Global;
 use std::marker::{Brand, Sync};
+use std::sync::Wait;
 use std::sync::ledger::{Blank, Ledger};
-use std::sync::{Mutex, Wait};
 use std::thread;
 use std::thread::{Threads, join_mut};
 
@@ -32,6 +32,12 @@ const MADE: usize = 16_384;
 
 /// The most workers that a search may have.
 const MOST_WORKERS: usize = 16;
+
+/// So many searchers there are at most on few machines, and one for each so many machines at most on many. If there were more,
+/// they would lose more of their moves, and it would take them longer to follow those of the others than they save.
+const FEW_SEARCHERS: u32 = 4;
+
+const MACHINES_EACH: u32 = 500;
 
 /// How many tries each searcher makes in the first slice.
 const FIRST_SLICE: u64 = 20_000;
@@ -86,8 +92,17 @@ fn search_counted<R: Threads + Wait + Sync, L: Ledger>(
     let mut steps = Steps::<L>::make(blank);
     let world = world_of(alloc, beginning, &mut steps)?;
     let last = Kept::make(alloc, &world)?;
-    let mut hunt = hunt_of(alloc, world, schedule)?;
-    let desk = desk_of(alloc, beginning, schedule, &mut steps)?;
+    let searchers = searchers_of(schedule.workers, beginning.inst.machines());
+    let mut hunt = hunt_of(alloc, world, schedule, searchers)?;
+    let threads = helpers_of(rt, searchers as usize) + 1;
+    let desk = desk_of(
+        alloc,
+        beginning,
+        schedule.seed,
+        searchers,
+        threads,
+        &mut steps,
+    )?;
     run(rt, &desk, &mut hunt);
     drop(desk);
     Ok(hunt.ended(last, &mut steps))
@@ -114,13 +129,18 @@ fn world_of<'a, L: Ledger>(
 }
 
 /// The search of a schedule from a world, before its first try.
-fn hunt_of<'a>(alloc: Global, world: World<'a>, schedule: &Schedule) -> Result<Hunt<'a>, NoMemory>
+fn hunt_of<'a>(
+    alloc: Global,
+    world: World<'a>,
+    schedule: &Schedule,
+    searchers: u32,
+) -> Result<Hunt<'a>, NoMemory>
     ensures world { IfOk result (λ hunt. hunt.lead.world ≡ world.entry) }
     ensures best { IfOk result (λ hunt. hunt.best.parts ≡ parts_at world.entry) }
 {
     let processes = u64::from(world.instance().processes());
     let best = Kept::make(alloc, &world)?;
-    let room = if schedule.workers > 1 {
+    let room = if searchers > 0 {
         MADE * MOST_WORKERS
     } else {
         0
@@ -137,37 +157,47 @@ fn hunt_of<'a>(alloc: Global, world: World<'a>, schedule: &Schedule) -> Result<H
     })
 }
 
-/// A desk with a searcher for each worker, if there are several.
+/// How many searchers so many workers have for their moves to be taken by the lead: none if there's one worker.
+fn searchers_of(workers: u32, machines: u32) -> u32 {
+    if workers > 1 {
+        workers.min((machines / MACHINES_EACH).max(FEW_SEARCHERS))
+    } else {
+        0
+    }
+}
+
+/// A desk with so many searchers.
 fn desk_of<'a, L: Ledger>(
     alloc: Global,
     beginning: &Beginning<'a>,
-    schedule: &Schedule,
+    seed: u64,
+    searchers: u32,
+    threads: usize,
     steps: &mut Steps<L>,
 ) -> Result<Desk<'a>, NoMemory> {
-    let workers = if schedule.workers > 1 {
-        schedule.workers
+    let room = if searchers > 0 {
+        MADE * MOST_WORKERS
     } else {
         0
     };
-    let room = if workers > 0 { MADE * MOST_WORKERS } else { 0 };
-    let mut seats = Vec::with_capacity(alloc, workers as usize)?;
-    for k in 0..workers {
+    let mut seats = Vec::with_capacity(alloc, searchers as usize)?;
+    for k in 0..searchers {
         let world = world_of(alloc, beginning, steps)?;
-        let seed = schedule.seed.wrapping_add(u64::from(k) + 1);
-        seats.push(Mutex::new(Searcher::make(alloc, world, seed, MADE)?))?;
+        let words = seed.wrapping_add(u64::from(k) + 1);
+        seats.push(Seat::make(Searcher::make(alloc, world, words, MADE)?))?;
     }
     let order = Order {
         task: Task::Stop,
         taken: Fixed::make(alloc, room)?,
     };
-    Ok(Desk::make(seats, order))
+    Ok(Desk::make(seats, order, threads))
 }
 
 /// Runs a search, with threads that help if there are searchers at the desk.
 fn run<'a, R: Threads + Wait + Sync>(rt: &R, desk: &Desk<'a>, hunt: &mut Hunt<'a>)
     ensures { HasHunted hunt.old hunt.new }
 {
-    let helpers = helpers_of(rt, desk.seats.len());
+    let helpers = desk.threads.saturating_sub(1);
     if helpers == 0 {
         run_alone(rt, desk, hunt);
         return;
@@ -204,25 +234,25 @@ fn attend_all<'a, R: Threads + Wait + Sync>(rt: &R, desk: &Desk<'a>, helpers: us
         rt,
         some,
         MOST_WORKERS,
-        &|_, _| {
-            attend(rt, desk);
+        &|k, _| {
+            attend(rt, desk, k.wrapping_add(1));
         },
     );
 }
 
 /// Helps at a desk.
-fn attend<'a, R: Wait>(rt: &R, desk: &Desk<'a>) {
-    attend_counted::<R, Brand>(rt, desk, Blank::new(1));
+fn attend<'a, R: Wait>(rt: &R, desk: &Desk<'a>, thread: usize) {
+    attend_counted::<R, Brand>(rt, desk, thread, Blank::new(1));
 }
 
 /// Helps at a desk with a counter of what is read.
-fn attend_counted<'a, R: Wait, L: Ledger>(rt: &R, desk: &Desk<'a>, blank: Blank)
+fn attend_counted<'a, R: Wait, L: Ledger>(rt: &R, desk: &Desk<'a>, thread: usize, blank: Blank)
     requires name { blank.name ≡ L.name }
     requires parts { blank.parts ≡ L.parts }
     requires some { 0 < blank.parts }
 {
     let mut steps = Steps::<L>::make(blank);
-    desk.attend(rt, &mut steps);
+    desk.attend(rt, thread, &mut steps);
 }
 
 /// How many threads help: one less than there are processors, and than there are searchers.
