@@ -169,8 +169,7 @@ class Others(ToolCase):
 
     def test_look(self):
         self.expect_line(2, None, os.path.join(ROOT, "tools", "look"))
-        ran = run("/bin/sh", os.path.join(ROOT, "tools", "look"), "bound", SAMPLE[0], env={"PATH": "/usr/bin:/bin"})
-        self.assertEqual((ran.returncode, len(ran.stderr.splitlines())), (1, 1))
+        self.expect_line(2, None, os.path.join(ROOT, "tools", "look"), "anneal")
 
     def test_bench(self):
         maker = os.path.join(ROOT, "bench", "make_instance.py")

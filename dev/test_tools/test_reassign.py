@@ -249,6 +249,10 @@ class Look(Repository):
         self.put("crates/below/proofs/Lib.antt", "another proof")
         self.expect_look("two", 1)
 
+    def test_no_kit(self):
+        ran = self.look("x", path="/usr/bin:/bin")
+        self.assertEqual((ran.returncode, ran.stdout, len(ran.stderr.splitlines())), (1, "", 1), ran.stderr)
+
     def test_another_kit(self):
         """If the kit isn't as expected its `rt try` runs the program."""
         for name in ("bin/rtlib.py", "toolchain/bin/clang", "bin/rattle-link"):
