@@ -23,11 +23,13 @@ def project():
 
 def sources():
     """The files of the package, with their texts."""
-    found = [os.path.relpath(os.path.join(at, name), HERE) for at, _, names in os.walk(os.path.join(HERE, PACKAGE)) for name in names]
+    walked = os.walk(os.path.join(HERE, PACKAGE))
+    found = [os.path.relpath(os.path.join(at, name), HERE) for at, _, names in walked for name in names]
     for name in sorted(found):
         if name.endswith((".py", "py.typed")):
             with open(os.path.join(HERE, name), "rb") as file:
                 yield name, file.read()
+    yield f"{PACKAGE}/VERSION", f"{__version__}\n".encode()
 
 
 def information(folder):
@@ -36,7 +38,8 @@ def information(folder):
     metadata = (f"Metadata-Version: 2.1\nName: {about['name']}\nVersion: {__version__}\nSummary: {about['description']}\n"
                 f"Requires-Python: {about['requires-python']}\nLicense: {about['license']['text']}\n")
     yield f"{folder}/METADATA", metadata.encode()
-    yield f"{folder}/WHEEL", f"Wheel-Version: 1.0\nGenerator: {os.path.basename(__file__)}\nRoot-Is-Purelib: true\nTag: py3-none-any\n".encode()
+    wheel = f"Wheel-Version: 1.0\nGenerator: {os.path.basename(__file__)}\nRoot-Is-Purelib: true\nTag: py3-none-any\n"
+    yield f"{folder}/WHEEL", wheel.encode()
     scripts = "".join(f"reassign-{tool} = {PACKAGE}.{tool}:main\n" for tool in TOOLS)
     yield f"{folder}/entry_points.txt", f"[console_scripts]\n{scripts}".encode()
 

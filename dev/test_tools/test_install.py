@@ -32,8 +32,9 @@ class Install(ToolCase):
         self.assertRegex(version, r"^\d+\.\d+\.\d+$")
         self.assertIn(f"version {version}", text_in("README.md"))
         self.assertIn(f".Os reassign {version}\n", text_in("docs/reassign.1"))
-        self.assertIn(f'__version__ = "{version}"\n', text_in("python/reassign_tools/__init__.py"))
         self.assertIn(f".Os reassign {version}\n", text_in("docs/anneal.1"))
+        told = run(sys.executable, "-c", "import reassign_tools; print(reassign_tools.__version__)", cwd=f"{ROOT}/python")
+        self.assertEqual(told.stdout, f"{version}\n")
         self.assertIn(f'const VERSION: &str = "anneal {version}\\n";\n', text_in("crates/ra_anneal/src/telling.rt"))
         versions = re.findall(r"^## \[(\d.*?)\]", text_in("CHANGELOG.md"), re.M)
         self.assertEqual(versions[0], version)
@@ -196,8 +197,7 @@ class Others(ToolCase):
 
     def test_look(self):
         self.expect_line(2, None, os.path.join(ROOT, "tools", "look"))
-        ran = run("/bin/sh", os.path.join(ROOT, "tools", "look"), "bound", SAMPLE[0], env={"PATH": "/usr/bin:/bin"})
-        self.assertEqual((ran.returncode, len(ran.stderr.splitlines())), (1, 1))
+        self.expect_line(2, None, os.path.join(ROOT, "tools", "look"), "anneal")
 
     def test_bench(self):
         maker = os.path.join(ROOT, "bench", "make_instance.py")
@@ -208,11 +208,11 @@ class Others(ToolCase):
         for words in ([], ["x"], ["x", "60x60x60", "1"], ["x", "50x1000x3", "y"], ["-x", "50x1000x3", "1"]):
             self.expect_line(2, None, shapes, *words)
         self.expect_line(1, None, shapes, "/dev/null/x", "50x1000x3", "1")
-        for script in ("judge_report", "compare", "compare_anneal", "judge_list", "make_pinned"):
+        for script in ("judge_report", "compare", "compare_anneal", "judge_list", "make_pinned", "make_busy"):
             self.expect_line(2, None, sys.executable, os.path.join(ROOT, "bench", f"{script}.py"))
         for words in (["--x"], ["a", "b"], ["--rounds", "x"]):
             self.expect_line(2, None, os.path.join(ROOT, "bench", "run"), *words)
-        for name, usage in (("run", "[--rounds N]"), ("search", "[NAME ..]")):
+        for name, usage in (("run", "[--write] [--rounds N]"), ("search", "[NAME ..]")):
             for word in ("--help", "-h"):
                 ran = run(os.path.join(ROOT, "bench", name), word)
                 self.assertEqual((ran.returncode, ran.stderr), (0, ""))

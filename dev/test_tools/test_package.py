@@ -144,7 +144,7 @@ class Wheel(ToolCase):
         self.assertEqual(ran.returncode, 0, ran.stderr)
         for tool in tools_here():
             ran = run(sys.executable, f"site/bin/reassign-{tool}", "--version", env={**os.environ, "PYTHONPATH": "site"})
-            self.assertEqual((ran.returncode, ran.stdout.split()[0]), (0, f"reassign-{tool}"), ran.stderr)
+            self.assertEqual((ran.returncode, ran.stdout), (0, f"reassign-{tool} {text_of(f'{ROOT}/VERSION')}"), ran.stderr)
 
 
 def tools_here():

@@ -16,13 +16,15 @@ esac
 """
 
 
-class Reassign(ToolCase):
+class Repository(ToolCase):
+    """A small repository, and a kit that proves nothing."""
+
     def setUp(self):
         self.place = os.path.abspath(f"repository {self.id().rpartition('.')[2]}")
-        for name in ("dev", "examples/sample", "crates/reassign/src", "crates/below/src", "crates/below/specs",
+        for name in ("dev", "tools", "examples/sample", "crates/reassign/src", "crates/below/src", "crates/below/specs",
                      "crates/below/proofs", "crates/test_other/src", "kit/bin"):
             os.makedirs(f"{self.place}/{name}")
-        for name in ("reassign", "dev/make_program", "VERSION"):
+        for name in ("reassign", "dev/make_program", "dev/unproved.py", "dev/is_untouched", "VERSION", "tools/look"):
             shutil.copy(f"{ROOT}/{name}", f"{self.place}/{name}")
         self.put("crates.txt", "below: core\nreassign: below\ntest_other: below\n")
         self.put("crates/reassign/src/main.rt", "main")
@@ -51,8 +53,8 @@ class Reassign(ToolCase):
         """A call that has to make the program, of this source."""
         ran = self.call("x")
         self.assertEqual((ran.returncode, ran.stdout), (0, f"{source} x\n"), ran.stderr)
-        self.assertEqual(ran.stderr.count("proved "), 3, ran.stderr)
-        self.assertRegex(ran.stderr.splitlines()[0], "ten to twenty-five minutes.*`tools/look WORD ..`")
+        self.assertEqual(ran.stderr.count(" proved "), 2, ran.stderr)
+        self.assertRegex(ran.stderr.splitlines()[0], "compiles reassign, 2 crates.* minutes by .*`tools/look WORD ..`")
         self.expect_there(source)
 
     def expect_there(self, source):
@@ -68,6 +70,8 @@ class Reassign(ToolCase):
         """Waits until what was written before is older than what is written now by more than a tick of the file system."""
         run("sleep", "0.1")
 
+
+class Reassign(Repository):
     def test_changed(self):
         self.expect_made("one")
         self.put("crates/below/src/lib.rt", "two")
@@ -179,3 +183,89 @@ class Reassign(ToolCase):
                 self.assertTrue(re.search(f"^  {command} [A-Z].*  [a-z].*", ran.stdout, re.M), ran.stdout)
             self.assertIn("docs/GUIDE.md", ran.stdout)
         self.assertFalse(os.path.exists(f"{self.place}/crates/reassign/out"))
+
+
+# These stand for the kit's `rt try`, whose compiler gets the source of the crate below as a module, for the compiler
+# itself, which copies what it gets, and for the linker.
+TRY = """#!/bin/sh
+cat ../below/src/lib.rt >module.bc
+"${0%/*}/../toolchain/bin/clang" -fsanitize=address module.bc -o program
+ended=$?
+rm module.bc
+exit $ended
+"""
+COMPILER = """#!/bin/sh
+for word; do
+    case $last in -o) out=$word ;; esac
+    case $word in module.bc | plain.ll) from=$word ;; esac
+    last=$word
+done
+cat "$from" >"$out"
+"""
+RT = """#!/bin/sh
+case $1 in
+    doc) echo "${0%/*}/doc" ;;
+    *) echo "slow $*" ;;
+esac
+"""
+LINKER = """#!/bin/sh
+printf '#!/bin/sh\\necho %s in $PWD: "$@"\\n' "$(cat plain.o)" >program
+chmod 755 program
+"""
+
+
+class Look(Repository):
+    """tools/look: an unproved program is made once for the same sources."""
+
+    def setUp(self):
+        super().setUp()
+        for name in ("kit/toolchain/bin", "kit/c"):
+            os.makedirs(f"{self.place}/{name}")
+        self.put("kit/bin/rtlib.py", "")
+        for name, text in (("kit/bin/rt", TRY), ("kit/toolchain/bin/clang", COMPILER), ("kit/bin/rattle-link", LINKER),
+                           ("kit/rt", RT)):
+            self.put(name, text)
+            os.chmod(f"{self.place}/{name}", 0o755)
+
+    def look(self, *words, path=None):
+        return self.call(*words, path=path, command=f"{self.place}/tools/look")
+
+    def expect_look(self, source, lines):
+        """A look that prints this source, and says so many lines."""
+        ran = self.look("x")
+        self.assertEqual((ran.returncode, ran.stdout), (0, f"{source} in {os.getcwd()}: x\n"), ran.stderr)
+        self.assertEqual(len(ran.stderr.splitlines()), lines, ran.stderr)
+        self.assertIn("look: unproved", ran.stderr.splitlines()[-1])
+
+    def test_look(self):
+        self.expect_look("one", 2)
+        self.expect_look("one", 1)
+        self.wait()
+        self.look("x")
+        self.put("crates/below/src/lib.rt", "two")
+        self.expect_look("two", 2)
+        self.expect_look("two", 1)
+        self.assertFalse(os.path.exists(f"{self.place}/crates/reassign/out"))
+        self.put("crates/below/proofs/Lib.antt", "another proof")
+        self.expect_look("two", 1)
+
+    def test_no_kit(self):
+        ran = self.look("x", path="/usr/bin:/bin")
+        self.assertEqual((ran.returncode, ran.stdout, len(ran.stderr.splitlines())), (1, "", 1), ran.stderr)
+
+    def test_another_kit(self):
+        """If the kit isn't as expected its `rt try` runs the program."""
+        for name in ("bin/rtlib.py", "toolchain/bin/clang", "bin/rattle-link"):
+            with self.subTest(name):
+                os.rename(f"{self.place}/kit/{name}", f"{self.place}/kit/away")
+                ran = self.look("check", "VERSION")
+                self.assertEqual(ran.stdout, "slow try --seconds 3600 -- check VERSION\n", ran.stderr)
+                self.assertIn("`rt try`; ./reassign runs the proved program", ran.stderr.splitlines()[-1])
+                os.rename(f"{self.place}/kit/away", f"{self.place}/kit/{name}")
+
+    def test_by_rt_try(self):
+        """Files are handed to `rt try` by their absolute names."""
+        os.remove(f"{self.place}/kit/bin/rtlib.py")
+        put("m", "")
+        ran = self.look("check", "m", "n", "--x")
+        self.assertEqual(ran.stdout, f"slow try --seconds 3600 -- check {os.path.abspath('m')} n --x\n")

@@ -8,7 +8,18 @@ Whatever can't be done raises Problem, with a line that says why and the status 
 can't be one is a TypeError or a ValueError, which names it.
 """
 
-__version__ = "1.0.0"
+import os
+
+
+def _version():
+    """The number in the file VERSION, which stands in the package in a wheel, and else where python/ stands."""
+    here = os.path.dirname(os.path.realpath(__file__))
+    beside = os.path.join(here, "VERSION")
+    with open(beside if os.path.exists(beside) else os.path.join(here, "..", "..", "VERSION"), encoding="ascii") as file:
+        return file.read().strip()
+
+
+__version__ = _version()
 
 from .calls import Bound, Repaired, Solved, bound, check, moves, plot, race, repair, rounds, solve, summary, verify
 from .fleets.fleet import Fleet

@@ -41,8 +41,7 @@ pub fn is_feasible(inst: &Instance, ground: &Ground, initial: &[u32], list: &[u3
     let labels = |label: &dyn Fn(usize) -> u16| {
         let key = |&p: &u32| (inst.service_of[p as usize], label(list[p as usize] as usize));
         let mut keys: Vec<(u32, u16)> = ground.members.all().iter().map(key).collect();
-        let services = ground.services.iter();
-        services.for_each(|service| keys[service.first as usize..][..service.size as usize].sort_unstable());
+        ground.services.iter().for_each(|service| keys[service.slots()].sort_unstable());
         keys.dedup();
         keys
     };

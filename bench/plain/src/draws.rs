@@ -46,35 +46,28 @@ pub struct Lots {
 impl Lots {
     /// By how much proposal k of a budget may raise the cost.
     pub fn allowance(&self, budget: u64, k: u64) -> u64 {
-        match self.slack.checked_mul(budget - 1 - k) {
-            Some(0) => 0,
-            Some(product) => product / budget,
-            None => (u128::from(self.slack) * u128::from(budget - 1 - k) / u128::from(budget)) as u64,
-        }
+        let long = || (u128::from(self.slack) * u128::from(budget - 1 - k) / u128::from(budget)) as u64;
+        let product = self.slack.checked_mul(budget - 1 - k);
+        product.map_or_else(long, |product| if product == 0 { 0 } else { product / budget })
     }
 }
 
 /// The words of one proposal after another; zeros if there are no more.
-pub enum Draws<'l> {
-    Seeded(Stream),
-    Written(&'l [u64]),
-}
+pub struct Draws<'l>(Stream, Option<&'l [u64]>);
 
 impl<'l> Draws<'l> {
     pub fn new(lot: &'l Lot) -> Draws<'l> {
         match lot {
-            Lot::Seeded(seed, _) => Draws::Seeded(Stream::new(*seed)),
-            Lot::Written(words) => Draws::Written(words),
+            Lot::Seeded(seed, _) => Draws(Stream::new(*seed), None),
+            Lot::Written(words) => Draws(Stream::new(0), Some(words)),
         }
     }
     pub fn next(&mut self, to: &mut [u64; 8]) {
-        match self {
-            Draws::Seeded(stream) => to.iter_mut().for_each(|word| *word = stream.next()),
-            Draws::Written(words) => {
-                let (eight, rest) = words.split_first_chunk().unwrap_or((&[0; 8], &[]));
-                (*to, *words) = (*eight, rest);
-            }
-        }
+        let Some(words) = &mut self.1 else {
+            return to.iter_mut().for_each(|word| *word = self.0.next());
+        };
+        let (eight, rest) = words.split_first_chunk().unwrap_or((&[0; 8], &[]));
+        (*to, *words) = (*eight, rest);
     }
 }
 

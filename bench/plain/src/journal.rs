@@ -4,13 +4,13 @@ use crate::draws::{Draws, Lot, Lots};
 use crate::instance::{Ground, Instance};
 use crate::lanes::fetch;
 use crate::lines::Text;
-use crate::moves::{Greatest, Money, Move, Plan, Verdict};
+use crate::moves::{Greatest, Move, Plan, Verdict};
 use crate::state::State;
-use std::io::{self, Write};
+use std::io::{self, BufWriter, Write};
 use std::sync::{Mutex, MutexGuard};
 
 /// The numbers of a journal, which has so many entries. Their lines are with the workers.
-struct Journal<'a, M> {
+struct Journal<'a> {
     inst: &'a Instance,
     ground: &'a Ground,
     place: u32,
@@ -20,8 +20,8 @@ struct Journal<'a, M> {
     versions: Vec<u32>,
     newest: u32,
     greatest: Greatest,
-    cost: M,
-    least: M,
+    cost: i128,
+    least: i128,
     best_at: u32,
 }
 
@@ -34,7 +34,7 @@ pub struct Run {
     lines: Vec<(Text, Vec<(u32, u32)>)>,
 }
 
-impl<M: Money> Journal<'_, M> {
+impl Journal<'_> {
     fn is_stale(&self, taken: &Move, planned: u32) -> bool {
         let (machines, services) = self.versions.split_at(self.inst.machines);
         taken.steps().iter().any(|step| {
@@ -47,17 +47,16 @@ impl<M: Money> Journal<'_, M> {
         })
     }
     /// Adds the entry of a plan whose guards are untouched.
-    #[inline(always)]
-    fn record(&mut self, plan: &Plan<M>, allowed: u64) -> Verdict<M> {
+    fn record(&mut self, plan: &Plan, allowed: u64) -> Verdict {
         self.place += 1;
         let change = match &plan.weighed {
             Err(cause) => return Verdict::Broken(*cause),
             Ok(change) => change,
         };
         let growth = i128::from(self.greatest.growth(change.moved())) * i128::from(self.inst.weights[1]);
-        let rise = change.local + M::of(growth);
+        let rise = change.local + growth;
         let after = self.cost + rise;
-        if rise > M::of(allowed.into()) {
+        if rise > allowed.into() {
             return Verdict::Rise(self.cost, after, allowed);
         }
         for step in plan.taken.steps() {
@@ -76,41 +75,34 @@ impl<M: Money> Journal<'_, M> {
 }
 
 /// The words of one proposal after another, of which the memory is asked for one proposal ahead.
-struct Ahead<'l> {
-    draws: Draws<'l>,
-    words: [[u64; 8]; 2],
-    k: usize,
-}
+struct Ahead<'l>(Draws<'l>, [u64; 8]);
 
 impl<'l> Ahead<'l> {
     fn new(lot: &'l Lot) -> Ahead<'l> {
-        let mut ahead = Ahead { draws: Draws::new(lot), words: [[0; 8]; 2], k: 0 };
-        ahead.draws.next(&mut ahead.words[0]);
-        ahead
+        let (mut draws, mut first) = (Draws::new(lot), [0; 8]);
+        draws.next(&mut first);
+        Ahead(draws, first)
     }
-    #[inline(always)]
-    fn next<M: Money, const Q: usize>(&mut self, state: &State<'_, M, Q>) -> &[u64; 8] {
-        self.k ^= 1;
-        let next = &mut self.words[self.k];
-        self.draws.next(next);
-        let p = state.by_process.of(next[1]);
+    fn next<const Q: usize>(&mut self, state: &State<'_, Q>) -> [u64; 8] {
+        let words = self.1;
+        self.0.next(&mut self.1);
+        let p = state.by_process.of(self.1[1]);
         fetch(&state.inst.requirement, p * Q);
-        let home = state.ground.processes[p].home as usize;
-        let (place, ways) = state.inst.window(home, state.by_machine.of(next[2]));
+        let (place, ways) = state.inst.window(state.ground.processes[p].home as usize, state.by_machine.of(self.1[2]));
         (0..4).for_each(|line| fetch(ways, place + 32 * line));
-        &self.words[self.k ^ 1]
+        words
     }
 }
 
 /// A run of one worker.
-fn alone<M: Money, const Q: usize>(mut state: State<'_, M, Q>, journal: &mut Journal<'_, M>, lots: &Lots) -> Text {
+fn alone<const Q: usize>(mut state: State<'_, Q>, journal: &mut Journal<'_>, lots: &Lots) -> Text {
     let lot = &lots.all[0];
     let (budget, mut ahead) = (lot.budget(), Ahead::new(lot));
     let mut text = Text(Vec::with_capacity(budget as usize * 88));
     for k in 0..budget {
         let words = ahead.next(&state);
         let allowed = lots.allowance(budget, k);
-        let plan = state.plan(words, lots.is_first_drawing, M::of(allowed.into()));
+        let plan = state.plan(&words, lots.is_first_drawing, allowed.into());
         let verdict = journal.record(&plan, allowed);
         text.entry(k as u32, [0, k as u32, k as u32], &plan.taken, &verdict);
         if let Verdict::Done(_) = verdict {
@@ -134,12 +126,8 @@ fn turn<T>(shared: &Mutex<T>) -> MutexGuard<'_, T> {
 
 /// One of several workers. It plans some proposals at one state, the last of which alone may be done there, and hands them
 /// in in one turn. If nothing was done meanwhile the state is the same at each place where one is recorded.
-fn work<M: Money, const Q: usize>(
-    number: usize,
-    mut state: State<'_, M, Q>,
-    shared: &Mutex<Journal<'_, M>>,
-    lots: &Lots,
-    most: usize,
+fn work<const Q: usize>(
+    number: usize, mut state: State<'_, Q>, shared: &Mutex<Journal<'_>>, lots: &Lots, most: usize,
 ) -> (Text, Vec<(u32, u32)>) {
     let lot = &lots.all[number];
     let (budget, mut ahead) = (lot.budget(), Ahead::new(lot));
@@ -150,10 +138,10 @@ fn work<M: Money, const Q: usize>(
         plans.clear();
         while plans.len() < size && k + (plans.len() as u64) < budget {
             if words.len() == plans.len() {
-                words.push(*ahead.next(&state));
+                words.push(ahead.next(&state));
             }
             let allowed = lots.allowance(budget, k + plans.len() as u64);
-            plans.push((state.plan(&words[plans.len()], lots.is_first_drawing, M::of(allowed.into())), allowed));
+            plans.push((state.plan(&words[plans.len()], lots.is_first_drawing, allowed.into()), allowed));
             if plans.last().is_some_and(|(plan, _)| plan.is_done) {
                 break;
             }
@@ -187,19 +175,14 @@ fn work<M: Money, const Q: usize>(
 }
 
 /// A run from a feasible list of this cost. A worker of several hands in at most so many plans in one turn.
-pub fn run<M: Money, const Q: usize>(
-    inst: &Instance,
-    ground: &Ground,
-    initial: &[u32],
-    lots: &Lots,
-    cost: u128,
-    most: usize,
+pub fn run<const Q: usize>(
+    inst: &Instance, ground: &Ground, initial: &[u32], lots: &Lots, cost: u128, most: usize,
 ) -> Run {
-    let (versions, cost) = (vec![0; inst.machines + inst.services], M::of(cost as i128));
+    let (versions, cost) = (vec![0; inst.machines + inst.services], cost as i128);
     let greatest = Greatest::new(inst.services, inst.processes);
     let (place, done, newest, least, best_at) = (0, vec![], 0, cost, 0);
     let mut journal = Journal { inst, ground, place, done, versions, newest, greatest, cost, least, best_at };
-    let state = || State::<M, Q>::new(inst, ground, initial);
+    let state = || State::<Q>::new(inst, ground, initial);
     let lines = if lots.all.len() == 1 {
         vec![(alone(state(), &mut journal, lots), vec![])]
     } else {
@@ -225,22 +208,15 @@ impl Run {
         if let [(text, _)] = &self.lines[..] {
             return to.write_all(&text.0);
         }
-        let mut owner = vec![0; self.entries as usize];
-        for (number, (_, lines)) in self.lines.iter().enumerate() {
-            lines.iter().for_each(|&(place, _)| owner[place as usize] = number);
-        }
-        let mut rests: Vec<_> = self.lines.iter().map(|(text, lines)| (&text.0[..], lines.iter())).collect();
-        let mut piece = Vec::with_capacity(1 << 17);
-        for number in owner {
-            let (text, lines) = &mut rests[number];
-            let (line, rest) = text.split_at(lines.next().expect("a line").1 as usize);
-            piece.extend_from_slice(line);
-            *text = rest;
-            if piece.len() >= 1 << 16 {
-                to.write_all(&piece)?;
-                piece.clear();
+        let mut all = vec![&[][..]; self.entries as usize];
+        for (text, lines) in &self.lines {
+            let mut rest = &text.0[..];
+            for &(place, length) in lines {
+                (all[place as usize], rest) = rest.split_at(length as usize);
             }
         }
-        to.write_all(&piece)
+        let mut out = BufWriter::with_capacity(1 << 16, to);
+        all.iter().try_for_each(|line| out.write_all(line))?;
+        out.flush()
     }
 }

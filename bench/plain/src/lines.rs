@@ -1,6 +1,6 @@
 //! Lines that are printed.
 
-use crate::moves::{Cause, Money, Move, Verdict};
+use crate::moves::{Cause::*, Move, Verdict, Verdict::*};
 use std::io::Write;
 
 /// Four digits for each number below 10,000.
@@ -60,47 +60,22 @@ impl Pen {
             self.huge(n.into());
         }
     }
-    fn cost<M: Money>(&mut self, cost: M) {
-        match u64::try_from(cost.wide()) {
-            Ok(cost) => self.long(cost),
-            Err(_) => self.huge(cost.wide()),
-        }
-    }
     #[cold]
     fn huge(&mut self, n: i128) {
         n.to_string().bytes().for_each(|byte| self.word(&[byte]));
     }
     /// A word and numbers, with a space before each.
-    fn told<const N: usize, const K: usize>(&mut self, word: &[u8; N], numbers: [u32; K]) {
+    fn told<const N: usize, const K: usize>(&mut self, word: &[u8; N], numbers: [i128; K]) {
         self.word(word);
         for n in numbers {
             self.word(b" ");
-            self.long(n.into());
+            if n >> 64 == 0 { self.long(n as u64) } else { self.huge(n) }
         }
     }
-    fn cause(&mut self, cause: &Cause) {
-        match *cause {
-            Cause::Over(is_transient, machine, resource, used, capacity) => {
-                match is_transient {
-                    true => self.told(b"transient", [machine, resource]),
-                    false => self.told(b"capacity", [machine, resource]),
-                }
-                self.word(b" ");
-                self.long(used);
-                self.told(b"", [capacity]);
-            }
-            Cause::Dependency(service, need, hood) => self.told(b"dependency", [service, need, hood]),
-            Cause::Spread(service, has, wants) => self.told(b"spread", [service, has, wants]),
-            Cause::Conflict(service, machine) => self.told(b"conflict", [service, machine]),
-            Cause::Closed(process, machine) => self.told(b"closed", [process, machine]),
-            Cause::Repeat(process) => self.told(b"repeat", [process]),
-            Cause::Same(process) => self.told(b"same", [process]),
-        }
-    }
-    fn entry<M: Money>(&mut self, taken: &Move, verdict: &Verdict<M>) {
-        match taken.steps().len() {
-            1 => self.word(b" shift "),
-            2 => self.word(b" swap "),
+    fn entry(&mut self, taken: &Move, verdict: &Verdict) {
+        match taken.steps() {
+            [_] => self.word(b" shift "),
+            [_, _] => self.word(b" swap "),
             _ => self.word(b" chain "),
         }
         for step in taken.steps() {
@@ -111,23 +86,23 @@ impl Pen {
             self.small(step.to);
             self.word(b" ");
         }
-        match verdict {
-            Verdict::Done(cost) => {
-                self.word(b"done ");
-                self.cost(*cost);
+        match *verdict {
+            Done(cost) => self.told(b"done", [cost]),
+            Rise(before, after, allowed) => self.told(b"refused rise", [before, after, allowed.into()]),
+            Broken(Over(is_transient, machine, resource, used, capacity)) => {
+                let numbers = [machine.into(), resource.into(), used.into(), capacity.into()];
+                if is_transient {
+                    self.told(b"refused transient", numbers)
+                } else {
+                    self.told(b"refused capacity", numbers)
+                }
             }
-            Verdict::Broken(cause) => {
-                self.word(b"refused ");
-                self.cause(cause);
-            }
-            Verdict::Rise(before, after, allowed) => {
-                self.word(b"refused rise ");
-                self.cost(*before);
-                self.word(b" ");
-                self.cost(*after);
-                self.word(b" ");
-                self.long(*allowed);
-            }
+            Broken(Dependency(s, need, hood)) => self.told(b"refused dependency", [s, need, hood].map(i128::from)),
+            Broken(Spread(s, has, wants)) => self.told(b"refused spread", [s, has, wants].map(i128::from)),
+            Broken(Conflict(s, machine)) => self.told(b"refused conflict", [s, machine].map(i128::from)),
+            Broken(Closed(p, machine)) => self.told(b"refused closed", [p, machine].map(i128::from)),
+            Broken(Repeat(p)) => self.told(b"refused repeat", [p.into()]),
+            Broken(Same(p)) => self.told(b"refused same", [p.into()]),
         }
         self.word(b"\n");
     }
@@ -151,19 +126,13 @@ impl Text {
         }
     }
     /// The line of an entry with its place, worker, number and the place of its plan. Gives the number of its bytes.
-    pub fn entry<M: Money>(
-        &mut self,
-        place: u32,
-        [worker, k, at]: [u32; 3],
-        taken: &Move,
-        verdict: &Verdict<M>,
-    ) -> usize {
+    pub fn entry(&mut self, place: u32, [worker, k, at]: [u32; 3], taken: &Move, verdict: &Verdict) -> usize {
         self.line(|pen| {
             let start = pen.0;
             pen.long(place.into());
             // SAFETY: there is room for LINE bytes, and a place has no more than eight.
             let (digits, length) = unsafe { (*start.cast::<[u8; 8]>(), pen.0.offset_from(start) as usize) };
-            pen.told(b"", [worker]);
+            pen.told(b"", [worker.into()]);
             for n in [k, at] {
                 pen.word(b" ");
                 if n == place { pen.write(digits, length) } else { pen.long(n.into()) }
@@ -183,7 +152,7 @@ impl Text {
     pub fn list(&mut self, list: &[u32]) {
         self.0.extend_from_slice(b"assignment");
         for &m in list {
-            self.line(|pen| pen.told(b"", [m]));
+            self.line(|pen| pen.told(b"", [m.into()]));
         }
         self.0.push(b'\n');
     }

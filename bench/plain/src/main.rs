@@ -1,15 +1,13 @@
 //! The work of `reassign` in plain Rust, without a proof: a mark for its speed, and a third opinion on its bytes.
 //!
-//! It does `check`, `bound`, `solve` and `trial` with the command words of docs/FORMATS.md, and prints the same bytes for
-//! input that is accepted. Of a refusal it has the status alone. With several lots the order of the entries depends on which
-//! worker comes first, as there; each report is that of a legal whole journal.
-//!
-//! Workers hand in up to 32 plans in one turn; with the first word `--each` they hand in one, as those of `reassign` do.
+//! It does `check`, `bound`, `solve` and `trial` with the words of docs/FORMATS.md, and prints the same bytes for input that is
+//! accepted. Of a refusal it has the status alone: 2 of the words, 3 of reading, 4 of the model, 5 of a list, 6 of a list that
+//! breaks a rule, 7 of writing, and 10 of the closed list. Of several workers each hands in up to 32 plans in one turn; with the
+//! first word `--each` it hands in one. Their report is that of one legal whole journal, of which there are many.
 //!
 //! It is written to be quick. A window of machines is filtered by numbers of 16 bits that are never above the true costs
-//! (plans.rs), a table finds the numbers in sixteen bytes at once (numbers.rs), costs are numbers of 64 bits if all fit
-//! (moves.rs), and a line is written as soon as its verdict is known (lines.rs). It is compiled for the same processors as the
-//! proved program, x86-64-v2 (.cargo/config.toml, so call cargo in this folder).
+//! (plans.rs), a table finds the numbers in sixteen bytes at once (numbers.rs), and a line is written as soon as its verdict is
+//! known (lines.rs). It is compiled for the processors of the proved program, x86-64-v2 (.cargo/config.toml).
 #![deny(warnings)]
 
 #[cfg(not(all(target_feature = "sse4.1", target_feature = "popcnt")))]
@@ -37,8 +35,6 @@ use crate::numbers::{Numbers, Patterns};
 use crate::words::{Job, job_of};
 use std::{fs::File, io::Write, os::fd::AsFd, process::exit};
 
-// A refusal is its status: 2 of the words, 3 of reading, 4 of the model, 5 of a list, 6 of a list that breaks a rule, 7 of
-// writing, and 10 of the closed list.
 fn model_of(name: &str, closed: &Option<String>, patterns: &mut Patterns) -> Result<Instance, i32> {
     let mut inst = Instance::read(&mut Numbers::open(name, 4, patterns)?)?;
     if let Some(closed) = closed {
@@ -52,23 +48,17 @@ fn list_of(name: &str, inst: &Instance, patterns: &mut Patterns) -> Result<Vec<u
 }
 
 /// The run of a job from a feasible start, and the head of its text.
-fn solved(inst: &Instance, ground: &Ground, initial: &[u32], lots: &Lots, most: usize) -> (Run, Text) {
-    let by = match (state::is_narrow(inst), inst.quads) {
-        (true, 1) => run::<i64, 1>,
-        (true, 2) => run::<i64, 2>,
-        (true, 3) => run::<i64, 3>,
-        (true, _) => run::<i64, 5>,
-        (false, 1) => run::<i128, 1>,
-        (false, 2) => run::<i128, 2>,
-        (false, 3) => run::<i128, 3>,
-        (false, _) => run::<i128, 5>,
-    };
-    let run = by(inst, ground, initial, lots, parts_of(inst, initial, initial).iter().sum(), most);
+fn solved(inst: &Instance, initial: &[u32], lots: &Lots, most: usize) -> Result<(Run, Text), i32> {
+    let (ground, by) = (Ground::new(inst, initial), [run::<1>, run::<2>, run::<3>, run::<3>, run::<5>][inst.quads - 1]);
+    if !is_feasible(inst, &ground, initial, initial) {
+        return Err(6);
+    }
+    let run = by(inst, &ground, initial, lots, parts_of(inst, initial, initial).iter().sum(), most);
     let mut text = Text::default();
     text.parts(&parts_of(inst, initial, &run.best));
     text.named("bound", bound_of(inst, Some(initial)).iter().sum());
     text.named("best_at", run.best_at.into());
-    (run, text)
+    Ok((run, text))
 }
 
 fn answer(words: &[String], out: &mut File) -> Result<(), i32> {
@@ -89,29 +79,23 @@ fn answer(words: &[String], out: &mut File) -> Result<(), i32> {
             let inst = model_of(&model, &closed, patterns)?;
             let initial = initial.map(|name| list_of(&name, &inst, patterns)).transpose()?;
             let [load, balance] = bound_of(&inst, initial.as_deref());
-            text.named("bound", load + balance);
-            text.named("load", load);
-            text.named("balance", balance);
+            let told = [("bound", load + balance), ("load", load), ("balance", balance)];
+            told.iter().for_each(|(name, number)| text.named(name, *number));
         }
         Job::Solve { model, initial, closed, lots } => {
             let inst = model_of(&model, &closed, patterns)?;
             let initial = list_of(&initial, &inst, patterns)?;
-            let ground = Ground::new(&inst, &initial);
-            if !is_feasible(&inst, &ground, &initial, &initial) {
-                return Err(6);
-            }
             let run;
-            (run, text) = solved(&inst, &ground, &initial, &lots, most);
+            (run, text) = solved(&inst, &initial, &lots, most)?;
             text.list(&run.best);
             text.named("draws", if lots.is_first_drawing { 1 } else { 2 });
             ran = Some(run);
         }
         Job::Trial(number) => {
             let inst = Instance::read(&mut Numbers::of(trial::model_of(number), patterns))?;
-            let initial = trial::start();
             let lots = Lots { slack: 1_000, is_first_drawing: false, all: vec![Lot::Seeded(number, 2_000)] };
             let run;
-            (run, text) = solved(&inst, &Ground::new(&inst, &initial), &initial, &lots, most);
+            (run, text) = solved(&inst, &trial::start(), &lots, most)?;
             text.named("done", run.done as u128);
             text.named("refused", run.entries as u128 - run.done as u128);
         }

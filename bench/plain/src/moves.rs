@@ -1,6 +1,4 @@
-//! Moves, causes, and costs as numbers of 64 or of 128 bits.
-
-use std::ops::{Add, AddAssign, Sub, SubAssign};
+//! Moves, causes, and how many processes of each service are moved.
 
 #[derive(Clone, Copy, Default)]
 pub struct Step {
@@ -14,11 +12,9 @@ pub struct Step {
 pub struct Move([Step; 3], usize);
 
 impl Move {
-    #[inline(always)]
-    pub fn new<const N: usize>(steps: [Step; N]) -> Move {
+    fn new<const N: usize>(steps: [Step; N]) -> Move {
         Move(std::array::from_fn(|k| if k < N { steps[k] } else { Step::default() }), N)
     }
-    #[inline(always)]
     pub fn steps(&self) -> &[Step] {
         &self.0[..self.1]
     }
@@ -40,19 +36,17 @@ pub enum Cause {
 /// What a move changes that breaks nothing: the cost without the service part, and of how many services which moved counts:
 /// the service, the count before and the count after.
 #[derive(Clone, Copy, Default)]
-pub struct Change<M> {
-    pub local: M,
+pub struct Change {
+    pub local: i128,
     all: [(u32, u32, u32); 3],
     count: usize,
 }
 
-impl<M> Change<M> {
-    #[inline(always)]
+impl Change {
     pub fn moved(&self) -> &[(u32, u32, u32)] {
         &self.all[..self.count]
     }
     /// The count of a service, which has this one before.
-    #[inline(always)]
     pub fn moved_of(&mut self, service: u32, before: u32) -> &mut u32 {
         let at = self.moved().iter().position(|moved| moved.0 == service).unwrap_or(self.count);
         if at == self.count {
@@ -64,52 +58,32 @@ impl<M> Change<M> {
 }
 
 /// A move with what it breaks or changes, and whether it is done at the state where it was planned.
-pub struct Plan<M> {
+pub struct Plan {
     pub taken: Move,
-    pub weighed: Result<Change<M>, Cause>,
+    pub weighed: Result<Change, Cause>,
     pub is_done: bool,
 }
 
-pub enum Verdict<M> {
-    Done(M),
+impl Plan {
+    pub fn done<const N: usize>(steps: [Step; N], change: Change) -> Plan {
+        Plan { taken: Move::new(steps), weighed: Ok(change), is_done: true }
+    }
+    pub fn refused<const N: usize>(steps: [Step; N], weighed: Result<Change, Cause>) -> Plan {
+        Plan { taken: Move::new(steps), weighed, is_done: false }
+    }
+}
+
+pub enum Verdict {
+    Done(i128),
     Broken(Cause),
     /// The cost before and after, and what is allowed.
-    Rise(M, M, u64),
+    Rise(i128, i128, u64),
 }
 
-/// A cost, or a change of one.
-pub trait Money:
-    Copy + Ord + Default + Send + Sync + AddAssign + SubAssign + Add<Output = Self> + Sub<Output = Self>
-{
-    const IS_NARROW: bool;
-    /// No change of cost is above the number at which this stops.
-    fn of(x: i128) -> Self;
-    fn wide(self) -> i128;
-    fn product(a: u32, b: u64) -> Self;
+/// A cost of so many units of 64 bits.
+pub fn product(weight: u32, units: u64) -> i128 {
+    i128::from(weight) * i128::from(units)
 }
-
-macro_rules! money {
-    ($type:ty, $is_narrow:expr, $most:expr) => {
-        impl Money for $type {
-            const IS_NARROW: bool = $is_narrow;
-            #[inline(always)]
-            fn of(x: i128) -> $type {
-                x.min($most) as $type
-            }
-            #[inline(always)]
-            fn wide(self) -> i128 {
-                self.into()
-            }
-            #[inline(always)]
-            fn product(a: u32, b: u64) -> $type {
-                (a as $type).wrapping_mul(b as $type)
-            }
-        }
-    };
-}
-
-money!(i64, true, 1 << 61);
-money!(i128, false, 1 << 126);
 
 /// The moved count of each service, how many services have each count, and the greatest count.
 pub struct Greatest {
@@ -124,20 +98,17 @@ impl Greatest {
         having[0] = services as u32;
         Greatest { count: vec![0; services], having, most: 0 }
     }
-    #[inline(always)]
     pub fn of(&self, service: u32) -> u32 {
         self.count[service as usize]
     }
     pub fn change(&mut self, service: u32, after: u32) {
         let before = self.of(service);
-        let growth = self.growth(&[(service, before, after)]);
+        self.most = (i64::from(self.most) + self.growth(&[(service, before, after)])) as u32;
         self.having[before as usize] -= 1;
         self.having[after as usize] += 1;
         self.count[service as usize] = after;
-        self.most = (i64::from(self.most) + growth) as u32;
     }
     /// How much the greatest count grows by changes of different services.
-    #[inline(always)]
     pub fn growth(&self, moved: &[(u32, u32, u32)]) -> i64 {
         let mut most = moved.iter().fold(self.most, |most, one| most.max(one.2));
         let counts =

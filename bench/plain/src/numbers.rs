@@ -1,7 +1,7 @@
 //! The numbers of a file. Most have at most four digits: a table says, for each pattern of digits and white bytes among
 //! sixteen bytes, where the digits of its first four numbers are.
 
-use crate::lanes::{digits_of, four_numbers};
+use crate::lanes::{Four, digits_of, four_numbers};
 use std::fs::File;
 use std::io::{ErrorKind, Read};
 
@@ -182,6 +182,13 @@ impl<'p> Numbers<'p> {
             front.copy_from_slice(some);
             to = rest;
         }
+        Ok(())
+    }
+    /// Adds some numbers as a row of fours, with zeros after them.
+    pub fn row(&mut self, count: usize, quads: usize, to: &mut Vec<Four>) -> Result<(), i32> {
+        let mut numbers = [0; 20];
+        self.fill(&mut numbers[..count])?;
+        to.extend(numbers.as_chunks().0[..quads].iter().map(|&four| Four::of(four)));
         Ok(())
     }
     pub fn has_ended(&mut self) -> Result<bool, i32> {

@@ -3,34 +3,35 @@
 use crate::draws::Remainder;
 use crate::instance::{Ground, Instance, SMALL, Service, WINDOW};
 use crate::lanes::{Eight, Four, flat};
-use crate::moves::{Greatest, Money, Move};
+use crate::moves::{Greatest, Move, product};
 
 /// One label of each process, in the order of the slots, and for large services how many have each label.
-pub struct Places {
+pub struct Places<'a> {
+    label: &'a [u16],
     at: Vec<u16>,
     table: Vec<u16>,
-    labels: usize,
 }
 
-impl Places {
-    fn new(ground: &Ground, label: impl Fn(usize) -> u16) -> Places {
-        let mut at: Vec<u16> = ground.members.all().iter().map(|&p| label(p as usize)).collect();
-        let (labels, mut table) = (ground.hood.len(), Vec::new());
+impl<'a> Places<'a> {
+    /// The labels of the machines of a list.
+    fn new(ground: &Ground, label: &'a [u16], list: &[u32]) -> Places<'a> {
+        let mut at: Vec<u16> = ground.members.all().iter().map(|&p| label[list[p as usize] as usize]).collect();
+        let mut table = Vec::new();
         for service in ground.services.iter().filter(|service| service.large != SMALL) {
             let row = table.len();
-            table.resize(row + labels, 0);
-            for &label in &at[service.first as usize..][..service.size as usize] {
-                table[row + label as usize] += 1;
-            }
+            table.resize(row + label.len(), 0);
+            at[service.slots()].iter().for_each(|&label| table[row + label as usize] += 1);
         }
         at.extend([0; 8]);
-        Places { at, table, labels }
+        Places { label, at, table }
+    }
+    pub fn label(&self, m: u32) -> u16 {
+        self.label[m as usize]
     }
     /// How many processes of a service have a label.
-    #[inline(always)]
     pub fn count(&self, service: &Service, label: u16) -> u32 {
         if service.large != SMALL {
-            return self.table[service.large as usize * self.labels + label as usize].into();
+            return self.table[service.large as usize * self.label.len() + label as usize].into();
         }
         let labels = Eight::all(label);
         let (mut first, mut left, mut count) = (service.first as usize, service.size, 0);
@@ -44,17 +45,18 @@ impl Places {
             left -= 8;
         }
     }
-    fn change(&mut self, service: &Service, slot: u32, label: u16) {
+    fn change(&mut self, service: &Service, slot: u32, m: u32) {
+        let label = self.label(m);
         let before = std::mem::replace(&mut self.at[slot as usize], label);
         if service.large != SMALL {
-            let row = service.large as usize * self.labels;
+            let row = service.large as usize * self.label.len();
             self.table[row + before as usize] -= 1;
             self.table[row + label as usize] += 1;
         }
     }
 }
 
-pub struct State<'a, M, const Q: usize> {
+pub struct State<'a, const Q: usize> {
     pub inst: &'a Instance,
     pub ground: &'a Ground,
     pub at: Vec<u32>,
@@ -62,8 +64,10 @@ pub struct State<'a, M, const Q: usize> {
     /// greatest number of the others; and by how much the capacity is above the safety capacity.
     rows: Vec<[Four; Q]>,
     /// Load and balance cost of each machine.
-    pub cost: Vec<M>,
+    pub cost: Vec<i128>,
     weights: [Four; Q],
+    /// Whether no load cost of a machine is above 2^64.
+    is_narrow: bool,
     /// All ones for transient resources.
     pub transient: [Four; Q],
     pub has_transient: bool,
@@ -74,9 +78,9 @@ pub struct State<'a, M, const Q: usize> {
     pub power: u32,
     /// A way shifted by the first number, times the second one, is at most its cost divided by 2^`power`, times 2^16.
     pub way_share: (u32, u16),
-    pub on: Places,
-    pub locations: Places,
-    pub hoods: Places,
+    pub on: Places<'a>,
+    pub locations: Places<'a>,
+    pub hoods: Places<'a>,
     /// In how many locations each service is.
     pub spread: Vec<u32>,
     pub greatest: Greatest,
@@ -84,24 +88,8 @@ pub struct State<'a, M, const Q: usize> {
     pub by_machine: Remainder,
 }
 
-/// Whether no sum of costs is above 2^61.
-pub fn is_narrow(inst: &Instance) -> bool {
-    let most = |numbers: &[u32]| u128::from(numbers.iter().copied().max().unwrap_or(0));
-    let (machines, processes, capacity) = (inst.machines as u128, inst.processes as u128, most(flat(&inst.capacity)));
-    let [of_processes, of_services, of_ways] = inst.weights.map(u128::from);
-    let mut sum =
-        processes * (of_processes * most(&inst.process_cost) + of_services + of_ways * u128::from(inst.most_way()));
-    for &weight in &inst.load_weight {
-        sum += u128::from(weight) * capacity * machines;
-    }
-    for balance in &inst.balances {
-        sum += u128::from(balance.weight) * u128::from(balance.target) * capacity * machines;
-    }
-    sum < 1 << 61
-}
-
-impl<'a, M: Money, const Q: usize> State<'a, M, Q> {
-    pub fn new(inst: &'a Instance, ground: &'a Ground, initial: &[u32]) -> State<'a, M, Q> {
+impl<'a, const Q: usize> State<'a, Q> {
+    pub fn new(inst: &'a Instance, ground: &'a Ground, initial: &[u32]) -> State<'a, Q> {
         let machines = inst.machines;
         let fours = |number: &dyn Fn(usize) -> u32| -> [Four; Q] {
             std::array::from_fn(|quad| {
@@ -129,24 +117,25 @@ impl<'a, M: Money, const Q: usize> State<'a, M, Q> {
             ground,
             at: initial.to_vec(),
             rows,
-            cost: vec![M::default(); machines],
+            cost: vec![0; machines],
             weights: fours(&|r| inst.load_weight[r]),
+            is_narrow: inst.load_weight.iter().map(|&weight| u64::from(weight)).sum::<u64>() < 1 << 32,
             transient,
             has_transient: inst.transient.contains(&true),
             filters: vec![0; (inst.resources + 2 * inst.balances.len()) * stride],
             stride,
             power,
             way_share: way_share(inst, power),
-            on: Places::new(ground, |p| initial[p] as u16),
-            locations: Places::new(ground, |p| ground.location[initial[p] as usize]),
-            hoods: Places::new(ground, |p| ground.hood[initial[p] as usize]),
+            on: Places::new(ground, &ground.machine, initial),
+            locations: Places::new(ground, &ground.location, initial),
+            hoods: Places::new(ground, &ground.hood, initial),
             spread: Vec::new(),
             greatest: Greatest::new(inst.services, inst.processes),
             by_process: Remainder::new(inst.processes),
             by_machine: Remainder::new(machines),
         };
         for service in &ground.services {
-            let mut labels = state.locations.at[service.first as usize..][..service.size as usize].to_vec();
+            let mut labels = state.locations.at[service.slots()].to_vec();
             labels.sort_unstable();
             labels.dedup();
             state.spread.push(labels.len() as u32);
@@ -154,26 +143,24 @@ impl<'a, M: Money, const Q: usize> State<'a, M, Q> {
         (0..machines as u32).for_each(|m| state.renew(m));
         state
     }
-    #[inline(always)]
     pub fn rows(&self, m: u32) -> &[[Four; Q]; 3] {
         self.rows[3 * m as usize..].first_chunk().expect("three rows")
     }
     /// Load and balance cost of a machine with this free.
-    #[inline(always)]
-    pub fn cost_of(&self, m: u32, free: &[Four; Q]) -> M {
+    pub fn cost_of(&self, m: u32, free: &[Four; Q]) -> i128 {
         let ([_, _, gap], numbers) = (self.rows(m), flat(free));
-        let mut sum = M::default();
-        if M::IS_NARROW {
+        let mut sum = 0;
+        if self.is_narrow {
             let load = (0..Q).map(|i| gap[i].above(free[i]).products(self.weights[i]));
-            sum += M::product(1, load.fold(Four::all(0), Four::plus_long).sum_long());
+            sum += i128::from(load.fold(Four::all(0), Four::plus_long).sum_long());
         } else {
             for ((&gap, &free), &weight) in flat(gap).iter().zip(numbers).zip(&self.inst.load_weight) {
-                sum += M::product(weight, gap.saturating_sub(free).into());
+                sum += product(weight, gap.saturating_sub(free).into());
             }
         }
         for balance in &self.inst.balances {
             let wanted = u64::from(balance.target) * u64::from(numbers[balance.first]);
-            sum += M::product(balance.weight, wanted.saturating_sub(numbers[balance.second].into()));
+            sum += product(balance.weight, wanted.saturating_sub(numbers[balance.second].into()));
         }
         sum
     }
@@ -204,7 +191,7 @@ impl<'a, M: Money, const Q: usize> State<'a, M, Q> {
     pub fn make(&mut self, done: &Move) {
         let (inst, ground) = (self.inst, self.ground);
         for step in done.steps() {
-            let (p, from, to) = (step.process as usize, step.from as usize, step.to as usize);
+            let p = step.process as usize;
             let process = ground.processes[p];
             let service = &ground.services[process.service as usize];
             // Between the steps a row may be below zero, so numbers go round.
@@ -220,21 +207,14 @@ impl<'a, M: Money, const Q: usize> State<'a, M, Q> {
             };
             change(step.from, Four::plus);
             change(step.to, Four::minus);
-            self.on.change(service, process.slot, step.to as u16);
-            let (left, entered) = (ground.location[from], ground.location[to]);
-            if left != entered {
-                let spread = &mut self.spread[process.service as usize];
-                *spread += u32::from(self.locations.count(service, entered) == 0);
-                *spread -= u32::from(self.locations.count(service, left) == 1);
-                self.locations.change(service, process.slot, entered);
+            let spread = &mut self.spread[process.service as usize];
+            *spread -= u32::from(self.locations.count(service, self.locations.label(step.from)) == 1);
+            for places in [&mut self.on, &mut self.hoods, &mut self.locations] {
+                places.change(service, process.slot, step.to);
             }
-            self.hoods.change(service, process.slot, ground.hood[to]);
-            let moved = self.greatest.of(process.service);
-            if step.from == process.home {
-                self.greatest.change(process.service, moved + 1);
-            } else if step.to == process.home {
-                self.greatest.change(process.service, moved - 1);
-            }
+            *spread += u32::from(self.locations.count(service, self.locations.label(step.to)) == 1);
+            let moved = self.greatest.of(process.service) + u32::from(step.from == process.home);
+            self.greatest.change(process.service, moved - u32::from(step.to == process.home));
             self.at[p] = step.to;
         }
         for step in done.steps() {

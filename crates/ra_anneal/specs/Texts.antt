@@ -39,4 +39,4 @@ help_text =
     "usage: anneal MODEL INITIAL [--from LIST] [--closed FILE] [--heat HIGH:LOW] [--workers W] SEED:TRIES\n\n  --from LIST      the list with which the search begins; INITIAL if it isn't given\n  --closed FILE    machines that nobody may enter\n  --heat HIGH:LOW  by how much the cost may rise, at first and in the end; chosen if it isn't given\n  --workers W      how many workers search, 1 to 16; 1 if it isn't given\n  SEED:TRIES       the seed of the random words, and how many tries all workers make together, at most 10^12\n\nThe options come in this order.\n"
 
 abbrev pub version_text : List ℕ
-version_text = codes "anneal 1.0.0\n"
+version_text = codes "anneal 2.0.0\n"

@@ -16,7 +16,7 @@ pub(crate) const HELP: &str =
     "usage: anneal MODEL INITIAL [--from LIST] [--closed FILE] [--heat HIGH:LOW] [--workers W] SEED:TRIES\n\n  --from LIST      the list with which the search begins; INITIAL if it isn't given\n  --closed FILE    machines that nobody may enter\n  --heat HIGH:LOW  by how much the cost may rise, at first and in the end; chosen if it isn't given\n  --workers W      how many workers search, 1 to 16; 1 if it isn't given\n  SEED:TRIES       the seed of the random words, and how many tries all workers make together, at most 10^12\n\nThe options come in this order.\n";
 
 /// The version of the program.
-pub(crate) const VERSION: &str = "anneal 1.0.0\n";
+pub(crate) const VERSION: &str = "anneal 2.0.0\n";
 
 /// Prints a text. It reads no file, and fails only if writing fails.
 pub(crate) fn tell<O: Sink, E: Sink>(text: &str, out: &mut O, err: &mut E) -> Status
