@@ -128,7 +128,9 @@ impl<'a> Desk<'a> {
 
     /// Has a searcher carry out an order, if nobody has taken it up.
     fn take_up<R: Wait, L: Ledger>(&self, rt: &R, k: usize, number: u64, steps: &mut Steps<L>) {
-        let seat = &self.seats[k];
+        let Some(seat) = self.seats.get(k) else {
+            return;
+        };
         if seat.is_taken_up(number) {
             let order = self.order.read(rt);
             seat.searcher.lock(rt).obey(&order, steps);

@@ -94,7 +94,7 @@ fn search_counted<R: Threads + Wait + Sync, L: Ledger>(
     let last = Kept::make(alloc, &world)?;
     let searchers = searchers_of(schedule.workers, beginning.inst.machines());
     let mut hunt = hunt_of(alloc, world, schedule, searchers)?;
-    let threads = helpers_of(rt, searchers as usize) + 1;
+    let threads = threads_of(rt, searchers as usize);
     let desk = desk_of(
         alloc,
         beginning,
@@ -255,11 +255,11 @@ fn attend_counted<'a, R: Wait, L: Ledger>(rt: &R, desk: &Desk<'a>, thread: usize
     desk.attend(rt, thread, &mut steps);
 }
 
-/// How many threads help: one less than there are processors, and than there are searchers.
-fn helpers_of<R: Threads>(rt: &R, searchers: usize) -> usize {
+/// How many threads carry out orders: as many as there are processors, and no more than there are searchers.
+fn threads_of<R: Threads>(rt: &R, searchers: usize) -> usize {
     let processors = match thread::available_parallelism(rt) {
         Ok(count) => count.get(),
         Err(_) => 1,
     };
-    processors.min(searchers).saturating_sub(1)
+    processors.min(searchers)
 }
