@@ -1,4 +1,4 @@
-"""Runs a tool of this package: `python3 -m reassign_tools rounds WORD ..`, or `python3 THIS_FOLDER rounds WORD ..`, as the
+"""Runs a tool of this package: `python3 -m reassign_tools improve WORD ..`, or `python3 THIS_FOLDER improve WORD ..`, as the
 files of tools/ do. Those block the signals that stop a tool until this module says what they do."""
 import signal
 
@@ -9,7 +9,7 @@ import importlib
 import os
 import sys
 
-TOOLS = ("evacuate", "moves", "named", "plot", "race", "repair_words", "rounds", "summary")
+TOOLS = ("evacuate", "improve", "moves", "named", "plot", "race", "repair_words", "summary")
 STOPS = (signal.SIGINT, signal.SIGTERM, signal.SIGHUP)
 WANTS = ("cannot allocate memory", "failed to map segment", "can't start new thread", "cannot apply additional memory protection")
 

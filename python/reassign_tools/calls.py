@@ -6,7 +6,7 @@ import os
 from contextlib import contextmanager
 from dataclasses import dataclass
 
-from . import race as races, rounds as many_rounds
+from . import improve as improving, race as races
 from .files import Room, list_text, write_whole
 from .models import Model
 from .problems import Problem

@@ -16,30 +16,33 @@ LONGEST_ERROR = 1 << 16  # bytes of an error line
 A_LINE, MOST_PRINTED = 64, 1 << 28  # bytes that a line takes beside its text, and that all lines may take
 STATUSES = range(2, 13)
 COSTS = ("cost", "load", "balance", "process", "service", "machine")
+OPTIONS = {"reassign": "--program", "anneal": "--anneal"}  # that name the programs
 
 
 class Program:
-    """The program that a tool calls."""
+    """A program that a tool calls: `reassign`, or `anneal`."""
 
-    def __init__(self, named):
-        named = named or os.environ.get("REASSIGN")
-        here = os.path.join(ROOT, "reassign")
-        beside = os.path.join(os.path.dirname(os.path.abspath(sys.argv[0])), "reassign")
-        self.name = named or next(filter(os.path.isfile, (here, beside)), shutil.which("reassign"))
+    def __init__(self, named, called="reassign"):
+        self.called = called
+        named = named or os.environ.get(called.upper())
+        here, installed = os.path.join(ROOT, called), called if called == "reassign" else f"reassign-{called}"
+        beside = os.path.join(os.path.dirname(os.path.abspath(sys.argv[0])), installed)
+        self.name = named or next(filter(os.path.isfile, (here, beside)), shutil.which(installed))
         if not self.name or not os.path.isfile(self.name) or not os.access(self.name, os.X_OK):
-            raise Problem(f"there is no program {self.name or 'reassign'}: name it with --program")
+            raise Problem(f"there is no program {self.name or called}: name it with {OPTIONS[called]}")
         if self.name == here:
             self.make()
 
     def binary(self):
         """The program itself, which the repository's own call finds and calls."""
-        is_call = self.name == os.path.join(ROOT, "reassign")
-        return os.path.join(ROOT, "crates", "reassign", "out", "reassign") if is_call else os.path.abspath(self.name)
+        is_call = self.name == os.path.join(ROOT, self.called)
+        return os.path.join(ROOT, "crates", self.called, "out", self.called) if is_call else os.path.abspath(self.name)
 
     def make(self):
         """The repository's own call proves and compiles the program if that is due, and says on standard error how far it
         is: so it is called once with nothing in between."""
-        made = begin([self.name, "bound", os.path.join(ROOT, "examples/sample/model")], stdout=subprocess.DEVNULL)
+        words = ["bound", os.path.join(ROOT, "examples/sample/model")] if self.called == "reassign" else ["--version"]
+        made = begin([self.name, *words], stdout=subprocess.DEVNULL)
         try:
             status = made.wait()
         except BaseException:

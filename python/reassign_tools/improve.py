@@ -1,0 +1,312 @@
+"""Looks for the best list in the time that one has, by the proved search `anneal`, and goes on from a list that is there.
+
+Whatever it keeps is feasible from INITIAL, the true start. It ends after --seconds, by the clock: short pilots tell how fast
+tries are, and the search is cut into pieces, calls of `anneal` that go on, each with its part of the cooling. BEST has the best
+list after each, whole. If BEST is there already it goes on from it, at a lower heat; machines of the closed list that were
+emptied there stay empty. Ctrl-C and SIGTERM end it well. With --tries it is a function of its words, on any machine.
+
+In place of MODEL and INITIAL may stand FLEET, a folder that `named pack` wrote. Its closed machines are closed for a MODEL of
+such a folder too; with --only those of --closed alone are.
+
+In the end `reassign check` judges BEST, and a sentence says what was gained. Standard error tells meanwhile how far it is: the
+time, the cost, the part of the gap that is left (the start's cost less the bound), tries a second, and the heat, which is about
+by how much a move may raise the cost. --log FILE adds a JSON object for each piece, and `plot FILE ..` draws these.
+
+On several machines: --list HOSTS writes a command a line, each with another seed and a BEST of its own (BEST.1, BEST.2 ..), for
+as many hosts as HOSTS says, a number or a file with one in each line; the hosts share the files. With --collect BEST becomes
+the cheapest of those lists, by this machine's `check`. For example
+
+    $ tools/improve examples/sample/model examples/sample/initial --out /tmp/better --seconds 3"""
+import argparse
+import glob
+import json
+import os
+import re
+import shlex
+import time
+
+from .closing import add_only, fleet_closed, given_list, with_fleet
+from .files import Room, for_a_while, list_text, lock, read_closed, read_list, read_whole, remove, target, write_whole
+from .high_stays import with_high_stays
+from .improve_pieces import Cooling, Piece, Timed, pieces_of_tries
+from .improve_progress import Progress
+from .models import Model
+from .names import Names
+from .problems import Problem, Stopped, telling
+from .program import COSTS, Program, closed_words
+from .running import command_of, no_more_stops, run_tool, say
+from .texts import counted, percent
+from .words import LARGEST_SEED, MOST_LOTS, Words, any_file_name, file_name, number, processors
+
+MOST_TRIES, MOST_HOSTS = 10**12, 10_000
+HEADS = (*COSTS, "bound", "heat", "tries", "done", "assignment", "last")  # of the lines of `anneal`
+
+
+def parser():
+    words = Words("improve", __doc__)
+    words.add_program()
+    words.add_argument("--anneal", metavar="FILE", type=any_file_name, help="the program anneal (else as --program, by ANNEAL)")
+    words.add_argument("model", metavar="MODEL|FLEET", type=file_name)
+    words.add_argument("initial", metavar="INITIAL", type=file_name, nargs="?", help="the true start")
+    words.add_argument("--out", metavar="BEST", type=file_name, required=True, help="the best list")
+    ends = words.add_mutually_exclusive_group()
+    ends.add_argument("--seconds", metavar="S", type=seconds, default=60.0, help="end after so many seconds (60)")
+    ends.add_argument("--minutes", metavar="M", type=number(1, 1_000_000), help="end after so many minutes")
+    ends.add_argument("--tries", metavar="N", type=number(1, MOST_TRIES), help="make so many tries, however long they take")
+    words.add_argument("--workers", metavar="W", type=number(1, MOST_LOTS), default=processors(),
+                       help="workers that search (as many as processors)")
+    words.add_argument("--seed", metavar="S", type=number(0, LARGEST_SEED), default=1, help="seed of the search (1)")
+    words.add_argument("--closed", metavar="FILE", type=file_name, help="machines that nobody may enter")
+    add_only(words)
+    words.add_argument("--names", metavar="FILE", type=any_file_name, help="the names of the model, as `named pack` writes them")
+    words.add_argument("--log", metavar="FILE", type=file_name, help="add a JSON object for each piece to FILE")
+    words.add_argument("--json", action="store_true", help="print one JSON object")
+    hosts = words.add_mutually_exclusive_group()
+    hosts.add_argument("--list", metavar="HOSTS", type=file_name, help="write a command for each host, and run nothing")
+    hosts.add_argument("--collect", action="store_true", help="take the cheapest of BEST.1, BEST.2 .., and run nothing")
+    return words
+
+
+def seconds(word):
+    """Seconds, which needn't be whole."""
+    if not re.fullmatch(r"[0-9]{1,8}(\.[0-9]{1,6})?", word) or not float(word):
+        raise argparse.ArgumentTypeError(f"{word!r} is not a number of seconds")
+    return float(word)
+
+
+class Search:
+    """The search for a better list: its files, the best list so far, and the calls of the programs."""
+
+    def __init__(self, words, room, names):
+        self.begun = time.monotonic()
+        self.words, self.room, self.program = words, room, Program(words.program)
+        self.anneal = Program(words.anneal, "anneal")
+        inputs = self.program.name, self.anneal.name, words.model, words.initial, words.closed, words.names
+        self.best = target(words.out, words.log, *inputs)
+        if words.log:
+            target(words.log, *inputs)
+        given = given_list(words, names, room)
+        self.closing = closed_words(with_fleet(words, given, names, room) if names else given)
+        self.begun_check = time.monotonic()
+        self.start_cost = self.check(words.initial)["cost"]
+        self.reading = time.monotonic() - self.begun_check
+        self.initial = read_list(words.initial)
+        self.processes, self.machines = len(self.initial), machines_of(words.model)
+        self.model, self.cost, self.now, self.last = words.model, self.start_cost, self.initial, None
+        self.bound, self.tries, self.pieces, self.rate, self.heat = None, 0, 0, 0.0, None
+        self.is_least = False  # whether no move of a single process makes the best list cheaper
+        self.seconds = 60.0 * words.minutes if words.minutes else words.seconds
+        self.had_list = os.path.exists(self.best)
+        if self.had_list:
+            self.cost, self.now = self.check(self.best)["cost"], read_list(self.best)
+            self.keep_empty()
+
+    def check(self, name):
+        return self.program.numbers("check", self.words.model, self.words.initial, name, *self.closing)
+
+    def keep_empty(self):
+        """If the best list has left closed machines, the search has a model in which staying there costs most."""
+        if not self.closing:
+            return
+        closed, there = read_closed(self.closing[1], self.machines), set(self.now)
+        if any(home in closed and home not in there for home in self.initial):
+            model = Model.read(self.words.model)
+            flags = [machine in closed for machine in range(model.machines)]
+            self.model = self.room("model")
+            write_whole(self.model, with_high_stays(model, self.initial, flags).pieces())
+            self.bound = self.found_bound()
+
+    def found_bound(self):
+        return self.program.numbers("bound", self.words.model, self.words.initial, *self.closing)["bound"]
+
+    def passed(self):
+        return time.monotonic() - self.begun
+
+    def left(self):
+        """Seconds that are left for the search. What comes after it takes about as long as the check of the start."""
+        return self.seconds - self.passed() - 1.2 * self.reading - 0.05
+
+    # Calls
+
+    def descend(self):
+        """A descent from the start, or from the list that is there: a first list, however little time there is."""
+        self.call(0, (0, 0), self.now, limit=None)
+
+    def call(self, tries, heat, begin=None, limit=True):
+        """A piece, which begins where the last one stood, or at INITIAL if it has to choose the heat. Answers None if its time was
+        over before it was."""
+        begin = begin or (self.last or self.now if heat else self.initial)
+        write_whole(self.room("from"), [list_text(begin)])
+        seed = (self.words.seed + self.pieces) % 2**64
+        options = ["--heat", "{}:{}".format(*heat)] if heat else []
+        at = time.monotonic()
+        limit = max(self.left(), 0.01) if limit and not self.words.tries else None
+        status, lines, _ = self.anneal.run(self.model, self.words.initial, "--from", self.room("from"), *self.closing, *options,
+                                           "--workers", self.words.workers, f"{seed}:{tries}", limit=limit)
+        if status is None:
+            return None
+        heads, values = zip(*(line.partition(" ")[::2] for line in lines)) if lines else ((), ())
+        try:
+            if heads != HEADS:
+                raise ValueError
+            told, (found, last) = dict(zip(heads, map(int, values[:10]))), (list(map(int, value.split())) for value in values[10:])
+        except ValueError:
+            raise self.anneal.no_program("doesn't print what anneal prints") from None
+        if heat is None or heat[0] or not self.last:
+            self.last = last
+        else:
+            self.last = found
+        piece = Piece(tries, tries / max(time.monotonic() - at, 1e-3), heat or (told["heat"], 0))
+        self.bound = told["bound"] if self.bound is None else self.bound
+        self.pieces, self.tries, self.rate, self.heat = self.pieces + 1, self.tries + tries, piece.rate, piece.heat[1]
+        self.keep(found, told["cost"], self.model == self.words.model)
+        self.log(piece, told["cost"], seed)
+        return piece
+
+    def solve(self, proposals):
+        """A run of `solve` from INITIAL. Answers the seconds that a proposal took, or None if its time was over before it was."""
+        at = time.monotonic()
+        status, head, _ = self.program.run("solve", self.words.model, self.words.initial, *self.closing, f"{self.words.seed}:{proposals}",
+                                           limit=max(self.left(), 0.01), lines=10)
+        if status is None:
+            return None
+        self.bound = int(head[6].split()[1])
+        self.keep(list(map(int, head[8].split()[1:])), int(head[0].split()[1]), False)
+        return max(time.monotonic() - at - self.reading, 0.2 * self.reading) / proposals
+
+    def keep(self, found, cost, is_least):
+        """Keeps a list if it is the best."""
+        if self.model != self.words.model:  # in which stays cost more
+            write_whole(self.room("found"), [list_text(found)])
+            cost = self.check(self.room("found"))["cost"]
+        if cost < self.cost or cost == self.cost and is_least and not self.is_least:
+            self.cost, self.now, self.is_least = cost, found, is_least
+            write_whole(self.best, [list_text(found)])
+
+    def log(self, piece, found, seed):
+        if not self.words.log:
+            return
+        line = {"piece": self.pieces, "seconds": round(self.passed(), 3), "cost": self.cost, "bound": self.bound,
+                "start": self.start_cost, "tries": piece.tries, "rate": round(piece.rate), "heat": list(piece.heat), "found": found,
+                "seed": seed, "workers": self.words.workers}
+        try:
+            with open(self.words.log, "a", encoding="utf-8") as file:
+                file.write(json.dumps(line) + "\n")
+        except OSError as fault:
+            raise Problem(f"write fault: {self.words.log}: {fault.strerror}", 7) from None
+
+    def go(self):
+        cooling = Cooling(self.machines, self.had_list)
+        if self.words.tries:
+            pieces_of_tries(self.call, cooling, self.words.tries)
+        else:
+            Timed(self, cooling, self.reading).go()
+
+    # The end
+
+    def gap_left(self):
+        """The part of the gap that is left, or None if nobody knows the bound yet."""
+        way = self.start_cost - self.bound if self.bound is not None else 0
+        return None if self.bound is None else (self.cost - self.bound) / way if way > 0 else 0.0
+
+    def end(self):
+        """Judges the best list, and tells what was gained."""
+        if not os.path.exists(self.best):
+            write_whole(self.best, [list_text(self.now)])
+        costs = self.check(self.best)
+        self.bound = self.found_bound() if self.bound is None else self.bound
+        moved = sum(a != b for a, b in zip(self.initial, self.now))
+        least = " no move of a single process makes it cheaper," if self.is_least else ""
+        sentence = (f"The cost fell from {self.start_cost:,} to {self.cost:,}: {percent(self.gap_left())} of the gap to the bound "
+                    f"{self.bound:,} is left, and {moved:,} of {counted(self.processes, 'process', 'processes')} move. It is proved "
+                    f"that the list breaks no rule, its cost is exact,{least} and no list costs less than the bound.")
+        if self.words.json:
+            whole = {"start": self.start_cost, **costs, "bound": self.bound, "gap_left": self.gap_left(), "moved": moved,
+                     "processes": self.processes, "tries": self.tries, "is_least": self.is_least, "sentence": sentence}
+            print(json.dumps(whole))
+            return
+        print("".join(f"{name} {costs[name]}\n" for name in COSTS) + sentence)
+
+
+def machines_of(name):
+    """How many machines a model has, which `check` has read."""
+    head = read_head(name)
+    return int(head[1 + 2 * int(head[0])])
+
+
+def read_head(name):
+    with open(name, "rb") as file:
+        return file.read(1 << 16).split()
+
+
+def with_files(words):
+    """The words, with the files of the fleet that they name; and the names, or None."""
+    if words.initial is None:
+        folder = words.model
+        if not os.path.isfile(os.path.join(folder, "names.json")):
+            raise Problem(f"{folder} is no folder of `named pack`, and INITIAL is missing; improve --help shows how to call it", 2)
+        words.model, words.initial = os.path.join(folder, "model"), os.path.join(folder, "initial")
+        words.names = words.names or os.path.join(folder, "names.json")
+    if not words.names and not words.only and fleet_closed(words.model):
+        words.names = os.path.join(os.path.dirname(words.model), "names.json")
+    return Names.read(words.names, words.model) if words.names else None
+
+
+# Several machines
+
+
+def write_commands(words):
+    """A command for each host, with another seed and a list of its own."""
+    count = words.list
+    if re.fullmatch("[0-9]{1,5}", count) and not os.path.exists(count):
+        count = int(count)
+    else:
+        count = sum(bool(line.strip()) for line in read_whole(count, 1 << 22).splitlines())
+    if not 1 <= count <= MOST_HOSTS:
+        raise Problem(f"--list {words.list}: there are {count:,} hosts; possible are 1 to {MOST_HOSTS:,}", 2)
+    full = os.path.abspath
+    files = [full(words.model)] + ([full(words.initial)] if words.initial else [])
+    ending = ["--tries", words.tries] if words.tries else ["--minutes", words.minutes] if words.minutes else ["--seconds", f"{words.seconds:g}"]
+    for option, name in (("--closed", words.closed), ("--names", words.names), ("--program", words.program), ("--anneal", words.anneal)):
+        files += [option, full(name)] if name else []
+    files += ["--only"] if words.only else []
+    for host in range(1, count + 1):
+        own = ["--out", f"{full(words.out)}.{host}", *ending, "--seed", (words.seed + 1_000_000 * (host - 1)) % 2**64]
+        print(shlex.join(map(str, [*command_of("improve"), *files, *own])))
+
+
+def collect(search):
+    """Takes the cheapest of the hosts' lists."""
+    names = [name for name in glob.glob(f"{glob.escape(search.words.out)}.*") if re.fullmatch("[0-9]+", name.rpartition(".")[2])]
+    if not names:
+        raise Problem(f"there is no {search.words.out}.1, nor any other list of a host")
+    for name in sorted(names, key=lambda name: (len(name), name)):
+        costs = search.check(name)
+        say(f"{name} costs {costs['cost']}")
+        search.keep(read_list(name), costs["cost"], False)
+
+
+def work(words):
+    if words.list:
+        return write_commands(words)
+    names = with_files(words)
+    with Room() as room, telling(names.line if names else str):
+        search = Search(words, room, names)
+        with lock(f"{search.best}.lock", words.out) as locked:
+            for_a_while(locked.name)
+            try:
+                if words.collect:
+                    collect(search)
+                else:
+                    with Progress(search):
+                        search.go()
+            except Stopped:
+                no_more_stops()
+                say(f"stopped; {words.out} has the best list so far")
+            no_more_stops()
+            remove(locked.name)
+            search.end()
+
+
+def main(words=None):
+    run_tool(parser(), work, words)

@@ -1,0 +1,128 @@
+"""The schedule of `improve`: calls of `anneal` that go on, each with its part of the cooling."""
+import math
+from dataclasses import dataclass
+
+PIECES, FIRST = 10, 1 / 16  # pieces of a search, and the share of the first one, which chooses the heat
+LONGEST = 10.0  # seconds of a piece, if it then takes as long as MOST_AROUND of what it has besides its tries
+LEAST_PIECE = 2_000_000  # tries of a piece, if their number is given
+ENOUGH = 200_000  # tries for each machine from which on the heat doesn't depend on them
+GOING_ON = 1 / 16  # of the heat: where a search begins that goes on from a list that one has already
+PILOT, PILOT_SHARE, GROWTH = 100_000, 0.02, 8  # tries of the first pilot; how much of the time it takes, else one of more comes
+SURE = 0.75  # the part of the time that is left for which a last piece is planned, since times swing
+PAIR, MOST_AROUND = 5e-9, 0.1  # seconds for each process and machine in which a descent finds nothing
+FAR = 20  # as many times that takes a descent from the start
+PROPOSALS, BY_PROPOSAL = 2, 6  # of `solve` for each process; tries in the time of a proposal, at least
+
+
+@dataclass
+class Piece:
+    """What a piece came to: its tries, and how many it had in a second; the heats from which and to which it cooled down."""
+    tries: int
+    rate: float
+    heat: tuple
+
+
+class Cooling:
+    """The heat of a search, which falls with the fourth power of what is left."""
+
+    def __init__(self, machines, is_going_on):
+        self.machines, self.is_going_on, self.heat = machines, is_going_on, None
+
+    def share(self, tries):
+        """How much of a full search one of so many tries is."""
+        return min(1.0, tries / (ENOUGH * self.machines))
+
+    def begin(self, chosen, tries, left):
+        """The first piece has chosen a heat for its tries, and so many are left: a longer search is begun at a greater heat."""
+        whole = tries + left
+        self.heat = chosen * self.share(whole) / max(self.share(tries), 1e-9) * (left / max(whole, 1)) ** 4
+        if self.is_going_on:
+            self.heat = min(self.heat, chosen * GOING_ON)
+
+    def cut(self, share):
+        """The heats of a piece that has such a share of what is left."""
+        return round(self.heat), round(self.heat * (1 - share) ** 4)
+
+    def passed(self, share):
+        self.heat *= (1 - share) ** 4
+
+
+def pieces_of_tries(call, cooling, tries):
+    """A search of so many tries, whose pieces are a function of their number alone. `call` makes a piece."""
+    count = max(1, min(PIECES, tries // LEAST_PIECE))
+    first = tries if count == 1 and not cooling.is_going_on else max(1, int(tries * FIRST))
+    piece, left = call(first, None), tries - first
+    cooling.begin(piece.heat[0], first, left)
+    for part in range(count, 0, -1):
+        some = left // part
+        if some:
+            call(some, cooling.cut(1 / part))
+        cooling.passed(1 / part)
+        left -= some
+
+
+class Timed:
+    """A search that ends on time. `search` makes the calls; `left` says how many seconds there are."""
+
+    def __init__(self, search, cooling, reading):
+        self.search, self.cooling, self.left = search, cooling, search.left
+        self.pairs = PAIR * search.processes * cooling.machines
+        self.around = reading + self.pairs  # seconds of a call besides its tries
+        self.rate, self.whole = None, self.left()
+
+    def go(self):
+        if self.pairs * FAR < max(0.25 * self.whole, 0.5):
+            self.search.descend()
+            self.measure()
+        else:
+            self.begin_large()
+        if self.rate and self.left() > 2 * self.around:
+            self.anneal()
+
+    def learn(self, piece, seconds):
+        if piece:
+            self.rate = piece.tries / max(seconds - self.around, 0.3 * seconds, 1e-3)
+
+    def measure(self):
+        """Short pilots tell the rate of tries, until one takes long enough."""
+        tries = PILOT
+        while self.left() > 0:
+            before = self.left()
+            piece = self.search.call(tries, (0, 0))
+            seconds = before - self.left()
+            self.learn(piece, seconds)
+            if piece is None or seconds - self.around > PILOT_SHARE * self.whole:
+                return
+            tries *= GROWTH
+
+    def begin_large(self):
+        """On a large instance a descent from the start takes too long: proposals of `solve` come before, whose rate tells about
+        that of tries."""
+        proposals = PROPOSALS * self.search.processes
+        while proposals and (each := self.search.solve(proposals)):
+            self.rate = BY_PROPOSAL / each
+            if self.left() > 4 * self.around:
+                return
+            proposals = min(1_000_000, int(SURE * (self.left() - self.around) / each)) if self.rate else 0
+            self.rate, proposals = None, proposals if proposals > PROPOSALS * self.search.processes else 0
+
+    def anneal(self):
+        """The pieces: the first chooses the heat, the last ones are short, and one that isn't over at the end is lost."""
+        whole = self.left()
+        longest = min(max(min(whole / PIECES, LONGEST), self.around / MOST_AROUND), SURE * whole / 2)
+        piece = self.timed(max(FIRST * whole, min(longest, 3 * self.around)), None)
+        if piece:
+            self.cooling.begin(piece.heat[0], piece.tries, int(self.rate * max(self.left(), 0)))
+        while piece and self.left() > 0:
+            left = self.left()
+            share = min(1.0, longest / left) if left > 1.5 * longest else 1.0
+            piece = self.timed(share * left if share < 1 else SURE * left, self.cooling.cut(share))
+            if piece:
+                self.cooling.passed(share)
+
+    def timed(self, seconds, heat):
+        """A piece that takes about so many seconds."""
+        before = self.left()
+        piece = self.search.call(max(1, math.floor((seconds - self.around) * self.rate)), heat)
+        self.learn(piece, before - self.left())
+        return piece
