@@ -130,9 +130,9 @@ class Search:
 
     def descend(self):
         """A descent from the start, or from the list that is there: a first list, however little time there is."""
-        self.call(0, (0, 0), self.now, limit=None)
+        self.call(0, (0, 0), self.now, has_limit=False)
 
-    def call(self, tries, heat, begin=None, limit=True):
+    def call(self, tries, heat, begin=None, has_limit=True):
         """A piece, which begins where the last one stood, or at INITIAL if it has to choose the heat. Answers None if its time was
         over before it was."""
         begin = begin or (self.last or self.now if heat else self.initial)
@@ -140,7 +140,7 @@ class Search:
         seed = (self.words.seed + self.pieces) % 2**64
         options = ["--heat", "{}:{}".format(*heat)] if heat else []
         at = time.monotonic()
-        limit = max(self.left(), 0.01) if limit and not self.words.tries else None
+        limit = max(self.left(), 0.01) if has_limit and not self.words.tries else None
         status, lines, _ = self.anneal.run(self.model, self.words.initial, "--from", self.room("from"), *self.closing, *options,
                                            "--workers", self.words.workers, f"{seed}:{tries}", limit=limit)
         if status is None:
@@ -163,11 +163,11 @@ class Search:
         self.log(piece, told["cost"], seed)
         return piece
 
-    def solve(self, proposals):
+    def solve(self, proposals, has_limit=True):
         """A run of `solve` from INITIAL. Answers the seconds that a proposal took, or None if its time was over before it was."""
         at = time.monotonic()
         status, head, _ = self.program.run("solve", self.words.model, self.words.initial, *self.closing, f"{self.words.seed}:{proposals}",
-                                           limit=max(self.left(), 0.01), lines=10)
+                                           limit=max(self.left(), 0.01) if has_limit else None, lines=10)
         if status is None:
             return None
         self.bound = int(head[6].split()[1])
@@ -276,14 +276,20 @@ def write_commands(words):
 
 
 def collect(search):
-    """Takes the cheapest of the hosts' lists."""
+    """Takes the cheapest of the hosts' lists. Answers the status: 11 if there is one that isn't feasible here."""
     names = [name for name in glob.glob(f"{glob.escape(search.words.out)}.*") if re.fullmatch("[0-9]+", name.rpartition(".")[2])]
     if not names:
         raise Problem(f"there is no {search.words.out}.1, nor any other list of a host")
+    status = 0
     for name in sorted(names, key=lambda name: (len(name), name)):
-        costs = search.check(name)
-        say(f"{name} costs {costs['cost']}")
-        search.keep(read_list(name), costs["cost"], False)
+        try:
+            cost = search.check(name)["cost"]
+            say(f"{name} costs {cost}")
+            search.keep(read_list(name), cost, False)
+        except Problem as problem:
+            say(problem.line)
+            status = 11
+    return status
 
 
 def work(words):
@@ -294,9 +300,10 @@ def work(words):
         search = Search(words, room, names)
         with lock(f"{search.best}.lock", words.out) as locked:
             for_a_while(locked.name)
+            status = 0
             try:
                 if words.collect:
-                    collect(search)
+                    status = collect(search)
                 else:
                     with Progress(search):
                         search.go()
@@ -306,6 +313,7 @@ def work(words):
             no_more_stops()
             remove(locked.name)
             search.end()
+    return status
 
 
 def main(words=None):

@@ -2,6 +2,8 @@
 import math
 from dataclasses import dataclass
 
+from .words import MOST_PROPOSALS
+
 PIECES, FIRST = 10, 1 / 16  # pieces of a search, and the share of the first one, which chooses the heat
 LONGEST = 10.0  # seconds of a piece, if it then takes as long as MOST_AROUND of what it has besides its tries
 LEAST_PIECE = 2_000_000  # tries of a piece, if their number is given
@@ -11,7 +13,7 @@ PILOT, PILOT_SHARE, GROWTH = 100_000, 0.02, 8  # tries of the first pilot; how m
 SURE = 0.75  # the part of the time that is left for which a last piece is planned, since times swing
 PAIR, MOST_AROUND = 5e-9, 0.1  # seconds for each process and machine in which a descent finds nothing
 FAR = 20  # as many times that takes a descent from the start
-PROPOSALS, BY_PROPOSAL = 2, 6  # of `solve` for each process; tries in the time of a proposal, at least
+PROPOSALS, BY_PROPOSAL = 1, 6  # of `solve` for each process; tries in the time of a proposal, at least
 
 
 @dataclass
@@ -98,13 +100,12 @@ class Timed:
     def begin_large(self):
         """On a large instance a descent from the start takes too long: proposals of `solve` come before, whose rate tells about
         that of tries."""
-        proposals = PROPOSALS * self.search.processes
-        while proposals and (each := self.search.solve(proposals)):
+        least = PROPOSALS * self.search.processes
+        each = self.search.solve(least, has_limit=False)
+        if self.left() > 4 * self.around:
             self.rate = BY_PROPOSAL / each
-            if self.left() > 4 * self.around:
-                return
-            proposals = min(1_000_000, int(SURE * (self.left() - self.around) / each)) if self.rate else 0
-            self.rate, proposals = None, proposals if proposals > PROPOSALS * self.search.processes else 0
+        elif (proposals := int(SURE * (self.left() - self.around) / each)) > least:
+            self.search.solve(min(MOST_PROPOSALS, proposals))
 
     def anneal(self):
         """The pieces: the first chooses the heat, the last ones are short, and one that isn't over at the end is lost."""
