@@ -47,7 +47,7 @@ class Machine:
     def descend(self):
         self.now, self.lists = self.now + self.around, self.lists + 1
 
-    def call(self, tries, heat):
+    def call(self, tries, heat, limit=None):
         if self.take(self.around + tries / self.rate):
             self.calls.append((tries, heat))
             return Piece(tries, self.rate, heat or (1000, 0))
@@ -187,6 +187,16 @@ class Improve(ToolCase):
         put("hosts/best.3", " ".join(["0"] * 100) + "\n")
         self.expect(11, "improve", *words, "--collect")
         self.assertEqual(self.cost(model, initial, "hosts/best"), min(costs))
+
+    def test_call(self):
+        """What a notebook calls."""
+        from reassign_tools import Problem, improve
+        costs = improve("model", [0, 3, 0], "called", tries=400)
+        self.assertEqual((costs.cost, self.cost("model", "initial", "called")), (2411, 2411))
+        for words in ({"tries": 1, "workers": 17}, {"tries": 0}, {"closed": "called", "tries": 1, "seed": -1}):
+            with self.assertRaises(Problem) as raised:
+                improve("model", "initial", "called", **words)
+            self.assertEqual(raised.exception.status, 2)
 
     def test_two_calls(self):
         """The second call of one --out is refused as long as the first runs."""

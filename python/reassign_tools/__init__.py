@@ -9,7 +9,7 @@ Whatever can't be done raises Problem, with a line that says why and the status 
 
 __version__ = "1.0.0"
 
-from .calls import Costs, Solved, check, race, rounds, solve, verify
+from .calls import Costs, Solved, check, improve, race, solve, verify
 from .fleets.fleet import Fleet
 from .models import Model
 from .moves import Move, MoveList, moves

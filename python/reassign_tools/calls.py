@@ -12,7 +12,7 @@ from .models import Model
 from .problems import Problem
 from .program import COSTS, Program, closed_words, slack_words
 from .race_plan import instances_of, solver_of
-from .words import look_at_run_words, processors
+from .words import look_at_run_words
 
 
 @dataclass(frozen=True)
@@ -105,28 +105,20 @@ def verify(model, initial, report, lots, slack=0, closed=None, draws=None, progr
         return int(line.split()[1])
 
 
-def rounds(model, initial, out, seconds=None, proposals=None, rounds=None, slack=None, workers=None, budget=None, seed=1,
-           closed=None, program=None):
-    """Goes on from run to run, and keeps the best list in the file `out`, from which it goes on if that is there already.
+def improve(model, initial, out, seconds=60, tries=None, workers=None, seed=1, closed=None, log=None, program=None, anneal=None):
+    """Looks for the best list in so many `seconds`, or in so many `tries`, and keeps it in the file `out`, from which it goes on if
+    that is there already.
 
-    It ends after so many `seconds`, `proposals` or `rounds`, one of which may be given; else when four rounds in a row find
-    nothing. Without a slack it chooses by itself. Returns the Costs of the best list, which is in `out`. Raises Problem as
-    `check` does, with status 2 if the words are none, and 7 if `out` can't be written or another call writes it. Stopped by
-    KeyboardInterrupt, `out` has the best list so far.
+    `log` names a file that gets a JSON object for each piece. Returns the Costs of the best list, which is in `out`. Raises
+    Problem as `check` does, with status 2 if the words are none, and 7 if `out` can't be written or another call writes it.
+    Stopped by KeyboardInterrupt, `out` has the best list so far.
     """
-    given = {"--seconds": seconds, "--proposals": proposals, "--rounds": rounds, "--slack": slack, "--budget": budget,
-             "--workers": workers or processors(), "--seed": seed, "--program": program}
-    with named(model=model, initial=initial, closed=closed) as files:
+    given = {"--tries": tries, "--seconds": seconds if tries is None else None, "--workers": workers, "--seed": seed, "--log": log,
+             "--program": program, "--anneal": anneal}
+    with named(model=model, initial=initial, closed=closed) as files, Room() as room:
         words = [files["model"], files["initial"], "--out", os.fspath(out), *closed_words(files["closed"])]
         words += [str(word) for name, value in given.items() if value is not None for word in (name, value)]
-        going = many_rounds.Rounds(many_rounds.parser().parse_args(words))
-        going.begin()
-        try:
-            with Room() as room:
-                going.go(room)
-        finally:
-            costs = going.end()
-        return Costs(**costs)
+        return Costs(**improving.improved(improving.parser().parse_args(words), room))
 
 
 def race(instances, seeds=(1,), slacks=(), proposals=(), seconds=(), solvers=None, workers=1, jobs=1, folder=None, program=None):

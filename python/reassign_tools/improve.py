@@ -22,11 +22,12 @@ import glob
 import json
 import os
 import re
+import resource
 import shlex
 import time
 
 from .closing import add_only, fleet_closed, given_list, with_fleet
-from .files import Room, for_a_while, list_text, lock, read_closed, read_list, read_whole, remove, target, write_whole
+from .files import Numbers, Room, for_a_while, list_text, lock, read_closed, read_list, read_whole, remove, target, write_whole
 from .high_stays import with_high_stays
 from .improve_pieces import Cooling, Piece, Timed, pieces_of_tries
 from .improve_progress import Progress
@@ -77,8 +78,8 @@ def seconds(word):
 class Search:
     """The search for a better list: its files, the best list so far, and the calls of the programs."""
 
-    def __init__(self, words, room, names):
-        self.begun = time.monotonic()
+    def __init__(self, words, room, names, begun=None):
+        self.begun = begun or time.monotonic()
         self.words, self.room, self.program = words, room, Program(words.program)
         self.anneal = Program(words.anneal, "anneal")
         inputs = self.program.name, self.anneal.name, words.model, words.initial, words.closed, words.names
@@ -87,9 +88,9 @@ class Search:
             target(words.log, *inputs)
         given = given_list(words, names, room)
         self.closing = closed_words(with_fleet(words, given, names, room) if names else given)
-        self.begun_check = time.monotonic()
+        at, before = time.monotonic(), used()
         self.start_cost = self.check(words.initial)["cost"]
-        self.reading = time.monotonic() - self.begun_check
+        self.reading, self.reading_used = time.monotonic() - at, used() - before  # seconds by the clock, and of processor time
         self.initial = read_list(words.initial)
         self.processes, self.machines = len(self.initial), machines_of(words.model)
         self.model, self.cost, self.now, self.last = words.model, self.start_cost, self.initial, None
@@ -132,7 +133,7 @@ class Search:
         """A descent from the start, or from the list that is there: a first list, however little time there is."""
         self.call(0, (0, 0), self.now, has_limit=False)
 
-    def call(self, tries, heat, begin=None, has_limit=True):
+    def call(self, tries, heat, begin=None, has_limit=True, limit=None):
         """A piece, which begins where the last one stood, or at INITIAL if it has to choose the heat. Answers None if its time was
         over before it was."""
         begin = begin or (self.last or self.now if heat else self.initial)
@@ -140,7 +141,7 @@ class Search:
         seed = (self.words.seed + self.pieces) % 2**64
         options = ["--heat", "{}:{}".format(*heat)] if heat else []
         at = time.monotonic()
-        limit = max(self.left(), 0.01) if has_limit and not self.words.tries else None
+        limit = limit or (max(self.left(), 0.01) if has_limit and not self.words.tries else None)
         status, lines, _ = self.anneal.run(self.model, self.words.initial, "--from", self.room("from"), *self.closing, *options,
                                            "--workers", self.words.workers, f"{seed}:{tries}", limit=limit)
         if status is None:
@@ -152,10 +153,7 @@ class Search:
             told, (found, last) = dict(zip(heads, map(int, values[:10]))), (list(map(int, value.split())) for value in values[10:])
         except ValueError:
             raise self.anneal.no_program("doesn't print what anneal prints") from None
-        if heat is None or heat[0] or not self.last:
-            self.last = last
-        else:
-            self.last = found
+        self.last = last if heat and heat[1] else found
         piece = Piece(tries, tries / max(time.monotonic() - at, 1e-3), heat or (told["heat"], 0))
         self.bound = told["bound"] if self.bound is None else self.bound
         self.pieces, self.tries, self.rate, self.heat = self.pieces + 1, self.tries + tries, piece.rate, piece.heat[1]
@@ -165,14 +163,15 @@ class Search:
 
     def solve(self, proposals, has_limit=True):
         """A run of `solve` from INITIAL. Answers the seconds that a proposal took, or None if its time was over before it was."""
-        at = time.monotonic()
+        before, at = used(), time.monotonic()
         status, head, _ = self.program.run("solve", self.words.model, self.words.initial, *self.closing, f"{self.words.seed}:{proposals}",
                                            limit=max(self.left(), 0.01) if has_limit else None, lines=10)
         if status is None:
             return None
         self.bound = int(head[6].split()[1])
         self.keep(list(map(int, head[8].split()[1:])), int(head[0].split()[1]), False)
-        return max(time.monotonic() - at - self.reading, 0.2 * self.reading) / proposals
+        processor, clock = used() - before, time.monotonic() - at
+        return max(processor - self.reading_used, 0.2 * processor) / proposals * max(1.0, clock / max(processor, 0.01))
 
     def keep(self, found, cost, is_least):
         """Keeps a list if it is the best."""
@@ -211,8 +210,6 @@ class Search:
 
     def end(self):
         """Judges the best list, and tells what was gained."""
-        if not os.path.exists(self.best):
-            write_whole(self.best, [list_text(self.now)])
         costs = self.check(self.best)
         self.bound = self.found_bound() if self.bound is None else self.bound
         moved = sum(a != b for a, b in zip(self.initial, self.now))
@@ -228,15 +225,17 @@ class Search:
         print("".join(f"{name} {costs[name]}\n" for name in COSTS) + sentence)
 
 
+def used():
+    """Seconds of processor time of what has been called so far."""
+    took = resource.getrusage(resource.RUSAGE_CHILDREN)
+    return took.ru_utime + took.ru_stime
+
+
 def machines_of(name):
     """How many machines a model has, which `check` has read."""
-    head = read_head(name)
-    return int(head[1 + 2 * int(head[0])])
-
-
-def read_head(name):
-    with open(name, "rb") as file:
-        return file.read(1 << 16).split()
+    numbers = Numbers(name, 4)
+    numbers.take(2 * numbers.one())
+    return numbers.one()
 
 
 def with_files(words):
@@ -292,28 +291,54 @@ def collect(search):
     return status
 
 
+def locked_search(words, room, names, work, begun=None):
+    """Lets `work` do something with the search of some words, while no other call writes BEST. BEST is there in the end. Answers the
+    search, and what `work` answers."""
+    search = Search(words, room, names, begun)
+    with lock(f"{search.best}.lock", words.out) as locked:
+        for_a_while(locked.name)
+        try:
+            return search, work(search)
+        finally:
+            if not os.path.exists(search.best):
+                write_whole(search.best, [list_text(search.now)])
+            remove(locked.name)
+
+
+def improved(words, room):
+    """Searches, and answers what `check` says of BEST in the end."""
+    search, _ = locked_search(words, room, None, Search.go)
+    return search.check(search.best)
+
+
+def watched(search):
+    """Searches, or collects, until that is over or stopped. Answers the status."""
+    try:
+        if search.words.collect:
+            return collect(search)
+        with Progress(search):
+            search.go()
+    except Stopped:
+        no_more_stops()
+        say(f"stopped; {search.words.out} has the best list so far")
+    return 0
+
+
 def work(words):
     if words.list:
         return write_commands(words)
     names = with_files(words)
     with Room() as room, telling(names.line if names else str):
-        search = Search(words, room, names)
-        with lock(f"{search.best}.lock", words.out) as locked:
-            for_a_while(locked.name)
-            status = 0
-            try:
-                if words.collect:
-                    status = collect(search)
-                else:
-                    with Progress(search):
-                        search.go()
-            except Stopped:
-                no_more_stops()
-                say(f"stopped; {words.out} has the best list so far")
-            no_more_stops()
-            remove(locked.name)
-            search.end()
+        search, status = locked_search(words, room, names, watched, time.monotonic() - age())
+        no_more_stops()
+        search.end()
     return status
+
+
+def age():
+    """Seconds since this process began."""
+    ticks = int(read_whole("/proc/self/stat").rpartition(b")")[2].split()[19])
+    return time.clock_gettime(time.CLOCK_BOOTTIME) - ticks / os.sysconf("SC_CLK_TCK")
 
 
 def main(words=None):

@@ -1,18 +1,18 @@
 """The schedule of `improve`: calls of `anneal` that go on, each with its part of the cooling."""
-import math
 from dataclasses import dataclass
 
 from .words import MOST_PROPOSALS
 
 PIECES, FIRST = 10, 1 / 16  # pieces of a search, and the share of the first one, which chooses the heat
-LONGEST = 10.0  # seconds of a piece, if it then takes as long as MOST_AROUND of what it has besides its tries
+LONGEST = 10.0  # seconds of a piece, if that is long beside what it takes besides its tries:
+AROUND, FAR_BY = 10, 2  # so many times a call without tries, and a descent from the start
 LEAST_PIECE = 2_000_000  # tries of a piece, if their number is given
 ENOUGH = 200_000  # tries for each machine from which on the heat doesn't depend on them
 GOING_ON = 1 / 16  # of the heat: where a search begins that goes on from a list that one has already
 PILOT, PILOT_SHARE, GROWTH = 100_000, 0.02, 8  # tries of the first pilot; how much of the time it takes, else one of more comes
 SURE = 0.75  # the part of the time that is left for which a last piece is planned, since times swing
-PAIR, MOST_AROUND = 5e-9, 0.1  # seconds for each process and machine in which a descent finds nothing
-FAR = 20  # as many times that takes a descent from the start
+PAIR = 5e-9  # seconds for each process and machine in which a descent finds nothing
+FAR, ENTERED = 20, 0.4  # as many times that takes a descent from the start; of it, the time for which a search is tried
 PROPOSALS, BY_PROPOSAL = 1, 6  # of `solve` for each process; tries in the time of a proposal, at least
 
 
@@ -68,62 +68,71 @@ class Timed:
 
     def __init__(self, search, cooling, reading):
         self.search, self.cooling, self.left = search, cooling, search.left
-        self.pairs = PAIR * search.processes * cooling.machines
-        self.around = reading + self.pairs  # seconds of a call besides its tries
+        pairs = PAIR * search.processes * cooling.machines
+        self.around, self.far = reading + pairs, FAR * pairs  # seconds of a call besides its tries, at its least and from the start
         self.rate, self.whole = None, self.left()
 
     def go(self):
-        if self.pairs * FAR < max(0.25 * self.whole, 0.5):
-            self.search.descend()
-            self.measure()
+        if self.far < max(0.25 * self.whole, 0.5):
+            self.begin()
+            piece = self.anneal(FIRST * self.whole)
         else:
-            self.begin_large()
-        if self.rate and self.left() > 2 * self.around:
-            self.anneal()
-
-    def learn(self, piece, seconds):
+            piece = self.begin_large()
         if piece:
-            self.rate = piece.tries / max(seconds - self.around, 0.3 * seconds, 1e-3)
+            self.cool(piece)
 
-    def measure(self):
-        """Short pilots tell the rate of tries, until one takes long enough."""
-        tries = PILOT
-        while self.left() > 0:
+    def learn(self, tries, seconds):
+        self.rate = tries / max(seconds - self.around, 0.3 * seconds, 1e-3)
+
+    def begin(self):
+        """A descent comes first, and then short pilots tell the rate of tries, until one takes long enough."""
+        before = self.left()
+        self.search.descend()
+        self.far, tries, piece = before - self.left(), PILOT, True
+        while piece and self.left() > 0:
             before = self.left()
             piece = self.search.call(tries, (0, 0))
             seconds = before - self.left()
-            self.learn(piece, seconds)
-            if piece is None or seconds - self.around > PILOT_SHARE * self.whole:
+            self.around = min(self.around, seconds)
+            if piece:
+                self.learn(tries, seconds)
+            if seconds > self.around + PILOT_SHARE * self.whole:
                 return
             tries *= GROWTH
 
     def begin_large(self):
-        """On a large instance a descent from the start takes too long: proposals of `solve` come before, whose rate tells about
-        that of tries."""
+        """On a large instance a descent takes too long before a search. Proposals of `solve` come first, whose rate tells about that
+        of tries. If the first piece isn't over in its part of the time, there are more of these. Answers that piece, or None."""
         least = PROPOSALS * self.search.processes
         each = self.search.solve(least, has_limit=False)
-        if self.left() > 4 * self.around:
-            self.rate = BY_PROPOSAL / each
-        elif (proposals := int(SURE * (self.left() - self.around) / each)) > least:
+        self.rate, left, piece = BY_PROPOSAL / each, self.left(), None
+        if left > ENTERED * self.far:
+            piece = self.anneal(0.4 * left, SURE * left)
+        if piece is None and (proposals := int(SURE * (self.left() - self.around) / each)) > least:
             self.search.solve(min(MOST_PROPOSALS, proposals))
-
-    def anneal(self):
-        """The pieces: the first chooses the heat, the last ones are short, and one that isn't over at the end is lost."""
-        whole = self.left()
-        longest = min(max(min(whole / PIECES, LONGEST), self.around / MOST_AROUND), SURE * whole / 2)
-        piece = self.timed(max(FIRST * whole, min(longest, 3 * self.around)), None)
-        if piece:
-            self.cooling.begin(piece.heat[0], piece.tries, int(self.rate * max(self.left(), 0)))
-        while piece and self.left() > 0:
-            left = self.left()
-            share = min(1.0, longest / left) if left > 1.5 * longest else 1.0
-            piece = self.timed(share * left if share < 1 else SURE * left, self.cooling.cut(share))
-            if piece:
-                self.cooling.passed(share)
-
-    def timed(self, seconds, heat):
-        """A piece that takes about so many seconds."""
-        before = self.left()
-        piece = self.search.call(max(1, math.floor((seconds - self.around) * self.rate)), heat)
-        self.learn(piece, before - self.left())
+        if piece is None and self.left() > 0:
+            self.search.call(0, (0, 0))
         return piece
+
+    def anneal(self, seconds, limit=None):
+        """The first piece, which chooses the heat. Its tries take so many seconds."""
+        if not self.rate or self.left() < 2 * self.around:
+            return None
+        before = self.left()
+        piece = self.search.call(max(1, int(seconds * self.rate)), None, limit=limit)
+        if piece:
+            self.learn(piece.tries, before - self.left())
+            self.cooling.begin(piece.heat[0], piece.tries, int(self.rate * max(self.left(), 0)))
+        return piece
+
+    def cool(self, piece):
+        """The other pieces: the last ones are short, and one that isn't over at the end is lost."""
+        whole = self.left()
+        longest = min(max(min(whole / PIECES, LONGEST), self.around * AROUND, self.far * FAR_BY), SURE * whole / 2)
+        while piece and (left := self.left()) > 0:
+            share = longest / left if left > 1.5 * longest else 1.0
+            seconds = (longest if share < 1 else SURE * left) - self.around
+            piece = self.search.call(max(1, int(seconds * self.rate)), self.cooling.cut(share))
+            if piece:
+                self.learn(piece.tries, left - self.left())
+                self.cooling.passed(share)

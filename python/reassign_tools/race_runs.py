@@ -17,8 +17,8 @@ from . import __version__
 from .children import begin, forget, signal_group
 from .files import PIECE, list_text, read_whole, write_whole
 from .problems import Problem
-from .program import slack_words
-from .race_plan import OWN, digest, is_one_run
+from .program import Program, slack_words
+from .race_plan import ANNEAL, OWN, digest
 from .running import command_of, stopped_status
 
 CURVE_POINTS = 150
@@ -198,22 +198,20 @@ def run_solve(running, program, instance, job, workers, new):
     return outcome
 
 
-def run_rounds(running, program, instance, job, workers, new):
-    """A run of `rounds`, for a number of seconds or for more proposals than one run may have."""
-    log = f"{new}.log"
-    budget = ["--proposals", job.proposals] if job.proposals else ["--seconds", f"{job.seconds:g}"]
-    words = [*command_of("rounds"), instance.model, instance.initial, "--out", new, "--program", program, "--workers", workers,
-             "--seed", job.seed, "--slack", job.slack, "--log", log, *budget]
-    run = timed(running, words)
-    outcome = Outcome(seconds=run.seconds, processor=run.processor)
+def run_improve(running, program, instance, job, workers, new, seconds):
+    """A run of `improve`, for a number of seconds. Its proposals are tries."""
+    log, anneal = f"{new}.log", Program(None, ANNEAL).binary()
+    run = timed(running, [*command_of("improve"), instance.model, instance.initial, "--out", new, "--program", program, "--anneal",
+                          anneal, "--workers", workers, "--seed", job.seed, "--log", log, "--seconds", f"{seconds:.6f}"])
+    outcome = Outcome(given=seconds, seconds=run.seconds, processor=run.processor, fault=fault_of(run), end=end_of(run))
+    outcome.version = f"{__version__} {digest(anneal)[:12]}"
     try:
         with open(log, encoding="utf-8") as file:
-            rounds = [json.loads(line) for line in file]
-        outcome.proposals = sum(one["proposals"] for one in rounds)
-        outcome.curve = thinned([(one["seconds"], one["cost"]) for one in rounds])
+            pieces = [json.loads(line) for line in file]
+        outcome.proposals = sum(one["tries"] for one in pieces)
+        outcome.curve = thinned([(one["seconds"], one["cost"]) for one in pieces])
     except (OSError, ValueError, KeyError, TypeError):
         outcome.proposals = None
-    outcome.fault, outcome.end = fault_of(run), end_of(run)
     return outcome
 
 
@@ -318,14 +316,16 @@ def run_job(plan, job, place, as_long):
     for name in (new, f"{new}.log"):
         if os.path.exists(name):  # of a run that was stopped
             os.unlink(name)
-    if job.solver != OWN:
+    if job.solver == ANNEAL:
+        seconds = job.seconds or as_long or SHORTEST
+        outcome = run_improve(place.running, place.program, instance, job, plan.workers, new, seconds)
+    elif job.solver != OWN:
         solver = plan.solvers[job.solver]
         seconds = job.seconds or as_long or SHORTEST
         outcome = run_other(place.running, solver, instance, job, seconds, new)
         outcome.version = version_of(shlex.split(solver.command))
     else:
-        run = run_solve if is_one_run(job) else run_rounds
-        outcome = run(place.running, place.program, instance, job, plan.workers, new)
+        outcome = run_solve(place.running, place.program, instance, job, plan.workers, new)
         outcome.version = f"{__version__} {digest(place.program)[:12]}"
     outcome.host = platform.node()
     return outcome
