@@ -54,8 +54,7 @@ def parser():
     ends.add_argument("--seconds", metavar="S", type=seconds, default=60.0, help="end after so many seconds (60)")
     ends.add_argument("--minutes", metavar="M", type=number(1, 1_000_000), help="end after so many minutes")
     ends.add_argument("--tries", metavar="N", type=number(1, MOST_TRIES), help="make so many tries, however long they take")
-    words.add_argument("--workers", metavar="W", type=number(1, MOST_LOTS), default=processors(),
-                       help="workers that search (as many as processors)")
+    words.add_argument("--workers", metavar="W", type=number(1, MOST_LOTS), help="workers that search (as many as processors; with --tries 1)")
     words.add_argument("--seed", metavar="S", type=number(0, LARGEST_SEED), default=1, help="seed of the search (1)")
     words.add_argument("--closed", metavar="FILE", type=file_name, help="machines that nobody may enter")
     add_only(words)
@@ -81,6 +80,7 @@ class Search:
     def __init__(self, words, room, names, begun=None):
         self.begun = begun or time.monotonic()
         self.words, self.room, self.program = words, room, Program(words.program)
+        self.workers = words.workers or (1 if words.tries else processors())
         self.anneal = Program(words.anneal, "anneal")
         inputs = self.program.name, self.anneal.name, words.model, words.initial, words.closed, words.names
         self.best = target(words.out, words.log, *inputs)
@@ -143,7 +143,7 @@ class Search:
         at = time.monotonic()
         limit = limit or (max(self.left(), 0.01) if has_limit and not self.words.tries else None)
         status, lines, _ = self.anneal.run(self.model, self.words.initial, "--from", self.room("from"), *self.closing, *options,
-                                           "--workers", self.words.workers, f"{seed}:{tries}", limit=limit)
+                                           "--workers", self.workers, f"{seed}:{tries}", limit=limit)
         if status is None:
             return None
         heads, values = zip(*(line.partition(" ")[::2] for line in lines)) if lines else ((), ())
@@ -187,7 +187,7 @@ class Search:
             return
         line = {"piece": self.pieces, "seconds": round(self.passed(), 3), "cost": self.cost, "bound": self.bound,
                 "start": self.start_cost, "tries": piece.tries, "rate": round(piece.rate), "heat": list(piece.heat), "found": found,
-                "seed": seed, "workers": self.words.workers}
+                "seed": seed, "workers": self.workers}
         try:
             with open(self.words.log, "a", encoding="utf-8") as file:
                 file.write(json.dumps(line) + "\n")
@@ -268,7 +268,7 @@ def write_commands(words):
     ending = ["--tries", words.tries] if words.tries else ["--minutes", words.minutes] if words.minutes else ["--seconds", f"{words.seconds:g}"]
     for option, name in (("--closed", words.closed), ("--names", words.names), ("--program", words.program), ("--anneal", words.anneal)):
         files += [option, full(name)] if name else []
-    files += ["--only"] if words.only else []
+    files += [*(["--only"] if words.only else []), *(["--workers", words.workers] if words.workers else [])]
     for host in range(1, count + 1):
         own = ["--out", f"{full(words.out)}.{host}", *ending, "--seed", (words.seed + 1_000_000 * (host - 1)) % 2**64]
         print(shlex.join(map(str, [*command_of("improve"), *files, *own])))

@@ -13,7 +13,7 @@ PILOT, PILOT_SHARE, GROWTH = 100_000, 0.02, 8  # tries of the first pilot; how m
 SURE = 0.75  # the part of the time that is left for which a last piece is planned, since times swing
 PAIR = 5e-9  # seconds for each process and machine in which a descent finds nothing
 FAR, ENTERED = 20, 0.4  # as many times that takes a descent from the start; of it, the time for which a search is tried
-PROPOSALS, BY_PROPOSAL = 1, 6  # of `solve` for each process; tries in the time of a proposal, at least
+PROPOSALS, BY_PROPOSAL = 1, 12  # of `solve` for each process; tries in the time of a proposal, about
 
 
 @dataclass
@@ -93,7 +93,8 @@ class Timed:
             before = self.left()
             piece = self.search.call(tries, (0, 0))
             seconds = before - self.left()
-            self.around = min(self.around, seconds)
+            if tries == PILOT:
+                self.around = seconds
             if piece:
                 self.learn(tries, seconds)
             if seconds > self.around + PILOT_SHARE * self.whole:
@@ -107,28 +108,33 @@ class Timed:
         each = self.search.solve(least, has_limit=False)
         self.rate, left, piece = BY_PROPOSAL / each, self.left(), None
         if left > ENTERED * self.far:
-            piece = self.anneal(0.4 * left, SURE * left)
+            piece = self.anneal(0.4 * left, SURE * left, is_known=False)
+            self.far = min(self.far, left - self.left())
         if piece is None and (proposals := int(SURE * (self.left() - self.around) / each)) > least:
             self.search.solve(min(MOST_PROPOSALS, proposals))
         if piece is None and self.left() > 0:
             self.search.call(0, (0, 0))
         return piece
 
-    def anneal(self, seconds, limit=None):
-        """The first piece, which chooses the heat. Its tries take so many seconds."""
+    def anneal(self, seconds, limit=None, is_known=True):
+        """The first piece, which chooses the heat. Its tries take so many seconds. It tells their rate, if it is known what else
+        takes its time."""
         if not self.rate or self.left() < 2 * self.around:
             return None
         before = self.left()
         piece = self.search.call(max(1, int(seconds * self.rate)), None, limit=limit)
         if piece:
-            self.learn(piece.tries, before - self.left())
+            if is_known:
+                self.learn(piece.tries, before - self.left())
             self.cooling.begin(piece.heat[0], piece.tries, int(self.rate * max(self.left(), 0)))
         return piece
 
     def cool(self, piece):
         """The other pieces: the last ones are short, and one that isn't over at the end is lost."""
         whole = self.left()
-        longest = min(max(min(whole / PIECES, LONGEST), self.around * AROUND, self.far * FAR_BY), SURE * whole / 2)
+        if whole < 2 * self.far:
+            self.cooling.heat = 0.0  # after a piece at some heat a descent takes about as long as one from the start
+        longest = min(max(min(whole / PIECES, LONGEST), self.around * AROUND, self.far * FAR_BY), SURE * whole)
         while piece and (left := self.left()) > 0:
             share = longest / left if left > 1.5 * longest else 1.0
             seconds = (longest if share < 1 else SURE * left) - self.around

@@ -1,6 +1,6 @@
 """Draws a run of `reassign solve`, or the machines before and after, as a picture (SVG, to standard output).
 
-REPORT alone draws the run; --run REPORT MODEL INITIAL draws it with the cost of its start; REPORT MODEL INITIAL, or any list,
+LOG .. draws searches by `improve`: what is left of the gap over the seconds. REPORT alone draws the run; --run REPORT MODEL INITIAL draws it with the cost of its start; REPORT MODEL INITIAL, or any list,
 LIST MODEL INITIAL, draws the machines, before and after.
 
 The run: over the places of the report's journal the cost, the least so far and the printed bound; below them how far these are
@@ -24,6 +24,7 @@ import shlex
 import sys
 
 from .files import read_list, target, write_whole
+from .improve_pictures import draw_logs, is_log
 from .machine_pictures import draw_machines, title_of
 from .machine_uses import uses_of
 from .models import Model, same_sizes
@@ -38,9 +39,10 @@ from .words import Words, any_file_name, shown
 
 def parser():
     words = Words("plot", __doc__)
-    words.add_argument("report", metavar="REPORT|LIST", type=any_file_name)
+    words.add_argument("report", metavar="REPORT|LIST|LOG", type=any_file_name)
     words.add_argument("model", metavar="MODEL", type=any_file_name, nargs="?")
     words.add_argument("initial", metavar="INITIAL", type=any_file_name, nargs="?")
+    words.add_argument("more", metavar="LOG", type=any_file_name, nargs="*", help="further logs, from the second on")
     words.add_argument("--out", metavar="FILE", type=any_file_name, help="where the picture goes (standard output)")
     words.add_argument("--run", action="store_true", help="draw the run, though there are a model and a start")
     words.add_argument("--names", metavar="FILE", type=any_file_name, help="the names of the model, as `named pack` writes them")
@@ -81,9 +83,11 @@ def machines(words, instance, end, command):
 
 
 def picture_of(words):
-    files = filter(None, (words.report, words.model, words.initial))
+    files = list(filter(None, (words.report, words.model, words.initial, *words.more)))
     options = ["--run"] * words.run + (["--names", words.names] if words.names else [])
     command = "tools/plot " + shown(shlex.join([*options, *files]))
+    if words.is_log:
+        return draw_logs(files, words.title and shown(words.title), command)
     instance = Instance(words.model, words.initial) if words.model else None
     if is_list(words.report):
         if words.run or not instance:
@@ -100,13 +104,16 @@ def picture_of(words):
 
 
 def work(words):
-    if words.model and not words.initial:
+    words.is_log = is_log(words.report)
+    if words.more and not words.is_log or words.is_log and words.run:
+        raise Problem(f"{words.report} is {'a' if words.is_log else 'no'} log of `improve`; plot --help shows how to call it", 2)
+    if words.model and not words.initial and not words.is_log:
         raise Problem("MODEL stands alone, without INITIAL; plot --help shows how to call it", 2)
     if words.run and not words.model:
         raise Problem("--run wants MODEL and INITIAL; plot --help shows how to call it", 2)
     if words.names and not words.model:
         raise Problem("--names is for a model and its machines; plot --help shows how to call it", 2)
-    out = words.out and target(words.out, words.report, words.model, words.initial, words.names)
+    out = words.out and target(words.out, words.report, words.model, words.initial, *words.more, words.names)
     picture = picture_of(words).encode()
     if out:
         write_whole(out, [picture])

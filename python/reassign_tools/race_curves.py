@@ -4,7 +4,7 @@ import math
 from .pictures import ACROSS, BLACK, BLUE, FAINT, GREEN, GRID, ORANGE, PURPLE, SKY, Picture, decades, log_ticks
 from .race_plan import OWN
 from .race_rows import groups_of
-from .texts import percent
+from .texts import counted, percent
 
 COLOURS = (BLUE, ORANGE, GREEN, PURPLE, SKY, BLACK)
 DASHES = ("", "7 4", "2 3", "9 3 2 3")
@@ -21,6 +21,11 @@ def quantile(values, part):
     return values[low] + (values[high] - values[low]) * (at - low)
 
 
+def styled(at):
+    """The colour and the dashes of a line by its number."""
+    return COLOURS[at % len(COLOURS)], DASHES[at // len(COLOURS) % len(DASHES)]
+
+
 class Line:
     """The runs of one solver and slack on one instance."""
 
@@ -30,7 +35,7 @@ class Line:
         self.way, self.bound = max(first.start - first.bound, 1), first.bound
         self.curves = [row.curve for row in rows if row.curve and row.feasible]
         self.ends = [(max(row.time(), 0.001), self.left(row.cost)) for row in rows if row.feasible]
-        self.colour, self.dash = COLOURS[at % len(COLOURS)], DASHES[at // len(COLOURS) % len(DASHES)]
+        self.colour, self.dash = styled(at)
 
     def left(self, cost):
         return max((cost - self.bound) / self.way, SMALLEST_LEFT)
@@ -116,7 +121,7 @@ class Panel:
             self.picture.line(x, y, x + 24, y, line.colour, 2, line.dash)
             end = f"{percent(line.at_end(0.5))} left" if line.ends else "no feasible list"
             self.picture.text(x + 32, y + 4, line.name)
-            self.picture.text(x + 32, y + 20, f"{end}, {len(line.ends)} runs", size=12, colour=FAINT)
+            self.picture.text(x + 32, y + 20, f"{end}, {counted(len(line.ends), 'run')}", size=12, colour=FAINT)
             y += 42
 
 
