@@ -125,14 +125,14 @@ def race(instances, seeds=(1,), slacks=(), proposals=(), seconds=(), solvers=Non
     """Runs solvers on instances, with the same seeds and budgets, and judges every list by `reassign check`.
 
     `instances` are names or patterns of model files or folders, as tools/race takes them; `proposals` and `seconds` are lists of
-    budgets. `solvers` are other programs: their commands, with {model}, {initial}, {new}, {seconds} and {seed}, by their names.
+    budgets. `solvers` are other programs: their commands, with {model}, {initial}, {new}, {seconds} and {seed}, by their names; `anneal` needs none.
     So many `jobs` run side by side. `folder` keeps the runs, and a call with the same words goes on there. Returns a list of
     Row, one for each run. Raises Problem with status 2 if the words are no race, 3 if a file can't be read, 6 if a start breaks
     a rule, 9 if `folder` has something else.
     """
     if bool(proposals) == bool(seconds):
         raise Problem("a race wants either proposals or seconds", 2)
-    others = [solver_of(f"{name}: {command}") for name, command in (solvers or {}).items()]
+    others = [solver_of(f"{name}: {command}" if command else name) for name, command in (solvers or {}).items()]
     plan = races.made_plan(instances_of(instances), others, list(seeds), [str(slack) for slack in slacks], list(proposals),
                            list(seconds), workers)
     rows, is_stopped = races.raced(plan, Program(program), folder, jobs)
