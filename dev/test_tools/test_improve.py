@@ -137,6 +137,18 @@ class Improve(ToolCase):
         self.assertLessEqual(whole["bound"], whole["cost"])
         self.assertIn("is left", whole["sentence"])
 
+    def test_plot(self):
+        """`plot` draws a line for each log, and refuses what is none."""
+        for seed in (1, 2):
+            self.expect(0, "improve", "model", "initial", "--out", "drawn", "--tries", 500, "--seed", seed, "--log", f"log{seed}")
+        self.expect(0, "plot", "--out", "picture.svg", "log1", "log2", "log1", "log2")
+        self.assertEqual(text_of("picture.svg").count("<polyline"), 4)
+        put("cut_log", text_of("log1")[:-9])
+        self.expect(9, "plot", "cut_log")
+        self.expect(9, "plot", "log1", "model")
+        self.expect(2, "plot", "--run", "log1")
+        self.expect(2, "plot", "report", "model", "initial", "log1")
+
     def test_little_time(self):
         """A time too short for anything still gives a descent."""
         model, initial = self.make_instance("short", 20, 100, 3, 1)

@@ -105,9 +105,10 @@ def verify(model, initial, report, lots, slack=0, closed=None, draws=None, progr
         return int(line.split()[1])
 
 
-def improve(model, initial, out, seconds=60, tries=None, workers=None, seed=1, closed=None, log=None, program=None, anneal=None):
-    """Looks for the best list in so many `seconds`, or in so many `tries`, and keeps it in the file `out`, from which it goes on if
-    that is there already.
+def improve(model, initial, out, seconds=60, tries=None, workers=None, seed=1, closed=None, log=None, program=None,
+            anneal=None):
+    """Looks for the best list in so many `seconds`, or `tries`, and keeps it in the file `out`, from which it goes on if that is
+    there already.
 
     `log` names a file that gets a JSON object for each piece. Returns the Costs of the best list, which is in `out`. Raises
     Problem as `check` does, with status 2 if the words are none, and 7 if `out` can't be written or another call writes it.

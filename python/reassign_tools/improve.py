@@ -54,7 +54,8 @@ def parser():
     ends.add_argument("--seconds", metavar="S", type=seconds, default=60.0, help="end after so many seconds (60)")
     ends.add_argument("--minutes", metavar="M", type=number(1, 1_000_000), help="end after so many minutes")
     ends.add_argument("--tries", metavar="N", type=number(1, MOST_TRIES), help="make so many tries, however long they take")
-    words.add_argument("--workers", metavar="W", type=number(1, MOST_LOTS), help="workers that search (as many as processors; with --tries 1)")
+    words.add_argument("--workers", metavar="W", type=number(1, MOST_LOTS),
+                       help="workers that search (as many as processors; with --tries 1)")
     words.add_argument("--seed", metavar="S", type=number(0, LARGEST_SEED), default=1, help="seed of the search (1)")
     words.add_argument("--closed", metavar="FILE", type=file_name, help="machines that nobody may enter")
     add_only(words)
@@ -150,7 +151,8 @@ class Search:
         try:
             if heads != HEADS:
                 raise ValueError
-            told, (found, last) = dict(zip(heads, map(int, values[:10]))), (list(map(int, value.split())) for value in values[10:])
+            told = dict(zip(heads, map(int, values[:10])))
+            found, last = (list(map(int, value.split())) for value in values[10:])
         except ValueError:
             raise self.anneal.no_program("doesn't print what anneal prints") from None
         self.last = last if heat and heat[1] else found
@@ -164,8 +166,9 @@ class Search:
     def solve(self, proposals, has_limit=True):
         """A run of `solve` from INITIAL. Answers the seconds that a proposal took, or None if its time was over before it was."""
         before, at = used(), time.monotonic()
-        status, head, _ = self.program.run("solve", self.words.model, self.words.initial, *self.closing, f"{self.words.seed}:{proposals}",
-                                           limit=max(self.left(), 0.01) if has_limit else None, lines=10)
+        words = "solve", self.words.model, self.words.initial, *self.closing, f"{self.words.seed}:{proposals}"
+        limit = max(self.left(), 0.01) if has_limit else None
+        status, head, _ = self.program.run(*words, limit=limit, lines=10)
         if status is None:
             return None
         self.bound = int(head[6].split()[1])
@@ -265,9 +268,11 @@ def write_commands(words):
         raise Problem(f"--list {words.list}: there are {count:,} hosts; possible are 1 to {MOST_HOSTS:,}", 2)
     full = os.path.abspath
     files = [full(words.model)] + ([full(words.initial)] if words.initial else [])
-    ending = ["--tries", words.tries] if words.tries else ["--minutes", words.minutes] if words.minutes else ["--seconds", f"{words.seconds:g}"]
-    for option, name in (("--closed", words.closed), ("--names", words.names), ("--program", words.program), ("--anneal", words.anneal)):
+    for option, name in (("--closed", words.closed), ("--names", words.names), ("--program", words.program),
+                         ("--anneal", words.anneal)):
         files += [option, full(name)] if name else []
+    seconds = 60 * words.minutes if words.minutes else words.seconds
+    ending = ["--tries", words.tries] if words.tries else ["--seconds", f"{seconds:.6f}"]
     files += [*(["--only"] if words.only else []), *(["--workers", words.workers] if words.workers else [])]
     for host in range(1, count + 1):
         own = ["--out", f"{full(words.out)}.{host}", *ending, "--seed", (words.seed + 1_000_000 * (host - 1)) % 2**64]
@@ -276,7 +281,8 @@ def write_commands(words):
 
 def collect(search):
     """Takes the cheapest of the hosts' lists. Answers the status: 11 if there is one that isn't feasible here."""
-    names = [name for name in glob.glob(f"{glob.escape(search.words.out)}.*") if re.fullmatch("[0-9]+", name.rpartition(".")[2])]
+    names = glob.glob(f"{glob.escape(search.words.out)}.*")
+    names = [name for name in names if re.fullmatch("[0-9]+", name.rpartition(".")[2])]
     if not names:
         raise Problem(f"there is no {search.words.out}.1, nor any other list of a host")
     status = 0

@@ -1,6 +1,8 @@
 """Draws a run of `reassign solve`, or the machines before and after, as a picture (SVG, to standard output).
 
-LOG .. draws searches by `improve`: what is left of the gap over the seconds. REPORT alone draws the run; --run REPORT MODEL INITIAL draws it with the cost of its start; REPORT MODEL INITIAL, or any list,
+LOG .. draws searches by `improve`: what is left of the gap over the seconds.
+
+REPORT alone draws the run; --run REPORT MODEL INITIAL draws it with the cost of its start; REPORT MODEL INITIAL, or any list,
 LIST MODEL INITIAL, draws the machines, before and after.
 
 The run: over the places of the report's journal the cost, the least so far and the printed bound; below them how far these are

@@ -200,7 +200,8 @@ def solver_of(word):
     name, colon, command = word.partition(":")
     name, command = name.strip(), command.strip()
     if not colon or not re.fullmatch(r"[\w.+-]{1,40}", name) or name in (OWN, ANNEAL):
-        raise Problem(f"--solver {word!r}: wanted is 'NAME: COMMAND', with a name of letters and digits other than {OWN} and {ANNEAL}", 2)
+        raise Problem(f"--solver {word!r}: wanted is 'NAME: COMMAND', with a name of letters and digits other than {OWN} and "
+                      f"{ANNEAL}", 2)
     try:
         words = shlex.split(command)
     except ValueError as fault:
