@@ -135,9 +135,9 @@ class Search:
         self.call(0, (0, 0), self.now, has_limit=False)
 
     def call(self, tries, heat, begin=None, has_limit=True, limit=None):
-        """A piece, which begins where the last one stood, or at INITIAL if it has to choose the heat. Answers None if its time was
-        over before it was."""
-        begin = begin or (self.last or self.now if heat else self.initial)
+        """A piece, which begins where the last one stood; at INITIAL if it has to choose the heat; at the best list without heat.
+        Answers None if its time was over before it was."""
+        begin = begin or (self.initial if heat is None else self.last if heat[0] and self.last else self.now)
         write_whole(self.room("from"), [list_text(begin)])
         seed = (self.words.seed + self.pieces) % 2**64
         options = ["--heat", "{}:{}".format(*heat)] if heat else []
@@ -155,7 +155,7 @@ class Search:
             found, last = (list(map(int, value.split())) for value in values[10:])
         except ValueError:
             raise self.anneal.no_program("doesn't print what anneal prints") from None
-        self.last = last if heat and heat[1] else found
+        self.last = last if heat and heat[1] else None if heat is None and self.had_list else found
         piece = Piece(tries, tries / max(time.monotonic() - at, 1e-3), heat or (told["heat"], 0))
         self.bound = told["bound"] if self.bound is None else self.bound
         self.pieces, self.tries, self.rate, self.heat = self.pieces + 1, self.tries + tries, piece.rate, piece.heat[1]
