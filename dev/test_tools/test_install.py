@@ -81,7 +81,7 @@ class Install(ToolCase):
                    ("share/fish/vendor_completions.d", ["fish", "-n"]))
         for folder, reader in readers:
             names = sorted(os.listdir(f"{place}/{folder}"))
-            self.assertTrue(any("rounds" in name or "tools" in name for name in names), names)
+            self.assertTrue(any("improve" in name or "tools" in name for name in names), names)
             for name in names:
                 if shutil.which(reader[0]) and not os.path.islink(f"{place}/{folder}/{name}"):
                     self.expect_run(*reader, f"{place}/{folder}/{name}", env={**os.environ, "LC_ALL": "C.UTF-8"})
