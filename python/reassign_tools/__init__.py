@@ -10,8 +10,9 @@ can't be one is a TypeError or a ValueError, which names it.
 
 __version__ = "1.0.0"
 
-from .calls import Bound, Repaired, Solved, bound, check, moves, plot, race, repair, rounds, solve, summary, verify
+from .calls import Bound, Repaired, Solved, bound, check, improve, moves, plot, race, repair, solve, summary, verify
 from .fleets.fleet import Fleet
+from .improve import Improved
 from .machine_uses import ResourceSum
 from .models import Model
 from .moves import MoveList, Point
@@ -21,5 +22,6 @@ from .program import Costs
 from .summary import Full, Summary, WorkerSum
 from .waves import Move, Stuck, Wave
 
-__all__ = ["Bound", "Costs", "Fleet", "Full", "Model", "Move", "MoveList", "Names", "Point", "Problem", "Repaired", "ResourceSum", "Solved", "Stuck",
-           "Summary", "Wave", "WorkerSum", "bound", "check", "moves", "plot", "race", "repair", "rounds", "solve", "summary", "verify"]
+__all__ = ["Bound", "Costs", "Fleet", "Full", "Improved", "Model", "Move", "MoveList", "Names", "Point", "Problem", "Repaired",
+           "ResourceSum", "Solved", "Stuck", "Summary", "Wave", "WorkerSum", "bound", "check", "improve", "moves", "plot", "race",
+           "repair", "solve", "summary", "verify"]

@@ -1,10 +1,10 @@
 """Moves the processes of closed machines elsewhere.
 
 With `--closed` alone nobody enters a closed machine, but nobody has to leave. This tool writes a model in which staying on
-a closed machine costs more than anything else (the way from it to itself, which a model may give any cost), and runs
-`reassign solve` on it with proposals for the processes that stand there, in turns. If some stay, all processes are
-proposed too, B times, to make room; and if some stay then, the closed machines have no capacity of a resource that isn't
-transient, and `reassign repair` looks for a way there (tools/repair_words). What comes is judged with MODEL itself.
+a closed machine costs more than anything else (the way from it to itself, which a model may give any cost), and runs `anneal`
+on it: first a descent in which nobody else moves. If some stay, B tries with all processes make room; and if some stay then,
+the closed machines have no capacity of a resource that isn't transient, and `reassign repair` looks for a way there
+(tools/repair_words). What comes is judged with MODEL itself.
 
 Others, who stood on open machines, may have moved by then. They are put back: all of them, else by halves, as long as
 `reassign check` calls the list feasible, until none can go back alone, or after so many checks (--checks). It is told how many
@@ -27,16 +27,14 @@ these are those of the model, as elsewhere. For example
 
     $ tools/evacuate examples/sample/model examples/sample/initial /tmp/closed --out /tmp/emptied"""
 import copy
-import random
 from collections import Counter
 from itertools import chain
 
 from .closing import add_only, given_list, with_fleet
 from .evacuate_most import empty_most
 from .files import Room, list_text, read_list, target, write_whole
-from .going_on import going_on
-from .lots import lot_of
-from .models import LARGEST, Model, closed_flags, same_sizes
+from .high_stays import pinned, with_high_stays
+from .models import Model, closed_flags, same_sizes
 from .names import Names
 from .problems import Problem, telling
 from .program import COSTS, Program, closed_words
@@ -45,9 +43,9 @@ from .repair_words import parser as repair_parser
 from .running import no_more_stops, run_tool, say
 from .states import State
 from .texts import counted, some
-from .words import LARGEST_SEED, MOST_LOTS, MOST_PROPOSALS, Words, any_file_name, file_name, number, processors
+from .words import LARGEST_SEED, MOST_LOTS, Words, any_file_name, file_name, number, processors
 
-WINDOW = 64  # machines that a shift looks at
+BUDGET, MOST_BUDGET = 10_000_000, 10**12  # tries for all processes in a turn
 MOST_TOLD, MOST_LOOKED = 10, 200  # processes that are told of, and that are looked at
 
 
@@ -60,10 +58,11 @@ def parser():
                        help="the machines to be emptied; with --most those that are closed before, if there are some")
     words.add_argument("--out", metavar="NEW", type=file_name, required=True, help="the new list")
     words.add_argument("--names", metavar="FILE", type=any_file_name, help="the names of the model, as `named pack` writes them")
-    words.add_argument("--budget", metavar="B", type=number(0, MOST_PROPOSALS), default=MOST_PROPOSALS,
-                       help="proposals for all processes in a turn, if some stay (1000000); 0 moves nobody else")
+    words.add_argument("--anneal", metavar="FILE", type=any_file_name, help="the program anneal (else as --program, by ANNEAL)")
+    words.add_argument("--budget", metavar="B", type=number(0, MOST_BUDGET), default=BUDGET,
+                       help=f"tries for all processes in a turn, if some stay ({BUDGET}); 0 moves nobody else")
     words.add_argument("--workers", metavar="W", type=number(1, MOST_LOTS), default=processors(),
-                       help="workers of these proposals (as many as processors)")
+                       help="workers of these tries (as many as processors)")
     words.add_argument("--checks", metavar="N", type=number(0, 1_000_000), default=2000,
                        help="put others back by at most so many calls of `reassign check` (2000)")
     words.add_argument("--seed", metavar="S", type=number(0, LARGEST_SEED), default=1, help="seed of the choices (1)")
@@ -78,7 +77,8 @@ def parser():
 class Evacuation:
     def __init__(self, words, room, names):
         self.words, self.room, self.program = words, room, Program(words.program)
-        inputs = self.program.name, words.model, words.initial, words.closed, words.names
+        self.anneal = Program(words.anneal, "anneal")
+        inputs = self.program.name, self.anneal.name, words.model, words.initial, words.closed, words.names
         self.out = target(words.out, *inputs)
         self.model_out = words.model_out and target(words.model_out, words.out, *inputs)
         given = given_list(words, names, room)
@@ -89,10 +89,10 @@ class Evacuation:
         self.flags = closed_flags(self.model, given)  # of the machines that are emptied; `shut` are all that nobody may enter
         self.closed = with_fleet(words, given, self.names, room)
         self.shut, self.closing = closed_flags(self.model, self.closed), closed_words(self.closed)
-        self.changed = self.with_high_stays()
+        self.changed = with_high_stays(self.model, self.start, self.flags)
         if words.model_out:
             write_whole(self.model_out, self.changed.pieces())
-        self.chance, self.now, self.turns, self.checks = random.Random(words.seed), list(self.start), 0, words.checks
+        self.now, self.turns, self.checks = list(self.start), 0, words.checks
 
     def staying(self, now=None):
         """The processes on the machines that are emptied."""
@@ -102,59 +102,22 @@ class Evacuation:
         """The processes of other machines that moved."""
         return [p for p, (home, now) in enumerate(zip(self.start, self.now)) if home != now and not self.flags[home]]
 
-    def most_rise(self, process, ways):
-        """No less than what the cost rises by if a process leaves its machine."""
-        model, required = self.model, self.model.required[process]
-        load = sum(weight * more for weight, more in zip(model.load_weights, required))
-        balance = sum(weight * (goal * required[one] + required[two]) for one, two, goal, weight in model.balances)
-        weights = model.weights
-        return load + balance + weights[0] * model.move_cost[process] + weights[1] + weights[2] * max(ways)
-
-    def with_high_stays(self):
-        """The model in which staying on a closed machine costs most."""
-        model, changed = self.model, copy.copy(self.model)
-        changed.ways, changed.rows = list(model.ways), {}
-        most = max((self.most_rise(p, model.way_costs(self.start[p])) for p in self.staying(self.start)), default=0)
-        if model.weights[2] * LARGEST <= most:
-            changed.ways = [b" ".join([b"0"] * model.machines)] * model.machines
-            changed.weights = [*model.weights[:2], LARGEST]
-        for machine, is_closed in enumerate(self.flags):
-            if is_closed:
-                row = changed.ways[machine].split()
-                row[machine] = b"%d" % LARGEST
-                changed.ways[machine] = b" ".join(row)
-        return changed
-
-    def aimed(self, staying):
-        """A lot of proposals for the processes on closed machines: each looks at machine after machine, as far as the lot
-        takes them."""
-        machines = self.model.machines
-        starts = {p: self.chance.randrange(machines) for p in staying}
-        return [lot_of((0, p, (starts[p] + begin) % machines) for begin in range(0, machines, WINDOW) for p in staying)[0]]
-
-    def turn(self, lots, least):
-        """A run from the list so far. Answers whether at least so many fewer stay."""
+    def turn(self, model, tries):
+        """A search in a changed model. Answers whether fewer stay."""
         self.turns += 1
-        model, start = self.changed, self.words.initial
-        if self.now != self.start:
-            model, _ = going_on(self.changed, self.start, self.now)
-            start = self.room("list")
-            write_whole(start, [list_text(self.now)])
         write_whole(self.room("model"), model.pieces())
-        _, head, _ = self.program.run("solve", self.room("model"), start, *self.closing, *lots, lines=10)
-        if len(head) < 9 or not head[8].startswith("assignment "):
-            raise self.program.no_program("prints no report")
-        return self.keep(list(map(int, head[8].split()[1:])), least)
+        seed = (self.words.seed + self.turns - 1) % 2**64
+        options = [*self.closing, "--workers", self.words.workers]
+        _, lines, _ = self.anneal.run(self.room("model"), self.words.initial, *options, f"{seed}:{tries}")
+        found = [line for line in lines if line.startswith("assignment ")]
+        if len(found) != 1:
+            raise self.anneal.no_program("doesn't print what anneal prints")
+        return self.keep(list(map(int, found[0].split()[1:])))
 
-    def lots_for_all(self):
-        workers, budget = self.words.workers, self.words.budget
-        seed = self.words.seed + MOST_LOTS * self.turns
-        return [f"{(seed + worker) % 2**64}:{budget // workers}" for worker in range(workers)]
-
-    def keep(self, found, least=1):
-        """Keeps a list with so many fewer on closed machines, if it is feasible from the true start."""
+    def keep(self, found):
+        """Keeps a list with fewer on closed machines, if it is feasible from the true start."""
         staying = len(self.staying(found))
-        if staying > len(self.staying()) - least or found == self.now or not self.is_feasible(found):
+        if staying >= len(self.staying()) or not self.is_feasible(found):
             return False
         self.now = found
         say(f"turn {self.turns}: {staying} of {len(self.staying(self.start))} processes stay")
@@ -168,15 +131,10 @@ class Evacuation:
         return status == 0
 
     def go(self):
-        while self.staying():
-            if self.turn(self.aimed(self.staying()), 1):
-                continue
-            before = len(self.staying())
-            if self.words.budget:
-                self.turn(self.lots_for_all(), 0)
-            self.by_hand()
-            if len(self.staying()) == before and not (self.words.budget and self.turn(self.aimed(self.staying()), 1)):
-                break
+        if self.staying():
+            self.turn(pinned(self.changed, self.start, self.flags), 0)
+        while self.staying() and self.words.budget and self.turn(self.changed, self.words.budget):
+            pass
         if self.staying() and self.words.budget:
             self.by_repair()
         self.put_others_back()
@@ -209,17 +167,6 @@ class Evacuation:
         self.now = found
         return True
 
-    def by_hand(self):
-        """Moves each process that stays to an open machine that takes it, if there is one."""
-        state = State(self.model, self.start, self.now, self.shut)
-        for process in self.staying()[:MOST_LOOKED]:
-            machine = next((m for m in self.by_room(state, process) if state.breaks(process, m) is None), None)
-            if machine is not None:
-                moved = list(state.now)
-                moved[process] = machine
-                self.keep(moved)
-                state = State(self.model, self.start, self.now, self.shut)
-
     def by_repair(self):
         """Looks for a way by `repair`, with no capacity of a resource that isn't transient on the closed machines."""
         model, staying = self.model, self.staying()
@@ -230,8 +177,11 @@ class Evacuation:
         empty = copy.copy(model)
         empty.capacity = [[0 if is_closed and at == r else room for at, room in enumerate(row)]
                           for row, is_closed in zip(model.capacity, self.flags)]
-        # From the list so far: what is feasible there in one go is feasible from the true start.
-        write_whole(self.room("model"), going_on(empty, self.start, self.now)[0].pieces())
+        # What who left holds of a transient resource isn't there: so what is feasible from the list so far is from the true start.
+        held = model.left_behind(self.start, self.now)
+        empty.capacity = [[room - out if flag else room for room, out, flag in zip(row, gone, model.transient)]
+                          for row, gone in zip(empty.capacity, held)]
+        write_whole(self.room("model"), empty.pieces())
         write_whole(self.room("list"), [list_text(self.now)])
         options = repair_parser().parse_args([
             self.room("model"), self.room("list"), "--closed", self.closed, "--out", self.room("repaired"),

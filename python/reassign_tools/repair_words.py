@@ -17,6 +17,7 @@ in each line. For example
     $ tools/repair_words examples/sample/model examples/sample/initial --out /tmp/repaired"""
 import random
 from collections import defaultdict
+from dataclasses import dataclass
 
 from .closing import add_only, given_list, with_fleet
 from .files import Room, list_text, read_list, target, write_whole
@@ -32,6 +33,23 @@ MOST_TOLD = 4000  # proposals that a turn repeats, so that the rest of the lot i
 ONE_WAY = 20  # turns
 A_SITE, A_TURN = 8, 20  # proposals for each broken rule in a turn, and at least for all of them
 LOOKS = 40  # machines that are looked at for one proposal
+MOST_TURNS = 1_000_000
+
+
+@dataclass(frozen=True)
+class RepairOptions:
+    """What a repair is asked: the names of its files, and when it ends."""
+
+    model: str
+    initial: str
+    out: str
+    closed: str | None = None
+    names: str | None = None
+    only: bool = False
+    turns: int = MOST_TURNS
+    idle: int = 100
+    seed: int = 1
+    program: str | None = None
 
 
 def parser():
@@ -43,8 +61,8 @@ def parser():
     words.add_argument("--closed", metavar="FILE", type=file_name, help="machines that nobody may enter")
     add_only(words)
     words.add_argument("--names", metavar="FILE", type=any_file_name, help="the names of the model, as `named pack` writes them")
-    words.add_argument("--turns", metavar="N", type=number(1, 1_000_000), default=1_000_000, help="end after so many turns")
-    words.add_argument("--idle", metavar="N", type=number(1, 1_000_000), default=100,
+    words.add_argument("--turns", metavar="N", type=number(1, MOST_TURNS), default=MOST_TURNS, help="end after so many turns")
+    words.add_argument("--idle", metavar="N", type=number(1, MOST_TURNS), default=100,
                        help="end if nothing has fallen in so many turns (100)")
     words.add_argument("--seed", metavar="S", type=number(0, LARGEST_SEED), default=1, help="seed of the choices (1)")
     return words
