@@ -10,7 +10,8 @@ can't be one is a TypeError or a ValueError, which names it.
 
 __version__ = "1.0.0"
 
-from .calls import Bound, Repaired, Solved, bound, check, improve, moves, plot, race, repair, solve, summary, verify
+from .calls import Bound, Repaired, Solved, bound, check, evacuate, improve, moves, plot, race, repair, solve, summary, verify
+from .evacuate import Evacuated
 from .fleets.fleet import Fleet
 from .improve import Improved
 from .machine_uses import ResourceSum
@@ -22,6 +23,6 @@ from .program import Costs
 from .summary import Full, Summary, WorkerSum
 from .waves import Move, Stuck, Wave
 
-__all__ = ["Bound", "Costs", "Fleet", "Full", "Improved", "Model", "Move", "MoveList", "Names", "Point", "Problem", "Repaired",
-           "ResourceSum", "Solved", "Stuck", "Summary", "Wave", "WorkerSum", "bound", "check", "improve", "moves", "plot", "race",
-           "repair", "solve", "summary", "verify"]
+__all__ = ["Bound", "Costs", "Evacuated", "Fleet", "Full", "Improved", "Model", "Move", "MoveList", "Names", "Point",
+           "Problem", "Repaired", "ResourceSum", "Solved", "Stuck", "Summary", "Wave", "WorkerSum", "bound", "check",
+           "evacuate", "improve", "moves", "plot", "race", "repair", "solve", "summary", "verify"]

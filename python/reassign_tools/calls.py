@@ -12,6 +12,7 @@ from typing import SupportsIndex
 
 from .arguments import Closed, File, Given, MachineList, file_if, file_of, flag, items_of, positive, text_if, whole, whole_if
 from .files import MOST_NUMBERS
+from .evacuate import BUDGET, CHECKS, MOST_BUDGET, MOST_CHECKS, Evacuated, EvacuateOptions, evacuated
 from .improve import MOST_TRIES, Improved, ImproveOptions, improved
 from .models import Model
 from .moves import MoveList, MovesOptions, found_moves
@@ -164,7 +165,24 @@ def repair(model: File | Model, initial: MachineList, seed: int = 1, turns: int 
             whole("seed", seed, 0, LARGEST_SEED), file_if("program", program))
         found = Repair(options, given.room, None, progress or silent)
         judged, _, _ = found.go()
-        return Repaired(list(found.now), None if judged.feasible else tuple(judged.cause), found.tries)
+        return Repaired(list(found.now), None if judged.feasible else judged.cause, found.tries)
+
+
+def evacuate(model: File | Model, initial: MachineList, closed: Closed, budget: int = BUDGET, workers: int | None = None,
+             checks: int = CHECKS, seed: int = 1, only: bool = False, program: File | None = None, anneal: File | None = None,
+             progress: Progress | None = None) -> Evacuated:
+    """Moves the processes of closed machines elsewhere.
+
+    If some stay, others make room in turns of `budget` tries by so many `workers` (as many as processors); 0 moves nobody else.
+    Those who needn't have moved go back, by at most so many `checks`. `only` is as in `repair`. Raises Problem as `check` does.
+    """
+    with Given() as given:
+        options = EvacuateOptions(
+            given.model(model), given.list("initial", initial), given.closed(closed), given.room("emptied"), None,
+            whole("budget", budget, 0, MOST_BUDGET), whole_if("workers", workers, 1, MOST_LOTS),
+            whole("checks", checks, 0, MOST_CHECKS), whole("seed", seed, 0, LARGEST_SEED), flag("only", only), None,
+            file_if("program", program), file_if("anneal", anneal))
+        return evacuated(options, None, given.room, progress or silent)[0]
 
 
 def moves(model: File | Model, initial: MachineList, new: MachineList, at_most: int | None = None, closed: Closed | None = None,

@@ -1,10 +1,12 @@
 """A model in which staying on a closed machine costs more than anything else."""
 import copy
+from collections.abc import Iterable, Sequence
 
-from .models import LARGEST
+from .files import LARGEST
+from .models import Model
 
 
-def with_high_stays(model, start, flags):
+def with_high_stays(model: Model, start: Sequence[int], flags: Sequence[bool]) -> Model:
     """The model in which nobody who begins at the list `start` stays on a machine that has a flag, if it can be helped: the way
     from such a machine to itself, which a model may give any cost, is the dearest. All other lists cost what they cost."""
     changed = copy.copy(model)
@@ -22,7 +24,7 @@ def with_high_stays(model, start, flags):
     return changed
 
 
-def most_rise(model, process, ways):
+def most_rise(model: Model, process: int, ways: Iterable[int]) -> int:
     """No less than what the cost rises by if a process leaves its machine."""
     required, weights = model.required[process], model.weights
     load = sum(weight * more for weight, more in zip(model.load_weights, required))
@@ -30,7 +32,7 @@ def most_rise(model, process, ways):
     return load + balance + weights[0] * model.move_cost[process] + weights[1] + weights[2] * max(ways)
 
 
-def pinned(changed, start, flags):
+def pinned(changed: Model, start: Sequence[int], flags: Sequence[bool]) -> Model:
     """Such a model in which moving anybody else costs more than it can bring."""
     model = copy.copy(changed)
     model.move_cost = [0 if flags[machine] else LARGEST for machine in start]
