@@ -54,10 +54,10 @@ def begin(tool, *words, out=subprocess.PIPE, size=None):
                             text=True, errors="replace", preexec_fn=prepare)
 
 
-def put_slow_program(name, condition):
+def put_slow_program(name, condition, program=PROGRAM):
     """Writes a program that does nothing for long if a condition of the shell holds of its words, and tells its number in the
     file NAME.runs then; else it is the program."""
-    put(name, f'#!/bin/sh\n{condition} || exec "{PROGRAM}" "$@"\necho $$ > "{os.path.abspath(name)}.new"\n'
+    put(name, f'#!/bin/sh\n{condition} || exec "{program}" "$@"\necho $$ > "{os.path.abspath(name)}.new"\n'
         f'mv "{os.path.abspath(name)}.new" "{os.path.abspath(name)}.runs"\nexec sleep 1000\n')
     os.chmod(name, 0o755)
 

@@ -3,9 +3,7 @@ import os
 import sys
 import unittest
 
-from common import PROGRAM, ROOT, SAMPLE, ToolCase, run
-
-ANNEAL = os.environ.get("ANNEAL") or os.path.join(ROOT, "crates", "anneal", "out", "anneal")
+from common import ANNEAL, PROGRAM, ROOT, SAMPLE, ToolCase, run
 
 
 @unittest.skipUnless(os.access(ANNEAL, os.X_OK), "anneal isn't made: ./anneal or `rt ci` makes it")

@@ -3,8 +3,10 @@ import os
 
 from common import SAMPLE, ToolCase, begin
 
+SAME = "/bin/echo"  # a program that prints something else
+
 CALLS = {
-    "rounds": ["model", "initial", "--out", "x"],
+    "improve": ["model", "initial", "--out", "x"],
     "evacuate": ["model", "initial", "closed", "--out", "x"],
     "repair_words": ["model", "crowded", "--out", "x"],
     "summary": ["report", "model", "initial"],
@@ -66,15 +68,21 @@ class Calls(ToolCase):
                     self.expect(status, tool, *right[:-1], place)
                 self.expect(2, tool, *right, "--seed", "-1")
 
-    def test_rounds(self):
-        right = CALLS["rounds"]
+    def test_improve(self):
+        right = CALLS["improve"]
         for word in ("0", "1.5", "17", "x", "99999999999999999999999"):
-            self.expect(2, "rounds", *right, "--workers", word)
-        self.expect(2, "rounds", *right, "--minutes", "1", "--rounds", "1")
-        self.expect(2, "rounds", *right, "--budget", "1000001")
-        self.expect(3, "rounds", *right, "--closed", "nowhere")
-        self.expect(10, "rounds", *right, "--closed", "report")
-        self.expect(6, "rounds", "model", "crowded", "--out", "x")
+            self.expect(2, "improve", *right, "--workers", word)
+        for more in (["--minutes", "1", "--tries", "1"], ["--seconds", "0"], ["--seconds", "x"], ["--seconds", "1", "--tries", "9"],
+                     ["--tries", "0"], ["--tries", "1000000000001"], ["--list", "0"], ["--list", "2", "--collect"], ["--log", "x"],
+                     ["--log", "model"], ["--anneal"]):
+            self.expect(2, "improve", *right, *more)
+        for more in (["--closed", "nowhere"], ["--list", "nowhere"], ["--collect"], ["--anneal", "nowhere"], ["--names", "nowhere"]):
+            self.expect(3, "improve", *right, *more)
+        self.expect(4, "improve", *right, "--names", "model")
+        self.expect(10, "improve", *right, "--closed", "report")
+        self.expect(6, "improve", "model", "crowded", "--out", "x")
+        self.expect(2, "improve", "folder", "--out", "x")
+        self.expect(3, "improve", *right, "--anneal", SAME)
 
     def test_evacuate(self):
         self.expect(6, "evacuate", "model", "crowded", "closed", "--out", "x")

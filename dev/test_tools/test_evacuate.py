@@ -2,7 +2,7 @@
 import os
 import signal
 
-from common import ToolCase, begin, program, put, put_slow_program, text_of
+from common import ANNEAL, ToolCase, begin, program, put, put_slow_program, text_of
 
 # Process 0 can leave machine 0 for machine 1 alone, if process 1 goes to machine 2. Processes 2 to 9 stand on machine 3, where
 # they cost something, and could stand on machine 4, where they cost nothing.
@@ -28,7 +28,7 @@ class Evacuate(ToolCase):
     def test_others_go_back(self):
         put("tight", MODEL)
         put("start", "0 1 3 3 3 3 3 3 3 3\n")
-        told = self.expect(0, "evacuate", "tight", "start", "closed", "--out", "emptied", "--budget", 3000, "--workers", 1)
+        told = self.expect(0, "evacuate", "tight", "start", "closed", "--out", "emptied", "--budget", 30000, "--workers", 1)
         self.assertEqual(text_of("emptied"), "1 2 3 3 3 3 3 3 3 3\n", told)
         self.assertIn("went 1 of 1 processes of 1 closed machine\nothers 1 of 9 had to move\n", told)
         self.assertIn("process 1 of service 1 can't go back to machine 1: capacity 1 1 11 10\n", told)
@@ -37,7 +37,7 @@ class Evacuate(ToolCase):
         """Without checks nobody goes back, and that is told."""
         put("tight", MODEL)
         put("start", "0 1 3 3 3 3 3 3 3 3\n")
-        words = ["--budget", 3000, "--workers", 1, "--checks", 0]
+        words = ["--budget", 30000, "--workers", 1, "--checks", 0]
         told = self.expect(0, "evacuate", "tight", "start", "closed", "--out", "emptied", *words)
         self.assertIn("others 9 of 9 had to move\n", told)
         self.assertIn("can't go back to machine 3: not tried\n", told)
@@ -47,7 +47,7 @@ class Evacuate(ToolCase):
         for seed in (1, 2):
             model, initial = self.make_instance(f"evacuated{seed}", 30, 300, 4, seed)
             put("half", " ".join(map(str, range(0, 30, 2))) + "\n")
-            words = ["--out", "emptied", "--workers", 1, "--budget", 3000]
+            words = ["--out", "emptied", "--workers", 1, "--budget", 30000]
             run = begin("evacuate", model, initial, "half", *words)
             printed, error = run.communicate()
             self.assertIn(run.returncode, (0, 11), error)
@@ -67,11 +67,11 @@ class Evacuate(ToolCase):
         model, initial = self.make_instance("stopped", 30, 300, 4, 1)
         put("half", " ".join(map(str, range(0, 30, 2))) + "\n")
         # A program whose second run never ends.
-        put_slow_program("slow", '[ "$1" = solve ] && ! mkdir solved 2> /dev/null')
+        put_slow_program("slow", "! mkdir solved 2> /dev/null", ANNEAL)
         for by in (signal.SIGINT, signal.SIGTERM):
             if os.path.exists("solved"):
                 os.rmdir("solved")
-            run = begin("evacuate", model, initial, "half", "--out", "so_far", "--workers", 1, "--program", os.path.abspath("slow"))
+            run = begin("evacuate", model, initial, "half", "--out", "so_far", "--workers", 1, "--anneal", os.path.abspath("slow"))
             first = run.stderr.readline()
             self.wait_for(lambda: os.path.exists("slow.runs"), run)
             os.remove("slow.runs")

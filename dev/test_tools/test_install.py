@@ -48,7 +48,7 @@ class Install(ToolCase):
         self.assertEqual(found, listed)
         self.expect_run(f"{place}/bin/reassign", "check", *SAMPLE, SAMPLE[1])
         tools = sorted(name for name in os.listdir(f"{place}/bin") if name != "reassign")
-        self.assertIn("reassign-rounds", tools)
+        self.assertIn("reassign-improve", tools)
         for name in tools:
             self.assertIn("usage: ", self.expect_run(f"{place}/bin/{name}", "--help"))
         self.look_at_readers(place)
@@ -74,7 +74,7 @@ class Install(ToolCase):
             self.assertIn(f"in {root}{prefix}\n", told)
             self.assertFalse(os.path.exists(prefix))
             self.expect_run(f"{root}{prefix}/bin/reassign", "check", *SAMPLE, SAMPLE[1])
-            self.expect_run(f"{root}{prefix}/bin/reassign-rounds", "--version")
+            self.expect_run(f"{root}{prefix}/bin/reassign-improve", "--version")
             self.expect_run(UNINSTALL, prefix, env={**os.environ, "DESTDIR": destdir})
             self.assertFalse(os.path.exists(f"{root}{prefix}"))
 
@@ -110,7 +110,7 @@ class Install(ToolCase):
                    ("share/fish/vendor_completions.d", ["fish", "-n"]))
         for folder, reader in readers:
             names = sorted(os.listdir(f"{place}/{folder}"))
-            self.assertTrue(any("rounds" in name or "tools" in name for name in names), names)
+            self.assertTrue(any("improve" in name or "tools" in name for name in names), names)
             for name in names:
                 if shutil.which(reader[0]) and not os.path.islink(f"{place}/{folder}/{name}"):
                     self.expect_run(*reader, f"{place}/{folder}/{name}", env={**os.environ, "LC_ALL": "C.UTF-8"})
@@ -153,8 +153,8 @@ class Install(ToolCase):
                     self.assertEqual(told, [name for name in told if name.startswith(command[0])])
                     self.assertIn(f".Ss reassign-{tool} {command[0]}\n", page)
                     self.assertIn(f" -a {command[0]} ", fish)
-        self.assertEqual(offered(f"{room}/bash/reassign-rounds", "_reassign_rounds", "reassign-rounds", "--out", "mod"), ["model"])
-        self.assertEqual(offered(f"{room}/bash/reassign-rounds", "_reassign_rounds", "reassign-rounds", "--seed", "''"), [])
+        self.assertEqual(offered(f"{room}/bash/reassign-improve", "_reassign_improve", "reassign-improve", "--out", "mod"), ["model"])
+        self.assertEqual(offered(f"{room}/bash/reassign-improve", "_reassign_improve", "reassign-improve", "--seed", "''"), [])
 
     def test_refusals(self):
         for words in (["a", "b"], ["--x"], [""], ["--program"]):

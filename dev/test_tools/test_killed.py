@@ -4,7 +4,7 @@ import signal
 import time
 import unittest.mock
 
-from common import ToolCase, begin, put_slow_program, text_of
+from common import ANNEAL, ToolCase, begin, put_slow_program, text_of
 
 
 class Killed(ToolCase):
@@ -13,9 +13,11 @@ class Killed(ToolCase):
         place.start()
         self.addCleanup(place.stop)
         os.makedirs("tmp", exist_ok=True)
-        put_slow_program("slow", '[ "$1" = solve ] || [ "$1" = repair ]')
-        if os.path.exists("slow.runs"):
-            os.remove("slow.runs")
+        put_slow_program("slow", '[ "$1" = repair ]')
+        put_slow_program("still", "true", ANNEAL)
+        for name in ("slow.runs", "still.runs"):
+            if os.path.exists(name):
+                os.remove(name)
 
     def is_alive(self, process):
         try:
@@ -25,12 +27,13 @@ class Killed(ToolCase):
             return False
 
     def expect_end(self, tool, words, by):
-        run = begin(tool, *words, "--program", os.path.abspath("slow"))
+        option, name = ("--program", "slow") if tool == "repair_words" else ("--anneal", "still")
+        run = begin(tool, *words, option, os.path.abspath(name))
         self.addCleanup(run.communicate)
         self.addCleanup(run.kill)
-        self.wait_for(lambda: os.path.exists("slow.runs"), run)
-        process = int(text_of("slow.runs"))
-        os.remove("slow.runs")
+        self.wait_for(lambda: os.path.exists(f"{name}.runs"), run)
+        process = int(text_of(f"{name}.runs"))
+        os.remove(f"{name}.runs")
         self.assertTrue(self.is_alive(process))
         run.send_signal(by)
         run.wait(timeout=600)
@@ -39,7 +42,7 @@ class Killed(ToolCase):
             self.assertLess(time.monotonic(), end, f"{tool} left its program running")
             time.sleep(0.01)
 
-    CALLS = (("rounds", ["model", "initial", "--out", "best"]), ("evacuate", ["model", "initial", "closed", "--out", "emptied"]),
+    CALLS = (("improve", ["model", "initial", "--out", "best"]), ("evacuate", ["model", "initial", "closed", "--out", "emptied"]),
              ("repair_words", ["model", "crowded", "--out", "repaired"]))
 
     def test_killed(self):
@@ -57,9 +60,9 @@ class Killed(ToolCase):
 
     def test_others_stay(self):
         """The folder of a tool that runs stays."""
-        run = begin("rounds", "model", "initial", "--out", "best", "--program", os.path.abspath("slow"))
+        run = begin("improve", "model", "initial", "--out", "best", "--anneal", os.path.abspath("still"))
         self.addCleanup(run.communicate)
         self.addCleanup(run.kill)
-        self.wait_for(lambda: os.path.exists("slow.runs"), run)
+        self.wait_for(lambda: os.path.exists("still.runs"), run)
         self.expect(0, "repair_words", "model", "crowded", "--out", "repaired")
         self.assertEqual(len(os.listdir("tmp")), 1)

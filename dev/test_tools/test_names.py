@@ -28,7 +28,7 @@ class Outputs(ToolCase):
 
     def test_inputs(self):
         calls = {
-            "rounds": (["model", "initial", "--closed", "closed"], "--out"),
+            "improve": (["model", "initial", "--closed", "closed"], "--out"),
             "evacuate": (["model", "initial", "closed"], "--out"),
             "repair_words": (["model", "crowded", "--closed", "closed"], "--out"),
             "plot": (["report", "model", "initial"], "--out"),
@@ -52,16 +52,9 @@ class Outputs(ToolCase):
         os.symlink("later", "link_to_later")
         self.expect_refusal("evacuate", "model", "initial", "closed", "--out", "later", "--model-out", "link_to_later")
 
-    def test_rounds_folder(self):
-        """A list in the folder of the lists isn't the start: it would be written anew."""
-        self.expect(0, "rounds", "model", "initial", "--out", "best", "--rounds", 2, "--workers", 1, "--budget", 100)
-        first = next(name for name in sorted(os.listdir("best.rounds")) if name.endswith(".list"))
-        self.expect_refusal("rounds", "model", f"best.rounds/{first}", "--out", "best", "--rounds", 1)
-        self.expect_refusal("rounds", "model", "initial", "--model-from", f"best.rounds/{first}", "--out", f"best.rounds/{first}")
-
     def test_program(self):
         shutil.copy(PROGRAM, "program")
-        self.expect_refusal("rounds", "model", "initial", "--program", "./program", "--out", "program")
+        self.expect_refusal("improve", "model", "initial", "--program", "./program", "--out", "program")
 
 
 class Bytes(ToolCase):
@@ -72,12 +65,12 @@ class Bytes(ToolCase):
     def test_refused(self):
         for name in ("model", "initial", "closed", "report"):
             os.link(name, f"{self.NAME}_{name}")
-        for tool, words in (("rounds", ["model", "initial", "--out", "x"]), ("evacuate", ["model", "initial", "closed", "--out", "x"]),
+        for tool, words in (("improve", ["model", "initial", "--out", "x"]), ("evacuate", ["model", "initial", "closed", "--out", "x"]),
                             ("repair_words", ["model", "initial", "--out", "x"]), ("summary", ["report", "model", "initial"])):
             for name in words:
                 if not name.startswith("--"):
                     self.expect(2, tool, *[f"{self.NAME}_{word}" if word == name else word for word in words])
-        self.expect(2, "rounds", "model", "initial", "--out", "x", "--closed", f"{self.NAME}_closed")
+        self.expect(2, "improve", "model", "initial", "--out", "x", "--closed", f"{self.NAME}_closed")
         self.assertFalse(os.path.exists("x") or os.path.exists(f"{self.NAME}_x"))
 
     def test_plot(self):

@@ -12,7 +12,7 @@ from dataclasses import asdict
 import reassign_tools
 from common import LOTS, PROGRAM, ROOT, ToolCase, program, put, text_of
 from fleet_cases import FILES, FleetCase
-from reassign_tools import Fleet, Model, Problem, bound, check, moves, plot, race, repair, solve, summary, verify
+from reassign_tools import Fleet, Model, Problem, bound, check, evacuate, moves, plot, race, repair, solve, summary, verify
 from reassign_tools.__main__ import TOOLS
 from reassign_tools.files import read_list
 
@@ -84,6 +84,16 @@ class Calls(ToolCase):
         stuck = repair("model", [0, 3, 3], turns=1, idle=1, closed=[0, 1, 2, 3])
         self.assertEqual((stuck.is_feasible, stuck.rule[0]), (False, "transient"))
 
+    def test_evacuate(self):
+        """The call gives what the tool tells."""
+        self.expect(11, "evacuate", "model", "initial", "closed", "--out", "emptied")
+        with open("closed", encoding="utf-8") as file:
+            closed = set(map(int, file.read().split()))
+        found = evacuate("model", [0, 3, 0], closed)
+        self.assertEqual(found.assignment, read_list("emptied"))
+        self.assertEqual(found.costs, check("model", "initial", "emptied", closed=closed))
+        self.assertEqual(found.staying, [p for p, machine in enumerate(found.assignment) if machine in closed])
+
     def test_moves(self):
         """The call gives what the tool tells."""
         for words, options in (([], {}), (["--at-most", 1], {"at_most": 1}), (["--waves", 1], {"waves": 1}), (["--curve"], {"curve": True})):
@@ -107,7 +117,10 @@ class Calls(ToolCase):
             self.assertEqual([asdict(one) for one in found.workers], told.get("workers", []))
             self.assertEqual(found.best_at, told.get("best_at"))
         self.assertEqual(summary("report", "model", "initial", lots=LOTS).entries, 20)
-        self.expect_problem(9, "wrong line 21", summary, "report", "model", "initial", lots=LOTS[:1])
+        with self.assertRaises(Problem) as raised:  # at the second worker's first entry, wherever that is
+            summary("report", "model", "initial", lots=LOTS[:1])
+        self.assertEqual(raised.exception.status, 9)
+        self.assertRegex(raised.exception.line, r"^wrong line \d+$")
 
     def test_plot(self):
         for words in (["report"], ["report", "model", "initial"], ["new", "model", "initial"]):

@@ -76,12 +76,14 @@ class Race(ToolCase):
         self.assertEqual(rows["leaves"]["cost"], start)
         self.assertIn("infeasible", told)
 
-    def test_rounds(self):
+    def test_anneal(self):
+        """By the clock `anneal` is our solver, and beside runs of `solve` it has their time."""
         self.race(0, "--instances", "made_a", "--seconds", "0.5", "--csv", "rows.csv")
-        self.assertEqual([row["feasible"] for row in rows_of("rows.csv")], ["True"])
-        self.race(0, "--instances", "made_a", "--proposals", 1_000_001, "--slack", "5", "--csv", "rows.csv")
-        row, = rows_of("rows.csv")
-        self.assertEqual((row["proposals"], row["slack"]), ("1000001", "5"))
+        self.assertEqual([(row["solver"], row["feasible"]) for row in rows_of("rows.csv")], [("anneal", "True")])
+        self.race(0, "--instances", "made_a", "--proposals", 5000, "--solver", "anneal", "--csv", "rows.csv")
+        solve, anneal = rows_of("rows.csv")
+        self.assertEqual((solve["solver"], anneal["solver"], anneal["feasible"]), ("reassign", "anneal", "True"))
+        self.assertAlmostEqual(float(anneal["budget_seconds"]), float(solve["processor"]) - float(solve["reading"]), delta=0.01)
 
     def test_folder(self):
         words = ["--instances", "made_a", "--seeds", "1-4", "--proposals", 50, "--folder", "kept", "--csv", "rows.csv"]
@@ -157,7 +159,8 @@ class Race(ToolCase):
     def test_refusals(self):
         good = ["--instances", "made_a", "--proposals", 50]
         for words in (["--proposals", 50], ["--instances", "made_a"], [*good, "--seconds", 1], [*good, "--seeds", "3-1"],
-                      [*good, "--seeds", "x"], [*good, "--slack", "1-2-3"], [*good, "--slack", "auto"], [*good, "--solver", "x"],
+                      [*good, "--seeds", "x"], [*good, "--slack", "1-2-3"], [*good, "--slack", "auto"], ["--instances", "made_a", "--proposals", 1_000_001],
+                      ["--instances", "made_a", "--seconds", 1, "--slack", 3], [*good, "--solver", "x"],
                       [*good, "--solver", "x: a {model} {initial}"], [*good, "--solver", "x: a {model} {initial} {new} {more}"],
                       [*good, "--solver", "x: 'a {model} {initial} {new}"], [*good, "--solver", COPY, "--solver", COPY],
                       [*good, "--solver", COPY.replace("copy", "reassign")], ["--instances", "made_a", "--proposals", 0],
@@ -214,7 +217,7 @@ class Race(ToolCase):
                 told = self.race(0, *words, "--csv", "rows.csv")
                 self.assertEqual([row["outcome"] for row in rows_of("rows.csv")], ["feasible"] * 2, told)
 
-    def test_stopped_rounds(self):
+    def test_stopped_improve(self):
         os.makedirs("tmp", exist_ok=True)
         with unittest.mock.patch.dict(os.environ, TMPDIR=os.path.abspath("tmp")):
             race = begin("race", "--instances", "made_a", "--seconds", "3000", "--folder", "half")

@@ -1,4 +1,4 @@
-"""rounds, evacuate and repair_words at work, on the sample and on small instances."""
+"""improve, evacuate and repair_words at work, on the sample and on small instances."""
 import random
 
 from common import ToolCase, begin, put, run, text_of
@@ -6,9 +6,9 @@ from common import ToolCase, begin, put, run, text_of
 
 class Work(ToolCase):
     def test_sample(self):
-        told = self.expect(0, "rounds", "model", "initial", "--out", "best", "--rounds", 3, "--workers", 1, "--budget", 200)
+        told = self.expect(0, "improve", "model", "initial", "--out", "best", "--tries", 200)
         self.assertIn("cost 2411\n", told, "the sample's least cost")
-        self.expect(0, "rounds", "model", "initial", "--out", "best", "--rounds", 1, "--workers", 1, "--budget", 20)
+        self.expect(0, "improve", "model", "initial", "--out", "best", "--tries", 1)
         self.expect(11, "evacuate", "model", "initial", "closed", "--out", "emptied")
         put("closed3", "3\n")
         told = self.expect(0, "evacuate", "model", "initial", "closed3", "--out", "emptied")
@@ -17,18 +17,6 @@ class Work(ToolCase):
         self.expect(0, "repair_words", "model", "crowded", "--out", "repaired")
         self.assertTrue(self.is_feasible("model", "repaired", "repaired"))
         self.expect(0, "repair_words", "model", "initial", "--out", "repaired")
-
-    def test_rounds(self):
-        for seed in (1, 2):
-            model, initial = self.make_instance(f"rounds{seed}", 20, 100, 3, seed)
-            best, last = f"rounds{seed}/best", None
-            for more in ([], ["--raised"], ["--slack", 50], ["--keep"]):
-                self.expect(0, "rounds", model, initial, "--out", best, "--rounds", 3, "--workers", 1, "--budget", 150, *more)
-                cost = self.cost(model, initial, best)
-                self.assertTrue(last is None or cost <= last)
-                last = cost
-        log = run("sh", f"{best}.rounds/log")
-        self.assertEqual((log.returncode, log.stdout.count("accepted 150\n")), (0, 12), log.stdout + log.stderr)
 
     def test_evacuate(self):
         model, initial = self.make_instance("evacuate", 20, 100, 3, 1)
@@ -54,7 +42,7 @@ class Work(ToolCase):
                 self.assertTrue(self.is_feasible(model, "repaired", "repaired"))
 
     def test_many_resources(self):
-        """More transient resources in balance objectives than there is room for twins."""
+        """As many resources as a model of a challenge has, all of them in balance objectives."""
         chance = random.Random(5)
         need = [[chance.randint(1, 9) for _ in range(12)] for _ in range(40)]
         lines = ["12"] + ["1 1"] * 12 + ["10"]
@@ -64,5 +52,5 @@ class Work(ToolCase):
         put("wide", "\n".join(lines) + "\n")
         put("wide_start", " ".join(str(p % 5) for p in range(40)) + "\n")
         self.assertTrue(self.is_feasible("wide", "wide_start", "wide_start"))
-        self.expect(0, "rounds", "wide", "wide_start", "--out", "wide_best", "--rounds", 4, "--workers", 1, "--budget", 150)
+        self.expect(0, "improve", "wide", "wide_start", "--out", "wide_best", "--tries", 5000)
         self.assertTrue(self.is_feasible("wide", "wide_start", "wide_best"))

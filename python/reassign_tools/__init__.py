@@ -11,7 +11,7 @@ can't be one is a TypeError or a ValueError, which names it.
 import os
 
 
-def _version():
+def _version() -> str:
     """The number in the file VERSION, which stands in the package in a wheel, and else where python/ stands."""
     here = os.path.dirname(os.path.realpath(__file__))
     beside = os.path.join(here, "VERSION")
@@ -21,8 +21,10 @@ def _version():
 
 __version__ = _version()
 
-from .calls import Bound, Repaired, Solved, bound, check, moves, plot, race, repair, rounds, solve, summary, verify
+from .calls import Bound, Repaired, Solved, bound, check, evacuate, improve, moves, plot, race, repair, solve, summary, verify
+from .evacuate import Evacuated
 from .fleets.fleet import Fleet
+from .improve import Improved
 from .machine_uses import ResourceSum
 from .models import Model
 from .moves import MoveList, Point
@@ -32,5 +34,6 @@ from .program import Costs
 from .summary import Full, Summary, WorkerSum
 from .waves import Move, Stuck, Wave
 
-__all__ = ["Bound", "Costs", "Fleet", "Full", "Model", "Move", "MoveList", "Names", "Point", "Problem", "Repaired", "ResourceSum", "Solved", "Stuck",
-           "Summary", "Wave", "WorkerSum", "bound", "check", "moves", "plot", "race", "repair", "rounds", "solve", "summary", "verify"]
+__all__ = ["Bound", "Costs", "Evacuated", "Fleet", "Full", "Improved", "Model", "Move", "MoveList", "Names", "Point",
+           "Problem", "Repaired", "ResourceSum", "Solved", "Stuck", "Summary", "Wave", "WorkerSum", "bound", "check",
+           "evacuate", "improve", "moves", "plot", "race", "repair", "solve", "summary", "verify"]

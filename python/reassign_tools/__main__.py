@@ -1,4 +1,4 @@
-"""Runs a tool of this package: `python3 -m reassign_tools rounds WORD ..`, or `python3 THIS_FOLDER rounds WORD ..`, as the
+"""Runs a tool of this package: `python3 -m reassign_tools improve WORD ..`, or `python3 THIS_FOLDER improve WORD ..`, as the
 files of tools/ do. Those block the signals that stop a tool until this module says what they do."""
 import signal
 
@@ -10,7 +10,7 @@ import os
 import sys
 from typing import NoReturn
 
-TOOLS = ("evacuate", "moves", "named", "plot", "race", "repair_words", "rounds", "summary")
+TOOLS = ("evacuate", "improve", "moves", "named", "plot", "race", "repair_words", "summary")
 STOPS = (signal.SIGINT, signal.SIGTERM, signal.SIGHUP)
 WANTS = ("cannot allocate memory", "failed to map segment", "can't start new thread", "cannot apply additional memory protection")
 

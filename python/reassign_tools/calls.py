@@ -12,26 +12,25 @@ from typing import SupportsIndex
 
 from .arguments import Closed, File, Given, MachineList, file_if, file_of, flag, items_of, positive, text_if, whole, whole_if
 from .files import MOST_NUMBERS
+from .evacuate import BUDGET, CHECKS, MOST_BUDGET, MOST_CHECKS, Evacuated, EvacuateOptions, evacuated
+from .improve import MOST_TRIES, Improved, ImproveOptions, improved
 from .models import Model
 from .moves import MoveList, MovesOptions, found_moves
 from .names import Names
 from .problems import Problem, WrongValue
 from .program import Costs, Program, closed_words, slack_words
-from .plot import picture_of
+from .plot import PlotOptions, picture_of
 from .race import made_plan, raced
 from .race_plan import instances_of, solver_of
 from .race_rows import Row
-from .repair_words import Repair
+from .repair_words import MOST_TURNS, Repair, RepairOptions
 from .reports import solve as run_solve
-from .rounds import Rounds, parser as rounds_parser
 from .states import Cause
 from .summary import MOST_TOP, Summary, SummaryOptions, summed
-from .words import LARGEST_SEED, MOST_LOTS, MOST_PROPOSALS, look_at_run_words, processors
+from .words import LARGEST_SEED, MOST_LOTS, MOST_PROPOSALS, look_at_run_words
 
 Lot = str | tuple[SupportsIndex, SupportsIndex]  # the program's word for a lot, or its seed and its budget
 Progress = Callable[[str], object]
-MOST_TURNS = 1_000_000  # of a repair
-MOST_ROUNDS = 1_000_000
 
 
 @dataclass(frozen=True)
@@ -67,34 +66,6 @@ class Repaired:
     def is_feasible(self) -> bool:
         """Whether the list breaks no rule, as an initial list."""
         return self.rule is None
-
-
-@dataclass(frozen=True)
-class RepairOptions:
-    """What a repair is asked: the names of its files, and when it ends."""
-
-    model: str
-    initial: str
-    out: str
-    closed: str | None = None
-    names: str | None = None
-    only: bool = False
-    turns: int = MOST_TURNS
-    idle: int = 100
-    seed: int = 1
-    program: str | None = None
-
-
-@dataclass(frozen=True)
-class PlotOptions:
-    """What `plot` is asked: the names of its files, and what is drawn."""
-
-    report: str
-    model: str | None = None
-    initial: str | None = None
-    run: bool = False
-    names: str | None = None
-    title: str | None = None
 
 
 def silent(line: str) -> None:
@@ -194,7 +165,24 @@ def repair(model: File | Model, initial: MachineList, seed: int = 1, turns: int 
             whole("seed", seed, 0, LARGEST_SEED), file_if("program", program))
         found = Repair(options, given.room, None, progress or silent)
         judged, _, _ = found.go()
-        return Repaired(list(found.now), None if judged.feasible else tuple(judged.cause), found.tries)
+        return Repaired(list(found.now), None if judged.feasible else judged.cause, found.tries)
+
+
+def evacuate(model: File | Model, initial: MachineList, closed: Closed, budget: int = BUDGET, workers: int | None = None,
+             checks: int = CHECKS, seed: int = 1, only: bool = False, program: File | None = None, anneal: File | None = None,
+             progress: Progress | None = None) -> Evacuated:
+    """Moves the processes of closed machines elsewhere.
+
+    If some stay, others make room in turns of `budget` tries by so many `workers` (as many as processors); 0 moves nobody else.
+    Those who needn't have moved go back, by at most so many `checks`. `only` is as in `repair`. Raises Problem as `check` does.
+    """
+    with Given() as given:
+        options = EvacuateOptions(
+            given.model(model), given.list("initial", initial), given.closed(closed), given.room("emptied"), None,
+            whole("budget", budget, 0, MOST_BUDGET), whole_if("workers", workers, 1, MOST_LOTS),
+            whole("checks", checks, 0, MOST_CHECKS), whole("seed", seed, 0, LARGEST_SEED), flag("only", only), None,
+            file_if("program", program), file_if("anneal", anneal))
+        return evacuated(options, None, given.room, progress or silent)[0]
 
 
 def moves(model: File | Model, initial: MachineList, new: MachineList, at_most: int | None = None, closed: Closed | None = None,
@@ -248,43 +236,36 @@ def plot(report: MachineList, model: File | Model | None = None, initial: Machin
         raise WrongValue(f"{'run' if run else 'names'} wants model and initial")
     with Given() as given:
         options = PlotOptions(given.list("report", report), None if model is None else given.model(model),
-                              None if initial is None else given.list("initial", initial), flag("run", run),
+                              None if initial is None else given.list("initial", initial), (), flag("run", run),
                               given.names(names), text_if("title", title) or given.title_of(report))
-        return str(picture_of(options, given.tidy))
+        return picture_of(options, given.tidy)
 
 
-def rounds(model: File | Model, initial: MachineList, out: File, seconds: float | None = None, proposals: int | None = None,
-           rounds: int | None = None, slack: int | None = None, workers: int | None = None, budget: int | None = None,
-           seed: int = 1, closed: Closed | None = None, program: File | None = None) -> Costs:
-    """Goes on from run to run, and keeps the best list in the file `out`, from which it goes on if that is there already.
+def improve(model: File | Model, initial: MachineList, out: File, seconds: float = 60.0, tries: int | None = None,
+            workers: int | None = None, seed: int = 1, closed: Closed | None = None, log: File | None = None,
+            program: File | None = None, anneal: File | None = None) -> Improved:
+    """Looks for the best list in so many `seconds`, or `tries`, and keeps it in the file `out`, from which it goes on if that is
+    there already.
 
-    It ends after so many `seconds`, `proposals` or `rounds`, one of which may be given; else when four rounds in a row find
-    nothing. Without a slack it chooses by itself. Returns the Costs of the best list, which is in `out`. Raises Problem as
-    `check` does, with status 2 if the words are none, and 7 if `out` can't be written or another call writes it. Stopped by
-    KeyboardInterrupt, `out` has the best list so far.
+    `log` names a file that gets a JSON object for each piece; `plot` draws it. Raises Problem as `check` does, and with status 7
+    if `out` can't be written or another call writes it. Stopped by KeyboardInterrupt, `out` has the best list so far.
     """
-    asked = {"--seconds": seconds, "--proposals": proposals, "--rounds": rounds, "--slack": slack, "--budget": budget,
-             "--workers": workers or processors(), "--seed": seed, "--program": program}
     with Given() as given:
-        words = [given.model(model), given.list("initial", initial), "--out", file_of("out", out), *closed_words(given.closed(closed))]
-        words += [str(word) for name, value in asked.items() if value is not None for word in (name, value)]
-        going = Rounds(rounds_parser().parse_args(words))
-        going.begin()
-        try:
-            going.go(given.room)
-        finally:
-            costs = going.end()
-        return Costs(**costs)
+        options = ImproveOptions(
+            given.model(model), given.list("initial", initial), file_of("out", out), positive("seconds", seconds),
+            whole_if("tries", tries, 1, MOST_TRIES), whole_if("workers", workers, 1, MOST_LOTS), whole("seed", seed, 0, LARGEST_SEED),
+            given.closed(closed), log=file_if("log", log), program=file_if("program", program), anneal=file_if("anneal", anneal))
+        return improved(options, given.room)
 
 
-def race(instances: Iterable[File], seeds: Iterable[SupportsIndex] = (1,), slacks: Iterable[SupportsIndex | str] = (),
+def race(instances: Iterable[File], seeds: Iterable[SupportsIndex] = (1,), slacks: Iterable[SupportsIndex] = (),
          proposals: Iterable[SupportsIndex] = (), seconds: Iterable[float] = (), solvers: Mapping[str, str] | None = None,
          workers: int = 1, jobs: int = 1, folder: File | None = None, program: File | None = None) -> list[Row]:
     """Runs solvers on instances, with the same seeds and budgets, and judges every list by `reassign check`.
 
     `instances` are names or patterns of model files or folders, as tools/race takes them; `proposals` and `seconds` are lists of
     budgets, of which one has to be given. `solvers` are other programs: their commands, with {model}, {initial}, {new},
-    {seconds} and {seed}, by their names. So many `jobs` run side by side. `folder` keeps the runs, and a call with the same
+    {seconds} and {seed}, by their names; our own `anneal` needs none. So many `jobs` run side by side. `folder` keeps the runs, and a call with the same
     words goes on there. Returns a Row for each run. Raises Problem with status 2 if the words are no race, 3 if a file can't be
     read, 6 if a start breaks a rule, 9 if `folder` has something else.
     """
@@ -292,12 +273,11 @@ def race(instances: Iterable[File], seeds: Iterable[SupportsIndex] = (1,), slack
         raise Problem("a race wants either proposals or seconds", 2)
     names = [file_of(f"instances[{at}]", one) for at, one in enumerate(items_of("instances", instances, "a list of names"))]
     words = ([whole("seeds", one, 0, LARGEST_SEED) for one in items_of("seeds", seeds, "a list of seeds")],
-             [one if isinstance(one, str) else str(whole("slacks", one, 0, LARGEST_SEED))
-              for one in items_of("slacks", slacks, "a list of slacks")],
-             [whole("proposals", one, 1, 10**12) for one in items_of("proposals", proposals, "a list of budgets")],
+             [str(whole("slacks", one, 0, LARGEST_SEED)) for one in items_of("slacks", slacks, "a list of slacks")],
+             [whole("proposals", one, 1, MOST_PROPOSALS) for one in items_of("proposals", proposals, "a list of budgets")],
              [positive("seconds", one) for one in items_of("seconds", seconds, "a list of budgets")],
              whole("workers", workers, 1, MOST_LOTS))
-    others = [solver_of(f"{name}: {command}") for name, command in (solvers or {}).items()]
+    others = [solver_of(f"{name}: {command}" if command else name) for name, command in (solvers or {}).items()]
     plan = made_plan(instances_of(names), others, *words)
     rows, is_stopped = raced(plan, program_of(program), file_if("folder", folder), whole("jobs", jobs, 1, 1000))
     if is_stopped:

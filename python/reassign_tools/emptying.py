@@ -4,7 +4,11 @@ The processes of a machine go to others, each where least room is left after it,
 place, another one may make room for it. Whatever list comes is feasible from the start."""
 import time
 from collections import Counter
+from collections.abc import Iterable, Sequence
+from fractions import Fraction
 from operator import add, sub
+
+from .models import Model
 
 MOST_ASIDE = 40  # machines on which one process is tried to make room for another
 MOST_TRIED = 12  # processes that are tried there
@@ -14,13 +18,15 @@ class Emptying:
     """An assignment whose machines are emptied. `closed` has a flag for each machine that nobody may enter; `prices` are what
     the machines cost, the cheapest of which are filled first."""
 
-    def __init__(self, model, start, closed, prices):
+    def __init__(self, model: Model, start: list[int], closed: Iterable[bool], prices: Sequence[Fraction]) -> None:
         self.model, self.start, self.now, self.closed, self.prices = model, start, list(start), list(closed), prices
         self.use, self.held = model.use(start), model.left_behind(start, start)
-        self.on = [set() for _ in range(model.machines)]
-        self.there, self.at_location, self.in_hood = set(), Counter(), Counter()
+        self.on: list[set[int]] = [set() for _ in range(model.machines)]
+        self.there: set[tuple[int, int]] = set()  # services and machines
+        self.at_location: Counter[tuple[int, int]] = Counter()
+        self.in_hood: Counter[tuple[int, int]] = Counter()
         self.spread = [0] * model.services
-        self.needed_by = [[] for _ in range(model.services)]
+        self.needed_by: list[list[int]] = [[] for _ in range(model.services)]
         for service, needs in enumerate(model.needs):
             for needed in dict.fromkeys(needs):
                 if needed != service:
@@ -28,12 +34,12 @@ class Emptying:
         for process, machine in enumerate(start):
             self.enter(process, machine)
         self.transient = [r for r, flag in enumerate(model.transient) if flag]
-        self.emptied = []
-        self.done = []  # the shifts of the machine that is being emptied, to be taken back
+        self.emptied: list[int] = []
+        self.done: list[tuple[int, int]] = []  # the shifts of the machine that is being emptied, to be taken back
 
     # Shifts
 
-    def enter(self, process, machine):
+    def enter(self, process: int, machine: int) -> None:
         model, service = self.model, self.model.service[process]
         self.on[machine].add(process)
         self.there.add((service, machine))
@@ -42,7 +48,7 @@ class Emptying:
         self.at_location[at] += 1
         self.in_hood[service, model.hoods[machine]] += 1
 
-    def leave(self, process, machine):
+    def leave(self, process: int, machine: int) -> None:
         model, service = self.model, self.model.service[process]
         self.on[machine].discard(process)
         self.there.discard((service, machine))
@@ -51,7 +57,7 @@ class Emptying:
         self.spread[service] -= not self.at_location[at]
         self.in_hood[service, model.hoods[machine]] -= 1
 
-    def shift(self, process, machine):
+    def shift(self, process: int, machine: int) -> None:
         here, home, required = self.now[process], self.start[process], self.model.required[process]
         self.leave(process, here)
         self.enter(process, machine)
@@ -63,18 +69,18 @@ class Emptying:
             self.held[home] = list(map(sub, self.held[home], required))
         self.now[process] = machine
 
-    def go(self, process, machine):
+    def go(self, process: int, machine: int) -> None:
         self.done.append((process, self.now[process]))
         self.shift(process, machine)
 
-    def take_back(self, count=0):
+    def take_back(self, count: int = 0) -> None:
         """Takes the last shifts back, down to so many."""
         while len(self.done) > count:
             self.shift(*self.done.pop())
 
     # Rules
 
-    def has_room(self, process, machine):
+    def has_room(self, process: int, machine: int) -> bool:
         required, use, capacity = self.model.required[process], self.use[machine], self.model.capacity[machine]
         for used, more, room in zip(use, required, capacity):
             if used + more > room:
@@ -84,7 +90,7 @@ class Emptying:
             return all(use[r] + held[r] + required[r] <= capacity[r] for r in self.transient)
         return True
 
-    def may_go(self, process, machine):
+    def may_go(self, process: int, machine: int) -> bool:
         """Whether a shift of a process breaks no rule, but for the room on the machine that it leaves."""
         model, service, here = self.model, self.model.service[process], self.now[process]
         if self.closed[machine] or (service, machine) in self.there or not self.has_room(process, machine):
@@ -103,7 +109,7 @@ class Emptying:
 
     # Emptying
 
-    def go_on(self, order, ends):
+    def go_on(self, order: Iterable[int], ends: float) -> None:
         """Empties machines in this order as long as there is time, and those that couldn't be emptied again, since others have
         made room since."""
         left = list(order)
@@ -113,17 +119,18 @@ class Emptying:
                 break
             left = stuck
 
-    def empty(self, machine, ends):
+    def empty(self, machine: int, ends: float) -> bool:
         """Empties a machine. Answers whether that came about; nothing has changed else. `ends` is when it has to end."""
         self.done, was_closed = [], self.closed[machine]
         self.closed[machine] = True
         left = sorted(self.on[machine], key=lambda p: (-self.size(p), p))
         while left and time.monotonic() < ends:
-            stuck = [p for p in left if not self.place(p, ends)]
+            stuck = [p for p in left if not self.place(p)]
             if len(stuck) == len(left):
-                stuck = self.make_room(stuck, ends)
-                if stuck is None:
+                some = self.make_room(stuck, ends)
+                if some is None:
                     break
+                stuck = some
             left = stuck
         if left:
             self.take_back()
@@ -133,12 +140,12 @@ class Emptying:
         self.done = []
         return not left
 
-    def size(self, process):
+    def size(self, process: int) -> float:
         """How much a process requires, as the greatest part of what the machine that it is on has."""
         capacity = self.model.capacity[self.now[process]]
         return max(more / max(room, 1) for more, room in zip(self.model.required[process], capacity))
 
-    def room_after(self, process, machine):
+    def room_after(self, process: int, machine: int) -> tuple[bool, Fraction, float, int]:
         """What a machine is worth as a place: whether a safety capacity is passed there then, its price, and the part of its
         scarcest resource that is left. The least is the best."""
         model, least, is_above = self.model, 1.0, False
@@ -149,18 +156,15 @@ class Emptying:
                 least = min(least, (room - used - more) / room)
         return is_above, self.prices[machine], least, machine
 
-    def place(self, process, ends):
+    def place(self, process: int) -> bool:
         """Puts a process on the machine where least room is left after it, if one takes it."""
-        best, count = None, self.model.machines
-        for machine in range(count):
-            if self.may_go(process, machine):
-                found = self.room_after(process, machine)
-                best = found if best is None or found < best else best
-        if best is not None:
+        machines = (machine for machine in range(self.model.machines) if self.may_go(process, machine))
+        best = min((self.room_after(process, machine) for machine in machines), default=None)
+        if best:
             self.go(process, best[-1])
         return best is not None
 
-    def make_room(self, stuck, ends):
+    def make_room(self, stuck: list[int], ends: float) -> list[int] | None:
         """Places one of these processes where another one leaves for a third machine. Answers those that are left, or None if
         none could be placed."""
         for process in stuck:
@@ -170,19 +174,19 @@ class Emptying:
                     if time.monotonic() > ends:
                         return None
                     before = len(self.done)
-                    if self.place(other, ends):
+                    if self.place(other):
                         if self.now[other] != machine and self.may_go(process, machine):
                             self.go(process, machine)
                             return [p for p in stuck if p != process]
                         self.take_back(before)
         return None
 
-    def lack(self, process, machine):
+    def lack(self, process: int, machine: int) -> float:
         """What a machine lacks for a process, as the greatest part of its capacity."""
         return max((used + more - room) / max(room, 1) for used, more, room in
                    zip(self.use[machine], self.model.required[process], self.model.capacity[machine]))
 
-    def part_in_use(self, machine):
+    def part_in_use(self, machine: int) -> float:
         """The greatest part of a capacity that is in use."""
         rows = self.use[machine], self.model.capacity[machine]
         return max(used / room if room else float(used > 0) for used, room in zip(*rows))

@@ -1,10 +1,10 @@
 """Moves the processes of closed machines elsewhere.
 
 With `--closed` alone nobody enters a closed machine, but nobody has to leave. This tool writes a model in which staying on
-a closed machine costs more than anything else (the way from it to itself, which a model may give any cost), and runs
-`reassign solve` on it with proposals for the processes that stand there, in turns. If some stay, all processes are
-proposed too, B times, to make room; and if some stay then, the closed machines have no capacity of a resource that isn't
-transient, and `reassign repair` looks for a way there (tools/repair_words). What comes is judged with MODEL itself.
+a closed machine costs more than anything else (the way from it to itself, which a model may give any cost), and runs `anneal`
+on it: first a descent in which nobody else moves. If some stay, B tries with all processes make room; and if some stay then,
+the closed machines have no capacity of a resource that isn't transient, and `reassign repair` looks for a way there
+(tools/repair_words). What comes is judged with MODEL itself.
 
 Others, who stood on open machines, may have moved by then. They are put back: all of them, else by halves, as long as
 `reassign check` calls the list feasible, until none can go back alone, or after so many checks (--checks). It is told how many
@@ -27,31 +27,63 @@ these are those of the model, as elsewhere. For example
 
     $ tools/evacuate examples/sample/model examples/sample/initial /tmp/closed --out /tmp/emptied"""
 import copy
-import random
+from argparse import Namespace
 from collections import Counter
+from collections.abc import Callable, Mapping, Sequence
+from dataclasses import asdict, dataclass
 from itertools import chain
+from typing import NoReturn
 
 from .closing import add_only, given_list, with_fleet
-from .evacuate_most import empty_most
-from .files import Room, list_text, read_list, target, write_whole
-from .going_on import going_on
-from .lots import lot_of
-from .models import LARGEST, Model, closed_flags, same_sizes
+from .evacuate_most import MostOptions, empty_most
+from .files import InRoom, Room, list_text, read_list, target, write_whole
+from .high_stays import pinned, with_high_stays
+from .models import Model, closed_flags, same_sizes
 from .names import Names
-from .problems import Problem, telling
-from .program import COSTS, Program, closed_words
-from .repair_words import Repair
-from .repair_words import parser as repair_parser
+from .problems import Problem, Stopped, telling
+from .program import Costs, Program, closed_words
+from .repair_words import Repair, RepairOptions
 from .running import no_more_stops, run_tool, say
-from .states import State
+from .states import Cause, State
 from .texts import counted, some
-from .words import LARGEST_SEED, MOST_LOTS, MOST_PROPOSALS, Words, any_file_name, file_name, number, processors
+from .words import LARGEST_SEED, MOST_LOTS, Words, any_file_name, file_name, filled, number, processors
 
-WINDOW = 64  # machines that a shift looks at
+BUDGET, MOST_BUDGET = 10_000_000, 10**12  # tries for all processes in a turn
+CHECKS, MOST_CHECKS = 2000, 1_000_000
 MOST_TOLD, MOST_LOOKED = 10, 200  # processes that are told of, and that are looked at
 
 
-def parser():
+@dataclass(frozen=True)
+class EvacuateOptions:
+    """What `evacuate` is asked: the names of its files, and how long it looks."""
+
+    model: str
+    initial: str
+    closed: str | None
+    out: str
+    names: str | None = None
+    budget: int = BUDGET
+    workers: int | None = None
+    checks: int = CHECKS
+    seed: int = 1
+    only: bool = False
+    model_out: str | None = None
+    program: str | None = None
+    anneal: str | None = None
+
+
+@dataclass(frozen=True)
+class Evacuated:
+    """The list with the fewest processes on closed machines, its costs, which processes stay there, and which of other machines
+    had to move."""
+
+    assignment: list[int]
+    costs: Costs
+    staying: list[int]
+    others: list[int]
+
+
+def parser() -> Words:
     words = Words("evacuate", __doc__)
     words.add_program()
     words.add_argument("model", metavar="MODEL", type=file_name)
@@ -60,12 +92,13 @@ def parser():
                        help="the machines to be emptied; with --most those that are closed before, if there are some")
     words.add_argument("--out", metavar="NEW", type=file_name, required=True, help="the new list")
     words.add_argument("--names", metavar="FILE", type=any_file_name, help="the names of the model, as `named pack` writes them")
-    words.add_argument("--budget", metavar="B", type=number(0, MOST_PROPOSALS), default=MOST_PROPOSALS,
-                       help="proposals for all processes in a turn, if some stay (1000000); 0 moves nobody else")
-    words.add_argument("--workers", metavar="W", type=number(1, MOST_LOTS), default=processors(),
-                       help="workers of these proposals (as many as processors)")
-    words.add_argument("--checks", metavar="N", type=number(0, 1_000_000), default=2000,
-                       help="put others back by at most so many calls of `reassign check` (2000)")
+    words.add_argument("--anneal", metavar="FILE", type=any_file_name, help="the program anneal (else as --program, by ANNEAL)")
+    words.add_argument("--budget", metavar="B", type=number(0, MOST_BUDGET), default=BUDGET,
+                       help=f"tries for all processes in a turn, if some stay ({BUDGET}); 0 moves nobody else")
+    words.add_argument("--workers", metavar="W", type=number(1, MOST_LOTS),
+                       help="workers of these tries (as many as processors)")
+    words.add_argument("--checks", metavar="N", type=number(0, MOST_CHECKS), default=CHECKS,
+                       help=f"put others back by at most so many calls of `reassign check` ({CHECKS})")
     words.add_argument("--seed", metavar="S", type=number(0, LARGEST_SEED), default=1, help="seed of the choices (1)")
     words.add_argument("--most", action="store_true", help="empty as many machines as can be, the dearest first")
     words.add_argument("--seconds", metavar="S", type=number(1, 1_000_000), default=30, help="of --most: end after so many (30)")
@@ -76,127 +109,89 @@ def parser():
 
 
 class Evacuation:
-    def __init__(self, words, room, names):
-        self.words, self.room, self.program = words, room, Program(words.program)
-        inputs = self.program.name, words.model, words.initial, words.closed, words.names
-        self.out = target(words.out, *inputs)
-        self.model_out = words.model_out and target(words.model_out, words.out, *inputs)
-        given = given_list(words, names, room)
-        self.program.numbers("check", words.model, words.initial, words.initial, *closed_words(given))
-        self.model, self.start = Model.read(words.model), read_list(words.initial)
-        same_sizes(self.model, words.model, self.start)
+    """The way to a list with the fewest processes on closed machines. `tell` gets lines that say how far it is."""
+
+    def __init__(self, options: EvacuateOptions, room: InRoom, names: Names | None,
+                 tell: Callable[[str], object] = say) -> None:
+        self.options, self.room, self.program, self.tell = options, room, Program(options.program), tell
+        self.anneal, self.workers = Program(options.anneal, "anneal"), options.workers or processors()
+        inputs = self.program.name, self.anneal.name, options.model, options.initial, options.closed, options.names
+        self.out = target(options.out, *inputs)
+        model_out = options.model_out and target(options.model_out, options.out, *inputs)
+        given = given_list(options, names, room)
+        self.program.costs(options.model, options.initial, options.initial, *closed_words(given))
+        self.model, self.start = Model.read(options.model), read_list(options.initial)
+        same_sizes(self.model, options.model, self.start)
         self.names = names or Names.numbers(self.model)
         self.flags = closed_flags(self.model, given)  # of the machines that are emptied; `shut` are all that nobody may enter
-        self.closed = with_fleet(words, given, self.names, room)
+        self.closed = with_fleet(options, given, self.names, room, tell)
         self.shut, self.closing = closed_flags(self.model, self.closed), closed_words(self.closed)
-        self.changed = self.with_high_stays()
-        if words.model_out:
-            write_whole(self.model_out, self.changed.pieces())
-        self.chance, self.now, self.turns, self.checks = random.Random(words.seed), list(self.start), 0, words.checks
+        self.changed = with_high_stays(self.model, self.start, self.flags)
+        if model_out:
+            write_whole(model_out, self.changed.pieces())
+        self.now, self.turns, self.checks = list(self.start), 0, options.checks
 
-    def staying(self, now=None):
+    def staying(self, now: list[int] | None = None) -> list[int]:
         """The processes on the machines that are emptied."""
         return [p for p, machine in enumerate(now or self.now) if self.flags[machine]]
 
-    def others(self):
+    def others(self) -> list[int]:
         """The processes of other machines that moved."""
         return [p for p, (home, now) in enumerate(zip(self.start, self.now)) if home != now and not self.flags[home]]
 
-    def most_rise(self, process, ways):
-        """No less than what the cost rises by if a process leaves its machine."""
-        model, required = self.model, self.model.required[process]
-        load = sum(weight * more for weight, more in zip(model.load_weights, required))
-        balance = sum(weight * (goal * required[one] + required[two]) for one, two, goal, weight in model.balances)
-        weights = model.weights
-        return load + balance + weights[0] * model.move_cost[process] + weights[1] + weights[2] * max(ways)
-
-    def with_high_stays(self):
-        """The model in which staying on a closed machine costs most."""
-        model, changed = self.model, copy.copy(self.model)
-        changed.ways, changed.rows = list(model.ways), {}
-        most = max((self.most_rise(p, model.way_costs(self.start[p])) for p in self.staying(self.start)), default=0)
-        if model.weights[2] * LARGEST <= most:
-            changed.ways = [b" ".join([b"0"] * model.machines)] * model.machines
-            changed.weights = [*model.weights[:2], LARGEST]
-        for machine, is_closed in enumerate(self.flags):
-            if is_closed:
-                row = changed.ways[machine].split()
-                row[machine] = b"%d" % LARGEST
-                changed.ways[machine] = b" ".join(row)
-        return changed
-
-    def aimed(self, staying):
-        """A lot of proposals for the processes on closed machines: each looks at machine after machine, as far as the lot
-        takes them."""
-        machines = self.model.machines
-        starts = {p: self.chance.randrange(machines) for p in staying}
-        return [lot_of((0, p, (starts[p] + begin) % machines) for begin in range(0, machines, WINDOW) for p in staying)[0]]
-
-    def turn(self, lots, least):
-        """A run from the list so far. Answers whether at least so many fewer stay."""
+    def turn(self, model: Model, tries: int) -> bool:
+        """A search in a changed model. Answers whether fewer stay."""
         self.turns += 1
-        model, start = self.changed, self.words.initial
-        if self.now != self.start:
-            model, _ = going_on(self.changed, self.start, self.now)
-            start = self.room("list")
-            write_whole(start, [list_text(self.now)])
         write_whole(self.room("model"), model.pieces())
-        _, head, _ = self.program.run("solve", self.room("model"), start, *self.closing, *lots, lines=10)
-        if len(head) < 9 or not head[8].startswith("assignment "):
-            raise self.program.no_program("prints no report")
-        return self.keep(list(map(int, head[8].split()[1:])), least)
+        seed = (self.options.seed + self.turns - 1) % 2**64
+        words = [*self.closing, "--workers", self.workers, f"{seed}:{tries}"]
+        _, lines, _ = self.anneal.run(self.room("model"), self.options.initial, *words)
+        found = [line for line in lines if line.startswith("assignment ")]
+        if len(found) != 1:
+            raise self.anneal.no_program("doesn't print what anneal prints")
+        return self.keep(list(map(int, found[0].split()[1:])))
 
-    def lots_for_all(self):
-        workers, budget = self.words.workers, self.words.budget
-        seed = self.words.seed + MOST_LOTS * self.turns
-        return [f"{(seed + worker) % 2**64}:{budget // workers}" for worker in range(workers)]
-
-    def keep(self, found, least=1):
-        """Keeps a list with so many fewer on closed machines, if it is feasible from the true start."""
+    def keep(self, found: list[int]) -> bool:
+        """Keeps a list with fewer on closed machines, if it is feasible from the true start."""
         staying = len(self.staying(found))
-        if staying > len(self.staying()) - least or found == self.now or not self.is_feasible(found):
+        if staying >= len(self.staying()) or not self.is_feasible(found):
             return False
         self.now = found
-        say(f"turn {self.turns}: {staying} of {len(self.staying(self.start))} processes stay")
+        self.tell(f"turn {self.turns}: {staying} of {len(self.staying(self.start))} processes stay")
         return True
 
-    def is_feasible(self, found):
+    def is_feasible(self, found: list[int]) -> bool:
         """Whether a list is feasible from the true start, as `check` says."""
         write_whole(self.room("found"), [list_text(found)])
-        status, _, _ = self.program.run("check", self.words.model, self.words.initial, self.room("found"), *self.closing,
-                                        endings=(0, 6))
+        words = "check", self.options.model, self.options.initial, self.room("found"), *self.closing
+        status, _, _ = self.program.run(*words, endings=(0, 6))
         return status == 0
 
-    def go(self):
-        while self.staying():
-            if self.turn(self.aimed(self.staying()), 1):
-                continue
-            before = len(self.staying())
-            if self.words.budget:
-                self.turn(self.lots_for_all(), 0)
-            self.by_hand()
-            if len(self.staying()) == before and not (self.words.budget and self.turn(self.aimed(self.staying()), 1)):
-                break
-        if self.staying() and self.words.budget:
+    def go(self) -> None:
+        if self.staying():
+            self.turn(pinned(self.changed, self.start, self.flags), 0)
+        while self.staying() and self.options.budget and self.turn(self.changed, self.options.budget):
+            pass
+        if self.staying() and self.options.budget:
             self.by_repair()
         self.put_others_back()
 
-    def put_others_back(self):
+    def put_others_back(self) -> None:
         """Puts the others back who needn't have moved: all of them, else by halves, in which those stand together whose
         services depend on each other; and anew, since one who went back may make room for another."""
         before = after = len(self.others())
         places = {service: place for place, service in enumerate(chain(*self.model.groups()))}
         while after and self.checks:
-            groups = [sorted(self.others(), key=lambda p: (places[self.model.service[p]], p))]
+            groups: list[Sequence[int]] = [sorted(self.others(), key=lambda p: (places[self.model.service[p]], p))]
             while groups:
                 groups = [half for group in groups if not self.put_back(group) for half in halves(group)]
             last, after = after, len(self.others())
             if after == last:
                 break
         if before:
-            say(f"{before} others had moved; {before - after} of them went back, by {self.words.checks - self.checks} checks")
+            self.tell(f"{before} others had moved; {before - after} of them went back, by {self.options.checks - self.checks} checks")
 
-    def put_back(self, group):
+    def put_back(self, group: Sequence[int]) -> bool:
         """Puts processes back to their first machines, if the list stays feasible."""
         if not self.checks:
             return False
@@ -209,18 +204,7 @@ class Evacuation:
         self.now = found
         return True
 
-    def by_hand(self):
-        """Moves each process that stays to an open machine that takes it, if there is one."""
-        state = State(self.model, self.start, self.now, self.shut)
-        for process in self.staying()[:MOST_LOOKED]:
-            machine = next((m for m in self.by_room(state, process) if state.breaks(process, m) is None), None)
-            if machine is not None:
-                moved = list(state.now)
-                moved[process] = machine
-                self.keep(moved)
-                state = State(self.model, self.start, self.now, self.shut)
-
-    def by_repair(self):
+    def by_repair(self) -> None:
         """Looks for a way by `repair`, with no capacity of a resource that isn't transient on the closed machines."""
         model, staying = self.model, self.staying()
         counts = [sum(model.required[p][r] > 0 for p in staying) * (not model.transient[r]) for r in range(model.resources)]
@@ -230,102 +214,132 @@ class Evacuation:
         empty = copy.copy(model)
         empty.capacity = [[0 if is_closed and at == r else room for at, room in enumerate(row)]
                           for row, is_closed in zip(model.capacity, self.flags)]
-        # From the list so far: what is feasible there in one go is feasible from the true start.
-        write_whole(self.room("model"), going_on(empty, self.start, self.now)[0].pieces())
+        # What who left holds of a transient resource isn't there: so what is feasible from the list so far is from the true start.
+        held = model.left_behind(self.start, self.now)
+        empty.capacity = [[room - out if flag else room for room, out, flag in zip(row, gone, model.transient)]
+                          for row, gone in zip(empty.capacity, held)]
+        write_whole(self.room("model"), empty.pieces())
         write_whole(self.room("list"), [list_text(self.now)])
-        options = repair_parser().parse_args([
-            self.room("model"), self.room("list"), "--closed", self.closed, "--out", self.room("repaired"),
-            "--seed", str(self.words.seed), "--program", self.program.name])
+        options = RepairOptions(self.room("model"), self.room("list"), self.room("repaired"), self.closed, seed=self.options.seed,
+                                program=self.program.name)
         self.turns += 1
         repair = Repair(options, self.room, tell=lambda line: None)
         repair.go()
         self.keep(repair.now)
 
-    def by_room(self, state, process):
-        """The open machines, those first where most room would be left of the scarcest resource."""
-        required, own = self.model.required[process], state.now[process]
+    def done(self) -> Evacuated:
+        """Writes the list, and answers what came."""
+        write_whole(self.out, [list_text(self.now)])
+        costs = self.program.costs(self.options.model, self.options.initial, self.out, *self.closing)
+        return Evacuated(self.now, costs, self.staying(), self.others())
 
-        def room(machine):
-            return min((limit - used - more) / max(limit, 1) for limit, used, more in
-                       zip(self.model.capacity[machine], state.use[machine], required))
-        return sorted((m for m in range(self.model.machines) if not self.shut[m] and m != own), key=lambda m: (-room(m), m))
 
-    def tell(self):
-        """Tells what came. Answers the status."""
-        staying, first, others = self.staying(), self.staying(self.start), self.others()
+class Telling:
+    """What is told of an evacuation."""
+
+    def __init__(self, evacuation: Evacuation, found: Evacuated) -> None:
+        self.model, self.names, self.start, self.found = evacuation.model, evacuation.names, evacuation.start, found
+        self.flags, self.shut, self.first = evacuation.flags, evacuation.shut, evacuation.staying(evacuation.start)
+        self.state = State(self.model, self.start, found.assignment, self.shut)
+
+    def tell(self, by_names: bool) -> None:
+        first, staying, others = len(self.first), self.found.staying, self.found.others
         closed = [name for name, is_closed in zip(self.names.machines, self.flags) if is_closed]
-        print(f"went {len(first) - len(staying)} of {len(first)} processes of {counted(len(closed), 'closed machine')}"
-              f"{f': {some(closed)}' if self.words.names and closed else ''}")
-        print(f"others {len(others)} of {self.model.processes - len(first)} had to move")
-        costs = self.program.numbers("check", self.words.model, self.words.initial, self.out, *self.closing)
-        print("".join(f"{name} {costs[name]}\n" for name in COSTS), end="")
-        state = State(self.model, self.start, self.now, self.shut)
+        print(f"went {first - len(staying)} of {first} processes of {counted(len(closed), 'closed machine')}"
+              f"{f': {some(closed)}' if by_names and closed else ''}")
+        print(f"others {len(others)} of {self.model.processes - first} had to move")
+        print("".join(f"{name} {value}\n" for name, value in asdict(self.found.costs).items()), end="")
         if others:
-            self.tell_others(state, others)
+            self.tell_others()
         if staying:
-            self.tell_staying(state, staying)
-        return 11 if staying else 0
+            self.tell_staying()
 
-    def named(self, process):
+    def by_room(self, process: int) -> list[int]:
+        """The open machines, those first where most room would be left of the scarcest resource."""
+        required, own, model = self.model.required[process], self.state.now[process], self.model
+
+        def room(machine: int) -> float:
+            rows = model.capacity[machine], self.state.use[machine], required
+            return min((limit - used - more) / max(limit, 1) for limit, used, more in zip(*rows))
+        return sorted((m for m in range(model.machines) if not self.shut[m] and m != own), key=lambda m: (-room(m), m))
+
+    def named(self, process: int) -> str:
         """A process with its service."""
         return f"process {self.names.processes[process]} of service {self.names.services[self.model.service[process]]}"
 
-    def tell_others(self, state, others):
-        """Why the others can't go back."""
-        causes = {process: state.breaks(process, self.start[process]) for process in others}
-        for process in others[:MOST_TOLD]:
-            cause = self.names.cause(*causes[process]) if causes[process] else "not tried"
-            print(f"{self.named(process)} can't go back to machine {self.names.machines[self.start[process]]}: {cause}")
-        print(f"all {len(others)} others: {told(Counter(cause[0] if cause else 'not tried' for cause in causes.values()))}")
+    def cause(self, cause: Cause | None, none: str) -> str:
+        return self.names.cause(*cause) if cause else none
 
-    def tell_staying(self, state, staying):
+    def tell_others(self) -> None:
+        """Why the others can't go back."""
+        causes = {process: self.state.breaks(process, self.start[process]) for process in self.found.others}
+        for process, cause in list(causes.items())[:MOST_TOLD]:
+            print(f"{self.named(process)} can't go back to machine {self.names.machines[self.start[process]]}: "
+                  f"{self.cause(cause, 'not tried')}")
+        print(f"all {len(causes)} others: {told(counts_of(causes, 'not tried'))}")
+
+    def tell_staying(self) -> None:
         """Why those that stay do."""
-        totals = Counter()
-        for at, process in enumerate(staying[:MOST_LOOKED]):
-            machines = self.by_room(state, process)
-            causes = {machine: state.breaks(process, machine) for machine in machines}
-            counts = Counter(cause[0] if cause else "nothing" for cause in causes.values())
+        totals: Counter[str] = Counter()
+        looked = self.found.staying[:MOST_LOOKED]
+        for at, process in enumerate(looked):
+            causes = {machine: self.state.breaks(process, machine) for machine in self.by_room(process)}
+            counts = counts_of(causes, "nothing")
             totals.update(counts)
             if at < MOST_TOLD:
-                print(f"{self.named(process)} stays on machine {self.names.machines[self.now[process]]}: "
-                      f"of {len(machines)} open machines {told(counts)}")
-                for machine in machines[:3]:
-                    cause = self.names.cause(*causes[machine]) if causes[machine] else "takes it"
-                    print(f"  machine {self.names.machines[machine]}: {cause}")
-        print(f"all {min(len(staying), MOST_LOOKED)} that were looked at: {told(totals)}")
+                print(f"{self.named(process)} stays on machine {self.names.machines[self.state.now[process]]}: "
+                      f"of {len(causes)} open machines {told(counts)}")
+                for machine, cause in list(causes.items())[:3]:
+                    print(f"  machine {self.names.machines[machine]}: {self.cause(cause, 'takes it')}")
+        print(f"all {len(looked)} that were looked at: {told(totals)}")
 
 
-def halves(group):
+def counts_of(causes: Mapping[int, Cause | None], none: str) -> Counter[str]:
+    """How often each word of a broken rule comes."""
+    return Counter(str(cause[0]) if cause else none for cause in causes.values())
+
+
+def halves(group: Sequence[int]) -> list[Sequence[int]]:
     """The halves of a group, if it has any."""
     middle = len(group) // 2
     return [group[:middle], group[middle:]] if middle else []
 
 
-def told(counts):
+def told(counts: Mapping[str, int]) -> str:
     return ", ".join(f"{count} by {cause}" for cause, count in sorted(counts.items(), key=lambda it: (-it[1], it[0]))) or "none"
 
 
-def work(words):
+def evacuated(options: EvacuateOptions, names: Names | None, room: InRoom,
+              tell: Callable[[str], object] = say) -> tuple[Evacuated, Telling]:
+    """The list with the fewest processes on closed machines, and what can be told of it. If it ends early, the best list so far
+    is written."""
+    evacuation = Evacuation(options, room, names, tell)
+    try:
+        evacuation.go()
+    except Stopped:
+        no_more_stops()
+        tell(f"stopped in turn {evacuation.turns}; {options.out} has the best list so far")
+    except BaseException:
+        if evacuation.now != evacuation.start:
+            write_whole(evacuation.out, [list_text(evacuation.now)])
+            tell(f"{options.out} has the best list so far")
+        raise
+    found = evacuation.done()
+    return found, Telling(evacuation, found)
+
+
+def work(words: Namespace) -> int:
     if not words.most and not words.closed:
         raise Problem("CLOSED is missing, or --most; evacuate --help shows how to call it", 2)
     names = Names.read(words.names, words.model) if words.names else None
-    with Room() as room, telling(names.line if names else str):
+    with Room() as room, telling(names.line if names else None):
         if words.most:
-            return empty_most(words, room, names)
-        evacuation = Evacuation(words, room, names)
-        try:
-            evacuation.go()
-        except KeyboardInterrupt:
-            no_more_stops()
-            say(f"stopped in turn {evacuation.turns}; {words.out} has the best list so far")
-        except Problem:
-            if evacuation.now != evacuation.start:
-                write_whole(evacuation.out, [list_text(evacuation.now)])
-                say(f"{words.out} has the best list so far")
-            raise
-        write_whole(evacuation.out, [list_text(evacuation.now)])
-        return evacuation.tell()
+            empty_most(filled(MostOptions, words), room, names)
+            return 0
+        found, telling_of = evacuated(filled(EvacuateOptions, words), names, room)
+    telling_of.tell(by_names=bool(names))
+    return 11 if found.staying else 0
 
 
-def main(words=None):
+def main(words: list[str] | None = None) -> NoReturn:
     run_tool(parser(), work, words)

@@ -228,7 +228,8 @@ class Numbers:
         more = (self.cut + piece).split()
         self.cut = more.pop() if more and piece and piece[-1:] not in b" \t\r\n" else b""
         if len(self.cut) > LONG:
-            self.cut = self.cut[ZEROS.match(self.cut, 0, len(self.cut) - 1).end():-1][:LONG] + self.cut[-1:]
+            zeros = ZEROS.match(self.cut, 0, len(self.cut) - 1)
+            self.cut = self.cut[zeros.end() if zeros else 0:-1][:LONG] + self.cut[-1:]
         self.words, self.at = self.words[self.at:] + more, 0
         return bool(piece)
 

@@ -1,5 +1,7 @@
 """Draws a run of `reassign solve`, or the machines before and after, as a picture (SVG, to standard output).
 
+LOG .. draws searches by `improve`: what is left of the gap over the seconds.
+
 REPORT alone draws the run; --run REPORT MODEL INITIAL draws it with the cost of its start; REPORT MODEL INITIAL, or any list,
 LIST MODEL INITIAL, draws the machines, before and after.
 
@@ -25,8 +27,10 @@ import argparse
 import shlex
 import sys
 from collections.abc import Callable, Sequence
+from dataclasses import dataclass
 
 from .files import read_list, target
+from .improve_pictures import draw_logs, is_log
 from .machine_pictures import draw_machines, title_of
 from .machine_uses import uses_of
 from .models import Model, same_sizes
@@ -37,15 +41,30 @@ from .run_pictures import draw_run
 from .reports import is_list
 from .run_reports import RunReport
 from .running import run_tool
-from .words import Words, any_file_name, shown
+from .words import Words, any_file_name, filled, shown
+
+
+@dataclass(frozen=True)
+class PlotOptions:
+    """What `plot` is asked: the names of its files, and what is drawn."""
+
+    report: str
+    model: str | None = None
+    initial: str | None = None
+    more: Sequence[str] = ()
+    run: bool = False
+    names: str | None = None
+    title: str | None = None
 
 
 def parser() -> Words:
     words = Words("plot", __doc__)
-    words.add_argument("report", metavar="REPORT|LIST", type=any_file_name)
+    words.add_argument("report", metavar="REPORT|LIST|LOG", type=any_file_name)
     words.add_argument("model", metavar="MODEL", type=any_file_name, nargs="?")
     words.add_argument("initial", metavar="INITIAL", type=any_file_name, nargs="?")
-    words.add_argument("--out", metavar="FILE", type=any_file_name, help="where the picture goes (standard output): .svg, .png or .pdf")
+    words.add_argument("more", metavar="LOG", type=any_file_name, nargs="*", help="further logs, from the second on")
+    words.add_argument("--out", metavar="FILE", type=any_file_name,
+                       help="where the picture goes (standard output): .svg, .png or .pdf")
     words.add_argument("--run", action="store_true", help="draw the run, though there are a model and a start")
     words.add_argument("--names", metavar="FILE", type=any_file_name, help="the names of the model, as `named pack` writes them")
     words.add_argument("--title", metavar="TITLE", help="the title of the picture")
@@ -75,45 +94,51 @@ class Instance:
                           f"{self.start_name} costs {self.start_cost}", 9)
 
 
-def machines(words: argparse.Namespace, instance: Instance, end: Sequence[int], command: str) -> str:
+def machines(options: PlotOptions, instance: Instance, end: list[int], title: str | None, command: str) -> str:
     """The picture of the machines."""
     model = instance.model
-    names = Names.read(words.names, words.model) if words.names else Names.numbers(model)
-    title = shown(words.title) if words.title else title_of(words.report, model.machines)
+    names = Names.read(options.names, options.model) if options.names and options.model else Names.numbers(model)
     uses = uses_of(model, names, instance.start, end)
-    return draw_machines(uses, names.machines, title, command, tells_fullest=bool(words.names))
+    return draw_machines(uses, names.machines, title or title_of(options.report, model.machines), command,
+                         tells_fullest=bool(options.names))
 
 
-def picture_of(words: argparse.Namespace, tidy: Callable[[str], str] = str) -> str:
-    files: list[str] = [name for name in (words.report, words.model, words.initial) if name]
-    options = ["--run"] * words.run + (["--names", words.names] if words.names else [])
-    command = "tools/plot " + tidy(shown(shlex.join([*options, *files])))
-    instance = Instance(words.model, words.initial) if words.model else None
-    if is_list(words.report):
-        if words.run or not instance:
-            raise Problem(f"{words.report} is a list, of which the machines are drawn, with MODEL and INITIAL", 2)
-        end = read_list(words.report)
-        same_sizes(instance.model, words.report, end)
-        return machines(words, instance, end, command)
-    report = RunReport(words.report)
+def picture_of(options: PlotOptions, tidy: Callable[[str], str] = str) -> str:
+    """The picture, as the text of an SVG. What it says of the call goes through `tidy`."""
+    files = list(filter(None, (options.report, options.model, options.initial, *options.more)))
+    flags = ["--run"] * options.run + (["--names", options.names] if options.names else [])
+    command, title = "tools/plot " + tidy(shown(shlex.join([*flags, *files]))), shown(options.title) if options.title else None
+    if is_log(options.report):
+        return draw_logs(files, title, command)
+    instance = Instance(options.model, options.initial) if options.model and options.initial else None
+    if is_list(options.report):
+        if options.run or not instance:
+            raise Problem(f"{options.report} is a list, of which the machines are drawn, with MODEL and INITIAL", 2)
+        end = read_list(options.report)
+        same_sizes(instance.model, options.report, end)
+        return machines(options, instance, end, title, command)
+    report = RunReport(options.report)
     if instance:
         instance.has(report)
-    if instance and not words.run:
-        return machines(words, instance, report.assignment, command)
-    return draw_run(report, instance.start_cost if instance else None, command, shown(words.title) if words.title else None)
+        if not options.run:
+            return machines(options, instance, report.assignment, title, command)
+    return draw_run(report, instance.start_cost if instance else None, command, title)
 
 
 def work(words: argparse.Namespace) -> None:
-    if words.model and not words.initial:
+    options, is_drawn_log = filled(PlotOptions, words), is_log(words.report)
+    if words.more and not is_drawn_log or is_drawn_log and words.run:
+        raise Problem(f"{words.report} is {'a' if is_drawn_log else 'no'} log of `improve`; plot --help shows how to call it", 2)
+    if words.model and not words.initial and not is_drawn_log:
         raise Problem("MODEL stands alone, without INITIAL; plot --help shows how to call it", 2)
     if words.run and not words.model:
         raise Problem("--run wants MODEL and INITIAL; plot --help shows how to call it", 2)
     if words.names and not words.model:
         raise Problem("--names is for a model and its machines; plot --help shows how to call it", 2)
-    out = words.out and target(words.out, words.report, words.model, words.initial, words.names)
+    out = words.out and target(words.out, words.report, words.model, words.initial, *words.more, words.names)
     if out:
         form_of(words.out)
-    picture = picture_of(words).encode()
+    picture = picture_of(options).encode()
     if out:
         write_picture(out, picture)
     else:
@@ -121,5 +146,5 @@ def work(words: argparse.Namespace) -> None:
         sys.stdout.buffer.flush()
 
 
-def main(words: Sequence[str] | None = None) -> None:
+def main(words: list[str] | None = None) -> None:
     run_tool(parser(), work, words)

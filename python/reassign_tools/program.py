@@ -17,7 +17,8 @@ PIECE = 1 << 20
 LONGEST_ERROR = 1 << 16  # bytes of an error line
 A_LINE, MOST_PRINTED = 64, 1 << 28  # bytes that a line takes beside its text, and that all lines may take
 STATUSES = range(2, 13)
-BINARIES = ("crates/reassign/out/reassign", "../lib/reassign/reassign")  # from the folders of the scripts that call it
+OPTIONS = {"reassign": "--program", "anneal": "--anneal"}  # that name the programs
+BINARIES = ("crates/{0}/out/{0}", "../lib/reassign/{0}")  # from the folders of the scripts that call them
 
 
 @dataclass(frozen=True)
@@ -44,15 +45,16 @@ def is_script(name: str) -> bool:
 
 
 class Program:
-    """The program that a tool calls."""
+    """A program that a tool calls: `reassign`, or `anneal`."""
 
-    def __init__(self, named: str | None) -> None:
-        named = named or os.environ.get("REASSIGN")
-        here = os.path.join(ROOT, "reassign")
-        beside = os.path.join(os.path.dirname(os.path.abspath(sys.argv[0])), "reassign")
-        name = named or next(filter(os.path.isfile, (here, beside)), shutil.which("reassign"))
+    def __init__(self, named: str | None, called: str = "reassign") -> None:
+        self.called = called
+        named = named or os.environ.get(called.upper())
+        here, installed = os.path.join(ROOT, called), called if called == "reassign" else f"reassign-{called}"
+        beside = os.path.join(os.path.dirname(os.path.abspath(sys.argv[0])), installed)
+        name = named or next(filter(os.path.isfile, (here, beside)), shutil.which(installed))
         if not name or not os.path.isfile(name) or not os.access(name, os.X_OK):
-            raise Problem(f"there is no program {name or 'reassign'}: name it with --program")
+            raise Problem(f"there is no program {name or called}: name it with {OPTIONS[called]}")
         self.name = name
         if self.name == here:
             self.make()
@@ -60,13 +62,14 @@ class Program:
     def binary(self) -> str:
         """The program's own file, which the repository's call of it finds, as an installed one does."""
         folder = os.path.dirname(os.path.realpath(self.name))
-        places = (os.path.join(folder, place) for place in BINARIES) if is_script(self.name) else ()
+        places = (os.path.join(folder, place.format(self.called)) for place in BINARIES) if is_script(self.name) else ()
         return next(filter(os.path.isfile, places), os.path.abspath(self.name))
 
     def make(self) -> None:
         """The repository's own call proves and compiles the program if that is due, and says on standard error how far it
         is: so it is called once with nothing in between."""
-        made = begin([self.name, "bound", os.path.join(ROOT, "examples/sample/model")], stdout=subprocess.DEVNULL)
+        words = ["bound", os.path.join(ROOT, "examples/sample/model")] if self.called == "reassign" else ["--version"]
+        made = begin([self.name, *words], stdout=subprocess.DEVNULL)
         try:
             status = made.wait()
         except BaseException:

@@ -1,11 +1,11 @@
 """Runs solvers on instances, with the same seeds and budgets, and judges every list that comes by `reassign check`.
 
 An instance is a file model_X with assignment_X beside it (with any ending), or a folder with the files `model` and `initial`.
-The program itself runs once for each slack: by `solve` if the budget is at most 1,000,000 proposals, and else, and with
---seconds, by tools/rounds. Another program takes part by --solver 'NAME: COMMAND'. In the words of its command {model},
-{initial} and {new} stand for the files of a run, {new} is the list that it has to write, {seconds} is how long it may take,
-and {seed} is its seed. No shell reads the command. With --proposals it gets as many seconds as the program's runs took of
-processor time, without reading: the median of all seeds. It may print `proposals N`, and its curve as lines `at SECONDS COST`.
+With --proposals `solve` runs once for each slack; with --seconds tools/improve runs, by the name `anneal`, and beside `solve` it does
+with --solver anneal. Another program takes part by --solver 'NAME: COMMAND'. In the words of its command {model}, {initial} and {new}
+stand for the files of a run, {new} is the list that it has to write, {seconds} is how long it may take, and {seed} is its seed. No
+shell reads the command. With --proposals others get as many seconds as the runs of `solve` took of processor time, without reading:
+the median of all seeds. A program may print `proposals N`, and its curve as lines `at SECONDS COST`.
 
     $ tools/race --instances 'data/model_*.txt' --seeds 1-10 --slack 0,30 --proposals 100000 --csv runs.csv
     $ tools/race --instances hall --seeds 1-5 --seconds 60 --solver 'mine: ./mine {model} {initial} {new} {seconds} {seed}'
@@ -37,7 +37,6 @@ import queue
 import shutil
 import threading
 from collections.abc import Callable, Iterator, Mapping, Sequence
-from dataclasses import replace
 from typing import TypeVar
 
 from .files import Room, read_whole, target, write_whole
@@ -45,8 +44,8 @@ from .pictures import form_of, write_picture
 from .problems import Problem
 from .program import Program
 from .race_curves import costs, curves
-from .race_plan import (AUTO, Instance, Job, Plan, Solver, digest, instances_of, is_one_run, planned, proposals_of, seconds_of,
-                        seeds_of, slacks_of, solver_of)
+from .race_plan import (ANNEAL, Instance, Job, Plan, Solver, digest, instances_of, planned, proposals_of, seconds_of, seeds_of,
+                        slacks_of, solver_of)
 from .race_ranks import rank_table
 from .race_rows import Judge, Row, Table, csv_text, instance_table, json_text, read_known, run_table
 from .race_runs import Place, Running, run_unit, units_of
@@ -65,7 +64,7 @@ def parser() -> Words:
                        help="models by names or patterns, or folders")
     words.add_argument("--seeds", metavar="SEEDS", type=listed(seeds_of), default=[1], help="such as 1-5,8 (1)")
     words.add_argument("--slack", metavar="SLACKS", type=listed(slacks_of),
-                       help="of the program's runs, such as 0,30; `auto` lets tools/rounds choose (auto; 0 for runs of `solve`)")
+                       help="of the runs of `solve`, such as 0,30 (0)")
     budgets = words.add_mutually_exclusive_group()
     budgets.add_argument("--proposals", metavar="N", type=listed(proposals_of),
                          help="the budget of each run; may be several: 1000,10000")
@@ -73,7 +72,7 @@ def parser() -> Words:
                          help="the budget of each run, by the clock; may be several")
     words.add_argument("--workers", metavar="W", type=number(1, MOST_LOTS), default=1,
                        help="workers of each run of the program (1)")
-    words.add_argument("--solver", metavar="WORDS", action="append", default=[], help="another program: 'NAME: COMMAND'")
+    words.add_argument("--solver", metavar="WORDS", action="append", default=[], help="another program: 'NAME: COMMAND'; or anneal")
     words.add_argument("--jobs", metavar="J", type=number(1, 1000), default=1, help="runs side by side (1)")
     words.add_argument("--csv", metavar="FILE", type=file_name, help="a row for each run")
     words.add_argument("--json", metavar="FILE", type=file_name, help="the same, with the curves")
@@ -112,19 +111,13 @@ def plan_of(options: argparse.Namespace) -> Plan:
 
 def made_plan(instances: Sequence[Instance], solvers: Sequence[Solver], seeds: Sequence[int], slacks: Sequence[str] | None,
               proposals: Sequence[int], seconds: Sequence[float], workers: int) -> Plan:
-    """The plan of a race. A run of `solve` has slack 0 if no slacks are given, and `rounds` chooses."""
+    """The plan of a race. Slacks are for runs of `solve`."""
     if len({solver.name for solver in solvers}) < len(solvers):
         raise Problem("two solvers have one name", 2)
     budgets: list[tuple[int | None, float | None]] = [*((one, None) for one in proposals), *((None, one) for one in seconds)]
-    return with_slacks(planned(instances, solvers, seeds, slacks or [AUTO], budgets, workers), slacks)
-
-
-def with_slacks(plan: Plan, asked: Sequence[str] | None) -> Plan:
-    jobs = [replace(job, slack="0") if job.slack == AUTO and is_one_run(job) else job for job in plan.jobs]
-    if asked and AUTO in asked and any(one != job for one, job in zip(jobs, plan.jobs)):
-        raise Problem("--slack auto is for --seconds, and for more than 1000000 proposals", 2)
-    plan.jobs = jobs
-    return plan
+    if slacks and not proposals:
+        raise Problem("--slack is for --proposals", 2)
+    return planned(instances, solvers, seeds, slacks or ["0"], budgets, workers)
 
 
 # Here
@@ -233,8 +226,10 @@ def write_list(options: argparse.Namespace) -> None:
             os.makedirs(os.path.join(folder, "instances", str(at)), exist_ok=True)
             for file, name in (("model", instance.model), ("initial", instance.initial)):
                 shutil.copyfile(name, os.path.join(folder, "instances", str(at), file))
-        shutil.copyfile(program.binary(), os.path.join(folder, PROGRAM))
-        os.chmod(os.path.join(folder, PROGRAM), 0o755)
+        programs = {PROGRAM: program} | ({ANNEAL: Program(None, ANNEAL)} if any(job.solver == ANNEAL for job in plan.jobs) else {})
+        for name, one in programs.items():
+            shutil.copyfile(one.binary(), os.path.join(folder, name))
+            os.chmod(os.path.join(folder, name), 0o755)
         package = os.path.join(folder, TOOLS, os.path.basename(PACKAGE))
         shutil.copytree(PACKAGE, package, dirs_exist_ok=True, ignore=shutil.ignore_patterns("__pycache__"))
         write_whole(os.path.join(folder, RUN), [RUN_TEXT.encode()])
@@ -247,6 +242,7 @@ def write_list(options: argparse.Namespace) -> None:
 RUN_TEXT = f"""#!/bin/sh
 # Makes a run of the race in this folder: run NUMBER
 here=$(cd "$(dirname "$0")" && pwd) && cd "$here" || exit
+export ANNEAL="$here/{ANNEAL}"
 exec python3 "$here/{TOOLS}/{os.path.basename(PACKAGE)}" race --folder "$here" --program "$here/{PROGRAM}" --run "$1"
 """
 
@@ -359,5 +355,5 @@ def work(options: argparse.Namespace) -> int:
     return status
 
 
-def main(words: Sequence[str] | None = None) -> None:
+def main(words: list[str] | None = None) -> None:
     run_tool(parser(), work, words)

@@ -8,7 +8,7 @@ from .pictures import (ACROSS, BLACK, BLUE, FAINT, GREEN, GRID, ORANGE, PURPLE, 
 from .race_plan import OWN
 from .race_rows import Group, Row, groups_of
 from .race_runs import Curve
-from .texts import percent
+from .texts import counted, percent
 
 COLOURS = (BLUE, ORANGE, GREEN, PURPLE, SKY, BLACK)
 DASHES = ("", "7 4", "2 3", "9 3 2 3")
@@ -28,6 +28,11 @@ def quantile(values: Sequence[float], part: float) -> float:
     return values[low] + (values[high] - values[low]) * (at - low)
 
 
+def styled(at: int) -> tuple[str, str]:
+    """The colour and the dashes of a line by its number."""
+    return COLOURS[at % len(COLOURS)], DASHES[at // len(COLOURS) % len(DASHES)]
+
+
 class Line:
     """The runs of one solver and slack on one instance. Their values are shares of the way that are left, or costs."""
 
@@ -38,7 +43,7 @@ class Line:
         self.way, self.bound = max(first.start - first.bound, 1), first.bound
         self.curves = [row.curve for row in rows if row.curve and row.feasible]
         self.ends = [(max(row.time(), 0.001), self.value(row.cost)) for row in rows if row.cost is not None]
-        self.colour, self.dash = COLOURS[at % len(COLOURS)], DASHES[at // len(COLOURS) % len(DASHES)]
+        self.colour, self.dash = styled(at)
 
     def value(self, cost: float) -> float:
         return cost if self.of_costs else max((cost - self.bound) / self.way, SMALLEST_LEFT)
@@ -159,7 +164,7 @@ class Panel:
                 self.picture.dot(x + 12, y, 4, line.colour, line.colour)
             end = line.told(line.at_end(0.5)) if line.ends else "no feasible list"
             self.picture.text(x + 32, y + 4, line.name)
-            self.picture.text(x + 32, y + 20, f"{end}, {len(line.ends)} runs", size=12, colour=FAINT)
+            self.picture.text(x + 32, y + 20, f"{end}, {counted(len(line.ends), 'run')}", size=12, colour=FAINT)
             y += 42
         if self.known is not None:
             self.picture.line(x, y, x + 24, y, FAINT, 1.5, "8 5")

@@ -12,8 +12,7 @@ from .files import read_whole, write_whole
 from .problems import Problem
 from .words import LARGEST_SEED, MOST_PROPOSALS
 
-OWN = "reassign"  # the name of the program itself among the solvers
-AUTO = "auto"  # the slack that `rounds` chooses by itself
+OWN, ANNEAL = "reassign", "anneal"  # the names of our own solvers: runs of `solve`, and of tools/improve
 FIELDS = ("model", "initial", "new", "seconds", "seed")
 NEEDED_FIELDS = ("model", "initial", "new")
 
@@ -39,7 +38,7 @@ class Solver:
 
 @dataclass(frozen=True)
 class Job:
-    """One run. `proposals` or `seconds` is its budget; slack is a number, "auto", or "" for another solver."""
+    """One run. `proposals` or `seconds` is its budget; slack is a number for a run of `solve`, and else ""."""
     number: int
     instance: str
     solver: str
@@ -104,7 +103,8 @@ def planned(instances: Sequence[Instance], solvers: Sequence[Solver], seeds: Seq
     for seed in seeds:
         for instance in instances:
             for proposals, seconds in budgets:
-                runs = [(OWN, slack) for slack in slacks] + [(solver.name, "") for solver in solvers]
+                own = [(OWN, slack) for slack in slacks] if proposals else [(ANNEAL, "")]
+                runs = dict.fromkeys(own + [(solver.name, "") for solver in solvers])
                 jobs += [Job(len(jobs) + at, instance.name, solver, seed, slack, proposals, seconds)
                          for at, (solver, slack) in enumerate(runs)]
     return Plan({one.name: one for one in instances}, {one.name: one for one in solvers}, workers, jobs)
@@ -177,13 +177,12 @@ def seeds_of(word: str) -> list[int]:
 
 
 def slacks_of(word: str) -> list[str]:
-    """Slacks, each a number or "auto"."""
-    parts = [part if part == AUTO else str(numbers_of(part, LARGEST_SEED)[0]) for part in word.split(",")]
-    return list(dict.fromkeys(parts))
+    """Slacks, each as the program takes it."""
+    return list(dict.fromkeys(str(numbers_of(part, LARGEST_SEED)[0]) for part in word.split(",")))
 
 
 def proposals_of(word: str) -> list[int]:
-    budgets = numbers_of(word, 10**12)
+    budgets = numbers_of(word, MOST_PROPOSALS)
     if not min(budgets):
         raise ValueError
     return budgets
@@ -198,11 +197,14 @@ def seconds_of(word: str) -> list[float]:
 
 
 def solver_of(word: str) -> Solver:
-    """A solver by a word 'NAME: COMMAND'."""
+    """A solver by a word 'NAME: COMMAND'; or `anneal`, which runs as long as `solve` does."""
+    if word == ANNEAL:
+        return Solver(ANNEAL, "improve {model} {initial} --out {new} --seconds {seconds} --seed {seed}")
     name, colon, command = word.partition(":")
     name, command = name.strip(), command.strip()
-    if not colon or not re.fullmatch(r"[\w.+-]{1,40}", name) or name == OWN:
-        raise Problem(f"--solver {word!r}: wanted is 'NAME: COMMAND', with a name of letters and digits other than {OWN}", 2)
+    if not colon or not re.fullmatch(r"[\w.+-]{1,40}", name) or name in (OWN, ANNEAL):
+        raise Problem(f"--solver {word!r}: wanted is 'NAME: COMMAND', with a name of letters and digits other than {OWN} and "
+                      f"{ANNEAL}", 2)
     try:
         words = shlex.split(command)
     except ValueError as fault:
@@ -214,8 +216,3 @@ def solver_of(word: str) -> Solver:
         what = f"there is no {{{unknown[0]}}}" if unknown else f"{{{missing[0]}}} is missing" if missing else "there is no command"
         raise Problem(f"--solver {name}: {what}; the fields are " + ", ".join(f"{{{field}}}" for field in FIELDS), 2)
     return Solver(name, command)
-
-
-def is_one_run(job: Job) -> bool:
-    """Whether the program's budget is that of one run, and not of `rounds`."""
-    return job.proposals is not None and job.proposals <= MOST_PROPOSALS

@@ -19,8 +19,8 @@ from . import __version__
 from .children import begin, forget, signal_group
 from .files import PIECE, list_text, read_whole, write_whole
 from .problems import Problem
-from .program import slack_words
-from .race_plan import OWN, Instance, Job, Plan, Solver, digest, is_one_run
+from .program import Program, slack_words
+from .race_plan import ANNEAL, OWN, Instance, Job, Plan, Solver, digest
 from .running import command_of, stopped_status
 
 CURVE_POINTS = 150
@@ -62,7 +62,7 @@ class Running:
         self.lock, self.is_over = threading.Lock(), False
         self.groups: set[int] = set()
 
-    def start(self, words: Sequence[str], **how: Any) -> "subprocess.Popen[bytes]":
+    def start(self, words: list[str], **how: Any) -> "subprocess.Popen[bytes]":
         with self.lock:
             if self.is_over:
                 raise Problem("stopped", stopped_status())
@@ -213,22 +213,20 @@ def run_solve(running: Running, program: str, instance: Instance, job: Job, prop
     return outcome
 
 
-def run_rounds(running: Running, program: str, instance: Instance, job: Job, workers: int, new: str) -> Outcome:
-    """A run of `rounds`, for a number of seconds or for more proposals than one run may have."""
-    log = f"{new}.log"
-    budget = ["--proposals", job.proposals] if job.proposals else ["--seconds", f"{job.seconds:g}"]
-    words = [*command_of("rounds"), instance.model, instance.initial, "--out", new, "--program", program, "--workers", workers,
-             "--seed", job.seed, "--slack", job.slack, "--log", log, *budget]
-    run = timed(running, words)
-    outcome = Outcome(seconds=run.seconds, processor=run.processor)
+def run_improve(running: Running, program: str, instance: Instance, job: Job, workers: int, new: str, seconds: float) -> Outcome:
+    """A run of `improve`, for a number of seconds. Its proposals are tries."""
+    log, anneal = f"{new}.log", Program(None, ANNEAL).binary()
+    run = timed(running, [*command_of("improve"), instance.model, instance.initial, "--out", new, "--program", program, "--anneal",
+                          anneal, "--workers", workers, "--seed", job.seed, "--log", log, "--seconds", f"{seconds:.6f}"])
+    outcome = Outcome(given=seconds, seconds=run.seconds, processor=run.processor, fault=fault_of(run), end=end_of(run))
+    outcome.version = f"{__version__} {digest(anneal)[:12]}"
     try:
         with open(log, encoding="utf-8") as file:
-            rounds = [json.loads(line) for line in file]
-        outcome.proposals = sum(one["proposals"] for one in rounds)
-        outcome.curve = thinned([(one["seconds"], one["cost"]) for one in rounds])
+            pieces = [json.loads(line) for line in file]
+        outcome.proposals = sum(one["tries"] for one in pieces)
+        outcome.curve = thinned([(one["seconds"], one["cost"]) for one in pieces])
     except (OSError, ValueError, KeyError, TypeError):
         outcome.proposals = None
-    outcome.fault, outcome.end = fault_of(run), end_of(run)
     return outcome
 
 
@@ -334,16 +332,16 @@ def run_job(plan: Plan, job: Job, place: Place, as_long: float | None) -> Outcom
     for name in (new, f"{new}.log"):
         if os.path.exists(name):  # of a run that was stopped
             os.unlink(name)
-    if job.solver != OWN:
+    if job.solver == ANNEAL:
+        seconds = job.seconds or as_long or SHORTEST
+        outcome = run_improve(place.running, place.program, instance, job, plan.workers, new, seconds)
+    elif job.solver != OWN:
         solver = plan.solvers[job.solver]
         seconds = job.seconds or as_long or SHORTEST
         outcome = run_other(place.running, solver, instance, job, seconds, new)
         outcome.version = version_of(shlex.split(solver.command))
     else:
-        if job.proposals is not None and is_one_run(job):
-            outcome = run_solve(place.running, place.program, instance, job, job.proposals, plan.workers, new)
-        else:
-            outcome = run_rounds(place.running, place.program, instance, job, plan.workers, new)
+        outcome = run_solve(place.running, place.program, instance, job, job.proposals or 0, plan.workers, new)
         outcome.version = f"{__version__} {digest(place.program)[:12]}"
     outcome.host = platform.node()
     return outcome

@@ -133,7 +133,7 @@ class CostPanel:
     def ends(self) -> tuple[int, int]:
         """The least and the greatest cost that is drawn."""
         report = self.report
-        known = [report.bound, report.least] + [self.start] * (self.start is not None)
+        known = [report.bound, report.least, *([] if self.start is None else [self.start])]
         known += [int(max(report.costs, default=report.least)), int(min(report.costs, default=report.least))]
         return min(known), max(known)
 
