@@ -127,4 +127,5 @@ class Verify(ToolCase):
         from reassign_tools import Problem, solve
         with self.assertRaises(Problem) as raised:
             solve("model", "initial", [(1, 1_000_001)], program=PROGRAM)
-        self.assertEqual((raised.exception.status, raised.exception.line), (2, "lots: '1:1000001': at most 1,000,000 proposals in all"))
+        line = "lots[0] is 1000001, and has to be a number from 0 to 1,000,000"
+        self.assertEqual((raised.exception.status, raised.exception.line), (2, line))

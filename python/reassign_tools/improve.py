@@ -353,14 +353,16 @@ def collect(search: Search) -> int:
 
 
 def locked(search: Search, work: Callable[[Search], Answer]) -> Answer:
-    """Lets `work` do something with a search, while no other call writes BEST. BEST is there in the end. Answers what it does."""
+    """Lets `work` do something with a search, while no other call writes BEST. If no problem comes up, BEST is there in the end.
+    Answers what it does."""
     with lock(f"{search.best}.lock", search.options.out) as held:
         for_a_while(held.name)
         try:
-            return work(search)
-        finally:
+            answer = work(search)
             if not os.path.exists(search.best):
                 write_whole(search.best, [list_text(search.now)])
+            return answer
+        finally:
             remove(held.name)
 
 
