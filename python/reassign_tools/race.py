@@ -39,6 +39,7 @@ import threading
 from collections.abc import Callable, Iterator, Mapping, Sequence
 from typing import TypeVar
 
+from . import __version__
 from .files import Room, read_whole, target, write_whole
 from .pictures import form_of, write_picture
 from .problems import Problem
@@ -232,6 +233,7 @@ def write_list(options: argparse.Namespace) -> None:
             os.chmod(os.path.join(folder, name), 0o755)
         package = os.path.join(folder, TOOLS, os.path.basename(PACKAGE))
         shutil.copytree(PACKAGE, package, dirs_exist_ok=True, ignore=shutil.ignore_patterns("__pycache__"))
+        write_whole(os.path.join(package, "VERSION"), [f"{__version__}\n".encode()])
         write_whole(os.path.join(folder, RUN), [RUN_TEXT.encode()])
         os.chmod(os.path.join(folder, RUN), 0o755)
     except OSError as fault:
