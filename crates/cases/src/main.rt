@@ -1,6 +1,6 @@
-//! `cases`: the conformance suite of `reassign`. Standard input has the cases; `ra_cases` tries each, and prints
-//! whether it ended as it should. The status is 0 if all did, 1 if one did not, and 2 if standard input can't be read
-//! or a line can't be written.
+//! `cases`: the conformance suite of `reassign` and of `anneal`. Standard input has the cases; `ra_cases` tries each,
+//! and prints whether it ended as it should. The status is 0 if all did, 1 if one did not, and 2 if standard input
+//! can't be read or a line can't be written.
 #![tactic(auto)]
 
 use ra_cases::try_all;

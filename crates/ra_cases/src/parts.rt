@@ -1,6 +1,8 @@
 ghost use Rattle.std.specs.Prelude.{◌≡◌, ◌<◌, [], IfOk};
+ghost use Rattle.ra_io.specs.MemoryFiles as memory;
 ghost use Rattle.ra_io.specs.MemorySink as taken;
 
+use crate::asking::Program;
 use crate::texts::{Text, text_of};
 use crate::tokens::{Token, filled};
 use crate::trouble::Trouble;
@@ -38,6 +40,18 @@ pub(crate) fn part<'c>(lines: &'c [&'c str], word: &str) -> Option<(&'c str, &'c
         rest = below;
     }
     None
+}
+
+/// The program that a case names, and `reassign` if it names none.
+pub(crate) fn program_of(case: &Case<'_>) -> Result<Program, Trouble> {
+    let Some((name, _)) = part(case.lines, "program") else {
+        return Ok(Program::Reassign);
+    };
+    match name {
+        "reassign" => Ok(Program::Reassign),
+        "anneal" => Ok(Program::Anneal),
+        _ => Err(Trouble::Unclear),
+    }
 }
 
 /// The command words of a case.
@@ -103,6 +117,7 @@ fn values(alloc: Global, pieces: &[Token<'_>]) -> Result<Fixed<u64>, Trouble> {
 /// The files of a case, which give at most `each` bytes at once.
 pub(crate) fn files_of(alloc: Global, case: &Case<'_>, each: usize) -> Result<MemoryFiles, Trouble>
     requires { 0 < each }
+    ensures { IfOk result (λ f. memory.each f ≡ each) }
 {
     let mut files = MemoryFiles::make(alloc, each, numbers(alloc, case, "fetch-fails")?)?;
     let mut rest = case.lines;
@@ -122,7 +137,9 @@ fn add_file(
     files: &mut MemoryFiles,
     file: &str,
     below: &[&str],
-) -> Result<(), Trouble> {
+) -> Result<(), Trouble>
+    ensures { memory.each files.new ≡ memory.each files.old }
+{
     let (name, rest) = file.split_once(' ').unwrap_or((file, ""));
     let bytes = text_of(alloc, case.texts, rest, below, case.row)?;
     files.add(alloc, name, bytes.as_slice())?;

@@ -11,7 +11,8 @@ use std::sync::Wait;
 use std::thread::Threads;
 
 /// The words that begin the lines of a case.
-const HEADS: [&str; 12] = [
+const HEADS: [&str; 13] = [
+    "program",
     "words",
     "rows",
     "file",
