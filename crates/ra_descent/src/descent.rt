@@ -46,7 +46,7 @@ fn after(number: u32, count: u32) -> u32
 }
 
 /// Moves a process to its cheapest machine, if that makes the list cheaper, and tells whether it does.
-fn improve<L: Ledger>(world: &mut World<'_>, process: Process, steps: &mut Steps<L>) -> bool
+pub fn improve<L: Ledger>(world: &mut World<'_>, process: Process, steps: &mut Steps<L>) -> bool
     requires { process.0 < process_count world.old.tables }
     ensures cheaper { result ≡ true → cost_at world.new < cost_at world.old }
     ensures same { world.new ≡ record world.old { here = world.new.here } }

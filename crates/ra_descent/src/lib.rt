@@ -7,4 +7,4 @@ mod descent;
 mod marks;
 mod windows;
 
-pub use descent::descend;
+pub use descent::{descend, improve};

@@ -1,5 +1,5 @@
 -- What a search does with the situation in which it stands.
-use Rattle.std.specs.Prelude.{◌≡◌, ◌⊎◌, ℕ, ◌<◌, List, length, Bool, true, false}
+use Rattle.std.specs.Prelude.{◌≡◌, ◌⊎◌, ℕ, ◌<◌, ◌≤◌, List, length, Bool, true, false}
 use Rattle.ra_model.specs.Numbers.{machine_count, process_count}
 use Rattle.ra_model.specs.declared.raw.Tables.{Tables}
 use Rattle.ra_model.specs.Assignments.{machine_at}
@@ -50,3 +50,8 @@ pub record NamesIn (i : Tables) (step : Step) : Type 0 where
 -- so does each step
 pub record Names (i : Tables) (steps : List Step) : Type 0 where
   pub each : (j : ℕ) → j < length steps → NamesIn i (step_at steps j)
+
+-- the same instance and start, and a list that costs no more
+pub record HasSettled (old new : Situation) : Type 0 where
+  pub reaches : Reaches old new
+  pub no_dearer : cost_at new ≤ cost_at old

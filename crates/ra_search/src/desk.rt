@@ -33,9 +33,9 @@ impl<'a> Seat<'a> {
     }
 }
 
-/// Where the searchers of a search sit, with the order that they carry out next. Each thread first takes up those that it had
-/// before, whose numbers are near it then, and helps the others after that. So what they do is the same however many threads
-/// there are.
+/// Where the searchers of a search sit, with the order that they carry out next. Each thread first takes up those that
+/// it had before, whose numbers are near it then, and helps the others after that. So what they do is the same however
+/// many threads there are.
 #[derive(Drop)]
 pub(crate) struct Desk<'a> {
     pub(crate) seats: Vec<Seat<'a>>,

@@ -4,6 +4,7 @@ ghost use Rattle.ra_search.specs.Hunting.{HasHunted};
 use crate::desk::Desk;
 use crate::hunt::Hunt;
 use crate::orders::Task;
+use crate::searcher::Counts;
 use crate::stretches::Stretch;
 use ra_base::Steps;
 use ra_guides::{Cooling, Heat};
@@ -13,16 +14,28 @@ use std::sync::ledger::Ledger;
 /// How often the heat is doubled at most.
 const DOUBLINGS: u32 = 64;
 
-/// How many short searches are made to choose a heat.
+/// How many short searches are made to choose a heat, if there are so many tries for each process.
 const PILOTS: u32 = 4;
+
+const PILOTED: u64 = 2_048;
+
+/// With so many tries for each process, what moves up cost tells more of a heat than how many there are.
+const WEIGHED: u64 = 1_024;
 
 /// Shares are in millionths.
 const MILLION: u128 = 1_000_000;
 
+/// What a search had done when it came to a heat.
+#[derive(Clone, Copy)]
+struct Before {
+    cost: u128,
+    tries: u64,
+    counts: Counts,
+}
+
 impl<'a> Hunt<'a> {
-    /// Chooses a heat to cool down from: twice the first one, of 1, 2, 4 and so on units of cost, at which the search moves
-    /// up often enough, or loses enough of what it had gained. In a long search the best of four short ones tells
-    /// whether that heat, a half, a quarter or an eighth of it is best.
+    /// Chooses a heat to cool down from: twice the first one, of 1, 2, 4 and so on units of cost, that is hot. In a long
+    /// search the best of four short ones tells whether that heat, a half, a quarter or an eighth of it is best.
     pub(crate) fn choose_heat<R: Wait, L: Ledger>(
         &mut self,
         rt: &R,
@@ -31,37 +44,63 @@ impl<'a> Hunt<'a> {
     ) -> Heat
         ensures { HasHunted self.old self.new }
     {
-        let begun = self.lead.world.parts().total;
+        let begun = self.cost();
         self.search_at(rt, desk, Heat::of(0), self.schedule.tries / 64, steps);
-        let mut least = self.lead.world.parts().total;
+        let mut least = self.cost();
         let mut heat = Heat::of(1);
         for _ in 0..DOUBLINGS {
-            let rises = self.lead.told.rises;
-            let tries = self.tries;
+            let before = Before {
+                cost: self.cost(),
+                tries: self.tries,
+                counts: self.lead.told,
+            };
             self.search_at(rt, desk, heat, self.schedule.tries / 512, steps);
-            least = least.min(self.lead.world.parts().total);
-            let rose = self.lead.told.rises.wrapping_sub(rises);
-            if self.is_hot(rose, self.tries.wrapping_sub(tries), begun, least) {
+            least = least.min(self.cost());
+            let is_hot = self.rises_often(&before) || self.loses(begun, least);
+            if is_hot && (!self.is_long(WEIGHED) || self.takes_back(&before)) {
                 break;
             }
             heat = heat.doubled();
         }
-        heat = heat.doubled();
-        if self.by_process {
-            return self.try_heats(rt, desk, heat, steps);
+        if self.is_long(PILOTED) {
+            return self.try_heats(rt, desk, heat.doubled(), steps);
         }
-        heat
+        heat.doubled()
     }
 
-    /// Whether so many moves that rise, of so many tries, are enough, or enough of what was gained is lost.
-    fn is_hot(&self, rose: u64, tries: u64, begun: u128, least: u128) -> bool {
-        let share = self.share();
-        if u128::from(rose) * 50 * MILLION >= u128::from(tries) * share {
-            return true;
-        }
-        let lost = self.lead.world.parts().total.saturating_sub(least);
+    /// Whether there are so many tries for each process.
+    fn is_long(&self, each: u64) -> bool {
+        let processes = u64::from(self.lead.guides.inst.processes());
+        self.schedule.tries >= each.saturating_mul(processes)
+    }
+
+    /// The cost of the list at which the lead stands.
+    fn cost(&self) -> u128 {
+        self.lead.world.parts().total
+    }
+
+    /// Whether moves up took back at least a sixteenth of what moves down had gained.
+    fn takes_back(&self, before: &Before) -> bool {
+        let risen = self.lead.told.risen.wrapping_sub(before.counts.risen);
+        let fallen = before
+            .cost
+            .saturating_add(risen)
+            .saturating_sub(self.cost());
+        risen > 0 && risen.saturating_mul(16) >= fallen
+    }
+
+    /// Whether at least 2 % of the tries were moves up, or less in a short search.
+    fn rises_often(&self, before: &Before) -> bool {
+        let rises = self.lead.told.rises.wrapping_sub(before.counts.rises);
+        let tries = self.tries.wrapping_sub(before.tries);
+        u128::from(rises) * 50 * MILLION >= u128::from(tries) * self.share()
+    }
+
+    /// Whether at least a quarter of what was gained is lost, or less in a short search.
+    fn loses(&self, begun: u128, least: u128) -> bool {
+        let lost = self.cost().saturating_sub(least);
         let gained = begun.saturating_sub(least);
-        lost > 0 && lost.saturating_mul(4 * MILLION) >= gained.saturating_mul(share)
+        lost > 0 && lost.saturating_mul(4 * MILLION) >= gained.saturating_mul(self.share())
     }
 
     /// How much of a full search this one is, by its tries for each machine.

@@ -3,6 +3,7 @@ ghost use Rattle.ra_base.specs.declared.ids.Machine.{Machine};
 ghost use Rattle.ra_model.specs.Costs.{objective};
 ghost use Rattle.ra_search.specs.Kept.{IsKept};
 
+use crate::concerned::Concerned;
 use crate::desk::Desk;
 use crate::found::{Found, Told};
 use crate::kept::Kept;
@@ -220,7 +221,12 @@ impl<'a> Hunt<'a> {
     }
 
     /// What a search that has run has found, after a descent from its best list.
-    pub(crate) fn ended<L: Ledger>(self, mut last: Kept, steps: &mut Steps<L>) -> Found
+    pub(crate) fn ended<L: Ledger>(
+        self,
+        mut last: Kept,
+        mut concerned: Concerned,
+        steps: &mut Steps<L>,
+    ) -> Found
         requires { IsKept self.lead.world last }
         ensures { (from : List Machine) → self.entry.best.parts.total ≤ objective
             self.entry.lead.world.tables self.entry.lead.world.start from →
@@ -237,6 +243,7 @@ impl<'a> Hunt<'a> {
         } = self;
         last.keep(&lead.world);
         lead.stand_at_better(&best, steps);
+        lead.settle(&mut concerned, steps);
         let _moves = descend(&mut lead.world, steps);
         best.keep(&lead.world);
         Found {

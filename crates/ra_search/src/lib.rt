@@ -2,6 +2,7 @@
 //! What guides it is free; every move that it makes is judged, and what it finds is proved.
 #![tactic(auto)]
 
+mod concerned;
 mod desk;
 mod found;
 mod guides;
@@ -12,6 +13,7 @@ mod orders;
 mod schedule;
 mod searcher;
 mod searching;
+mod settling;
 mod stretches;
 mod visits;
 

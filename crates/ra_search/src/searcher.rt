@@ -34,19 +34,21 @@ pub(crate) struct Searcher<'a> {
     chosen: Kept,
     /// The moves that it made since they were last taken, as far as there is room.
     pub(crate) made: Fixed<Made>,
-    /// How many moves it tried and made, and how many raised the cost. All are told alone, and may wrap.
+    /// What it did.
     pub(crate) told: Counts,
     pub ghost guided: { guides.inst.now.tables ≡ world.tables },
     pub ghost base_kept: { IsKept world base },
     pub ghost chosen_kept: { IsKept world chosen },
 }
 
-/// Counts of what a searcher did.
+/// Counts of what a searcher did: how many moves it tried and made, how many of them raised the cost, and by how much in
+/// all. They are told alone, and may wrap.
 #[derive(Clone, Copy)]
 pub(crate) struct Counts {
     pub(crate) tries: u64,
     pub(crate) done: u64,
     pub(crate) rises: u64,
+    pub(crate) risen: u128,
 }
 
 /// Frees all lists in one call, so that the end of an owner is short to prove.
@@ -88,6 +90,7 @@ impl<'a> Searcher<'a> {
                 tries: 0,
                 done: 0,
                 rises: 0,
+                risen: 0,
             },
         })
     }
@@ -143,6 +146,7 @@ impl<'a> Searcher<'a> {
         self.told.done = self.told.done.wrapping_add(1);
         if rise > 0 {
             self.told.rises = self.told.rises.wrapping_add(1);
+            self.told.risen = self.told.risen.wrapping_add(rise);
         }
         if self.made.len() < self.made.room() {
             self.made.push(Made { mv: *mv, rise });

@@ -9,6 +9,7 @@ ghost use Rattle.ra_search.specs.Found.{IsFound};
 ghost use Rattle.ra_search.specs.Hunting.{HasHunted};
 ghost use Rattle.ra_search.specs.Kept.{IsKept};
 
+use crate::concerned::Concerned;
 use crate::desk::{Desk, Seat};
 use crate::found::Found;
 use crate::hunt::Hunt;
@@ -92,6 +93,7 @@ fn search_counted<R: Threads + Wait + Sync, L: Ledger>(
     let mut steps = Steps::<L>::make(blank);
     let world = world_of(alloc, beginning, &mut steps)?;
     let last = Kept::make(alloc, &world)?;
+    let concerned = Concerned::make(alloc, beginning.inst)?;
     let searchers = searchers_of(schedule.workers, beginning.inst.machines());
     let mut hunt = hunt_of(alloc, world, schedule, searchers)?;
     let threads = threads_of(rt, searchers as usize);
@@ -105,7 +107,7 @@ fn search_counted<R: Threads + Wait + Sync, L: Ledger>(
     )?;
     run(rt, &desk, &mut hunt);
     drop(desk);
-    Ok(hunt.ended(last, &mut steps))
+    Ok(hunt.ended(last, concerned, &mut steps))
 }
 
 /// A world that stands where the search begins.

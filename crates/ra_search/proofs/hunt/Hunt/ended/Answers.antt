@@ -15,8 +15,9 @@ returns g c = λ from low.
     let end : Situation = c.descend-moves.new.world in
     let best = c.keep-2.new.self in
     let last = c.keep.new.self in
-    let reach = reach_on st c.stand_at_better.new.self.world end c.stand_at_better.ensures.reaches
-    c.descend-moves.ensures.same in
+    let better : Situation = c.stand_at_better.new.self.world in
+    let reach = reach_on st better end c.stand_at_better.ensures.reaches
+    (reach_on better c.settle.new.self.world end c.settle.ensures.reaches c.descend-moves.ensures.same) in
     let there : end ≡ kept_at st best = reach
     ∙ ap (λ (list : List Machine). let to : Situation = record st { here = list } in to) (sym c.keep-2.ensures.list) in
     let cost : cost_at end ≡ objective st.tables st.start best.list.items = ap (λ (s : Situation). cost_at s) there in
@@ -24,6 +25,6 @@ returns g c = λ from low.
     ap (objective st.tables st.start) c.keep.ensures.list in
     found st best last _ (kept_from st end.here best (subst (λ (s : Situation). IsKept s best) reach c.keep-2.ensures.kept)) c.keep.ensures.kept
     (subst (λ (s : Situation). NoShiftCheaper s) there c.descend-moves.ensures.optimal)
-    (omega (arith, cost, last_cost, c.descend-moves.ensures.no_dearer, c.stand_at_better.ensures.no_dearer))
+    (omega (arith, cost, last_cost, c.descend-moves.ensures.no_dearer, c.settle.ensures.no_dearer, c.stand_at_better.ensures.no_dearer))
     from
-    (omega (arith, cost, low, c.descend-moves.ensures.no_dearer, c.stand_at_better.ensures.below))
+    (omega (arith, cost, low, c.descend-moves.ensures.no_dearer, c.settle.ensures.no_dearer, c.stand_at_better.ensures.below))
