@@ -21,19 +21,19 @@ impl Stream {
     }
 }
 
-pub enum Lot {
-    /// A seed and a budget.
-    Seeded(u64, u64),
-    /// Eight words for each proposal.
-    Written(Vec<u64>),
+/// So many proposals of a seed, or of eight written words each.
+#[derive(Default)]
+pub struct Lot {
+    pub seed: u64,
+    pub budget: u64,
+    pub written: Vec<u64>,
 }
 
 impl Lot {
-    pub fn budget(&self) -> u64 {
-        match self {
-            Lot::Seeded(_, budget) => *budget,
-            Lot::Written(words) => words.len() as u64 / 8,
-        }
+    /// The words of one proposal after another.
+    pub fn draws(&self) -> impl Iterator<Item = [u64; 8]> {
+        let (mut stream, mut written) = (Stream::new(self.seed), self.written.as_chunks().0.iter());
+        (0..self.budget).map(move |_| written.next().copied().unwrap_or_else(|| std::array::from_fn(|_| stream.next())))
     }
 }
 
@@ -52,27 +52,7 @@ impl Lots {
     }
 }
 
-/// The words of one proposal after another; zeros if there are no more.
-pub struct Draws<'l>(Stream, Option<&'l [u64]>);
-
-impl<'l> Draws<'l> {
-    pub fn new(lot: &'l Lot) -> Draws<'l> {
-        match lot {
-            Lot::Seeded(seed, _) => Draws(Stream::new(*seed), None),
-            Lot::Written(words) => Draws(Stream::new(0), Some(words)),
-        }
-    }
-    pub fn next(&mut self, to: &mut [u64; 8]) {
-        let Some(words) = &mut self.1 else {
-            return to.iter_mut().for_each(|word| *word = self.0.next());
-        };
-        let (eight, rest) = words.split_first_chunk().unwrap_or((&[0; 8], &[]));
-        (*to, *words) = (*eight, rest);
-    }
-}
-
 /// Remainders by one number, without a division.
-#[derive(Clone, Copy)]
 pub struct Remainder {
     by: u64,
     share: u64,
@@ -82,7 +62,7 @@ impl Remainder {
     pub fn new(by: usize) -> Remainder {
         Remainder { by: by as u64, share: u64::MAX / by as u64 }
     }
-    pub fn of(self, word: u64) -> usize {
+    pub fn of(&self, word: u64) -> usize {
         // The quotient, or one less.
         let quotient = (u128::from(word) * u128::from(self.share) >> 64) as u64;
         let rest = word - quotient * self.by;

@@ -17,8 +17,7 @@ pub struct Eight(__m128i);
 macro_rules! lanes {
     ($of:ident: $($(#[$doc:meta])* $name:ident($this:ident $(, $other:ident: $type:ty)*) -> $to:ty = $value:expr;)*) => {
         impl $of {
-            $($(#[$doc])* #[inline(always)]
-            pub fn $name($this $(, $other: $type)*) -> $to {
+            $($(#[$doc])*             pub fn $name($this $(, $other: $type)*) -> $to {
                 unsafe { $value }
             })*
         }
@@ -62,36 +61,37 @@ lanes! { Eight:
 }
 
 impl Four {
-    #[inline(always)]
     pub fn all(x: u32) -> Four {
         unsafe { Four(_mm_set1_epi32(x as i32)) }
     }
-    #[inline(always)]
     pub fn of(x: [u32; 4]) -> Four {
         unsafe { Four(_mm_loadu_si128(x.as_ptr().cast())) }
     }
 }
 
 impl Eight {
-    #[inline(always)]
     pub fn all(x: u16) -> Eight {
         unsafe { Eight(_mm_set1_epi16(x as i16)) }
     }
     /// The first eight numbers.
-    #[inline(always)]
     pub fn load(from: &[u16]) -> Eight {
         unsafe { Eight(_mm_loadu_si128(from[..8].as_ptr().cast())) }
     }
 }
 
 /// The numbers one after another.
-#[inline(always)]
 pub fn flat(rows: &[Four]) -> &[u32] {
     unsafe { std::slice::from_raw_parts(rows.as_ptr().cast(), rows.len() * 4) }
 }
 
+/// A row of numbers with zeros after them.
+pub fn padded(numbers: &[u32]) -> [Four; 5] {
+    let mut all = [0; 20];
+    all[..numbers.len()].copy_from_slice(numbers);
+    std::array::from_fn(|quad| Four::of(std::array::from_fn(|k| all[4 * quad + k])))
+}
+
 /// Which of 64 bytes are digits, and whether each of the others is white.
-#[inline(always)]
 pub fn digits_of(bytes: &[u8; 64]) -> (u64, bool) {
     unsafe {
         // Each white byte is at the place of its own low half.
@@ -110,7 +110,6 @@ pub fn digits_of(bytes: &[u8; 64]) -> (u64, bool) {
 }
 
 /// Four numbers of at most four digits, whose places in sixteen bytes are told; 128 is no place.
-#[inline(always)]
 pub fn four_numbers(bytes: &[u8; 16], places: u128) -> [u32; 4] {
     unsafe {
         let t = _mm_xor_si128(_mm_loadu_si128(bytes.as_ptr().cast()), _mm_set1_epi8(48));
@@ -121,7 +120,6 @@ pub fn four_numbers(bytes: &[u8; 16], places: u128) -> [u32; 4] {
 }
 
 /// Asks for memory that is read soon.
-#[inline(always)]
 pub fn fetch<T>(all: &[T], at: usize) {
     unsafe { _mm_prefetch::<_MM_HINT_T0>(all.as_ptr().wrapping_add(at).cast()) }
 }

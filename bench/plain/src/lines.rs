@@ -1,6 +1,6 @@
 //! Lines that are printed.
 
-use crate::moves::{Cause::*, Move, Verdict, Verdict::*};
+use crate::moves::{Move, Verdict};
 use std::io::Write;
 
 /// Four digits for each number below 10,000.
@@ -14,12 +14,6 @@ static FOURS: [u32; 10_000] = {
     }
     all
 };
-
-/// The digits of a number below 10,000, the first one lowest, and how many there are.
-fn digits_of(n: u32) -> (u32, u32) {
-    let length = 1 + u32::from(n > 9) + u32::from(n > 99) + u32::from(n > 999);
-    (FOURS[n as usize] >> (32 - 8 * length), length)
-}
 
 /// The end of a text to which one line is written.
 struct Pen(*mut u8);
@@ -39,8 +33,8 @@ impl Pen {
         self.write(*word, N);
     }
     fn small(&mut self, n: u32) {
-        let (digits, length) = digits_of(n);
-        self.write(digits.to_le_bytes(), length as usize);
+        let length = 1 + u32::from(n > 9) + u32::from(n > 99) + u32::from(n > 999);
+        self.write((FOURS[n as usize] >> (32 - 8 * length)).to_le_bytes(), length as usize);
     }
     fn four(&mut self, n: u64) {
         self.write(FOURS[n as usize].to_le_bytes(), 4);
@@ -64,21 +58,20 @@ impl Pen {
     fn huge(&mut self, n: i128) {
         n.to_string().bytes().for_each(|byte| self.word(&[byte]));
     }
-    /// A word and numbers, with a space before each.
-    fn told<const N: usize, const K: usize>(&mut self, word: &[u8; N], numbers: [i128; K]) {
-        self.word(word);
-        for n in numbers {
+    /// Numbers with a space before each.
+    fn numbers(&mut self, numbers: &[i128]) {
+        for &n in numbers {
             self.word(b" ");
             if n >> 64 == 0 { self.long(n as u64) } else { self.huge(n) }
         }
     }
-    fn entry(&mut self, taken: &Move, verdict: &Verdict) {
-        match taken.steps() {
-            [_] => self.word(b" shift "),
-            [_, _] => self.word(b" swap "),
+    fn steps(&mut self, taken: &Move) {
+        match taken.1 {
+            1 => self.word(b" shift "),
+            2 => self.word(b" swap "),
             _ => self.word(b" chain "),
         }
-        for step in taken.steps() {
+        for step in taken.all() {
             self.long(step.process.into());
             self.word(b":");
             self.small(step.from);
@@ -86,23 +79,18 @@ impl Pen {
             self.small(step.to);
             self.word(b" ");
         }
-        match *verdict {
-            Done(cost) => self.told(b"done", [cost]),
-            Rise(before, after, allowed) => self.told(b"refused rise", [before, after, allowed.into()]),
-            Broken(Over(is_transient, machine, resource, used, capacity)) => {
-                let numbers = [machine.into(), resource.into(), used.into(), capacity.into()];
-                if is_transient {
-                    self.told(b"refused transient", numbers)
-                } else {
-                    self.told(b"refused capacity", numbers)
-                }
+    }
+    fn verdict(&mut self, verdict: &Verdict) {
+        match verdict {
+            Ok(cost) => {
+                self.word(b"done");
+                self.numbers(&[*cost]);
             }
-            Broken(Dependency(s, need, hood)) => self.told(b"refused dependency", [s, need, hood].map(i128::from)),
-            Broken(Spread(s, has, wants)) => self.told(b"refused spread", [s, has, wants].map(i128::from)),
-            Broken(Conflict(s, machine)) => self.told(b"refused conflict", [s, machine].map(i128::from)),
-            Broken(Closed(p, machine)) => self.told(b"refused closed", [p, machine].map(i128::from)),
-            Broken(Repeat(p)) => self.told(b"refused repeat", [p.into()]),
-            Broken(Same(p)) => self.told(b"refused same", [p.into()]),
+            Err(cause) => {
+                self.word(b"refused ");
+                self.write(cause.word.0, cause.word.1);
+                self.numbers(cause.numbers.all());
+            }
         }
         self.word(b"\n");
     }
@@ -132,12 +120,13 @@ impl Text {
             pen.long(place.into());
             // SAFETY: there is room for LINE bytes, and a place has no more than eight.
             let (digits, length) = unsafe { (*start.cast::<[u8; 8]>(), pen.0.offset_from(start) as usize) };
-            pen.told(b"", [worker.into()]);
+            pen.numbers(&[worker.into()]);
             for n in [k, at] {
                 pen.word(b" ");
                 if n == place { pen.write(digits, length) } else { pen.long(n.into()) }
             }
-            pen.entry(taken, verdict);
+            pen.steps(taken);
+            pen.verdict(verdict);
         })
     }
     pub fn named(&mut self, name: &str, number: u128) {
@@ -151,9 +140,7 @@ impl Text {
     }
     pub fn list(&mut self, list: &[u32]) {
         self.0.extend_from_slice(b"assignment");
-        for &m in list {
-            self.line(|pen| pen.told(b"", [m.into()]));
-        }
+        list.iter().for_each(|&m| _ = self.line(|pen| pen.numbers(&[m.into()])));
         self.0.push(b'\n');
     }
 }

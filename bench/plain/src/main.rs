@@ -27,7 +27,6 @@ mod trial;
 mod words;
 
 use crate::checking::{bound_of, is_feasible, parts_of};
-use crate::draws::{Lot, Lots};
 use crate::instance::{Ground, Instance};
 use crate::journal::{Run, run};
 use crate::lines::Text;
@@ -35,78 +34,66 @@ use crate::numbers::{Numbers, Patterns};
 use crate::words::{Job, job_of};
 use std::{fs::File, io::Write, os::fd::AsFd, process::exit};
 
-fn model_of(name: &str, closed: &Option<String>, patterns: &mut Patterns) -> Result<Instance, i32> {
-    let mut inst = Instance::read(&mut Numbers::open(name, 4, patterns)?)?;
-    if let Some(closed) = closed {
+/// The instance and the lists of a job. The initial one is the first.
+fn input_of(job: &Job) -> Result<(Instance, Vec<Vec<u32>>), i32> {
+    let patterns = &mut Patterns::new();
+    if job.command == "trial" {
+        let numbers = trial::model_of(job.lots.all[0].seed);
+        return Ok((Instance::read(&mut Numbers::of(numbers, patterns))?, vec![trial::start()]));
+    }
+    let mut inst = Instance::read(&mut Numbers::open(&job.files[0], 4, patterns)?)?;
+    if let Some(closed) = &job.closed {
         inst.close(&mut Numbers::open(closed, 10, patterns)?)?;
     }
-    Ok(inst)
+    let list = |name: &String| inst.read_list(&mut Numbers::open(name, 5, patterns)?);
+    let lists = job.files[1..].iter().map(list).collect::<Result<_, _>>()?;
+    Ok((inst, lists))
 }
 
-fn list_of(name: &str, inst: &Instance, patterns: &mut Patterns) -> Result<Vec<u32>, i32> {
-    inst.read_list(&mut Numbers::open(name, 5, patterns)?)
-}
-
-/// The run of a job from a feasible start, and the head of its text.
-fn solved(inst: &Instance, initial: &[u32], lots: &Lots, most: usize) -> Result<(Run, Text), i32> {
-    let (ground, by) = (Ground::new(inst, initial), [run::<1>, run::<2>, run::<3>, run::<3>, run::<5>][inst.quads - 1]);
-    if !is_feasible(inst, &ground, initial, initial) {
+/// The text of a job, and a run whose journal follows it. A worker of several hands in at most so many plans in one turn.
+fn answer(job: &Job, most: u64) -> Result<(Text, Option<Run>), i32> {
+    let (inst, lists) = input_of(job)?;
+    let mut text = Text::default();
+    if job.command == "bound" {
+        let [load, balance] = bound_of(&inst, lists.first().map(Vec::as_slice));
+        let told = [("bound", load + balance), ("load", load), ("balance", balance)];
+        told.iter().for_each(|(name, number)| text.named(name, *number));
+        return Ok((text, None));
+    }
+    let initial = &lists[0][..];
+    let ground = Ground::new(&inst, initial);
+    if !lists.iter().all(|list| is_feasible(&inst, &ground, initial, list)) {
         return Err(6);
     }
-    let run = by(inst, &ground, initial, lots, parts_of(inst, initial, initial).iter().sum(), most);
-    let mut text = Text::default();
-    text.parts(&parts_of(inst, initial, &run.best));
-    text.named("bound", bound_of(inst, Some(initial)).iter().sum());
-    text.named("best_at", run.best_at.into());
-    Ok((run, text))
-}
-
-fn answer(words: &[String], out: &mut File) -> Result<(), i32> {
-    let is_each = words.first().is_some_and(|word| word == "--each");
-    let most = if is_each { 1 } else { 32 };
-    let (patterns, mut text, mut ran) = (&mut Patterns::new(), Text::default(), None);
-    match job_of(&words[usize::from(is_each)..]).ok_or(2)? {
-        Job::Check { model, initial, new, closed } => {
-            let inst = model_of(&model, &closed, patterns)?;
-            let (initial, new) = (list_of(&initial, &inst, patterns)?, list_of(&new, &inst, patterns)?);
-            let ground = Ground::new(&inst, &initial);
-            if ![&initial, &new].iter().all(|list| is_feasible(&inst, &ground, &initial, list)) {
-                return Err(6);
-            }
-            text.parts(&parts_of(&inst, &initial, &new));
-        }
-        Job::Bound { model, initial, closed } => {
-            let inst = model_of(&model, &closed, patterns)?;
-            let initial = initial.map(|name| list_of(&name, &inst, patterns)).transpose()?;
-            let [load, balance] = bound_of(&inst, initial.as_deref());
-            let told = [("bound", load + balance), ("load", load), ("balance", balance)];
-            told.iter().for_each(|(name, number)| text.named(name, *number));
-        }
-        Job::Solve { model, initial, closed, lots } => {
-            let inst = model_of(&model, &closed, patterns)?;
-            let initial = list_of(&initial, &inst, patterns)?;
-            let run;
-            (run, text) = solved(&inst, &initial, &lots, most)?;
-            text.list(&run.best);
-            text.named("draws", if lots.is_first_drawing { 1 } else { 2 });
-            ran = Some(run);
-        }
-        Job::Trial(number) => {
-            let inst = Instance::read(&mut Numbers::of(trial::model_of(number), patterns))?;
-            let lots = Lots { slack: 1_000, is_first_drawing: false, all: vec![Lot::Seeded(number, 2_000)] };
-            let run;
-            (run, text) = solved(&inst, &trial::start(), &lots, most)?;
-            text.named("done", run.done as u128);
-            text.named("refused", run.entries as u128 - run.done as u128);
-        }
+    if job.command == "check" {
+        text.parts(&parts_of(&inst, initial, &lists[1]));
+        return Ok((text, None));
     }
-    out.write_all(&text.0).and_then(|()| ran.map_or(Ok(()), |run| run.print(out))).map_err(|_| 7)
+    let cost = parts_of(&inst, initial, initial).iter().sum();
+    let by = [run::<1>, run::<2>, run::<3>, run::<3>, run::<5>][inst.quads - 1];
+    let run = by(&inst, &ground, initial, &job.lots, cost, most);
+    text.parts(&parts_of(&inst, initial, &run.best));
+    text.named("bound", bound_of(&inst, Some(initial)).iter().sum());
+    text.named("best_at", run.best_at.into());
+    if job.command == "trial" {
+        text.named("done", run.done as u128);
+        text.named("refused", run.entries as u128 - run.done as u128);
+        return Ok((text, None));
+    }
+    text.list(&run.best);
+    text.named("draws", if job.lots.is_first_drawing { 1 } else { 2 });
+    Ok((text, Some(run)))
 }
 
 fn main() {
     let words: Option<Vec<String>> = std::env::args_os().skip(1).map(|word| word.into_string().ok()).collect();
-    // Without the buffer that standard output has.
-    let out = std::io::stdout().as_fd().try_clone_to_owned();
-    let status = out.map_err(|_| 7).and_then(|out| answer(&words.unwrap_or_default(), &mut out.into()));
+    let words = words.unwrap_or_default();
+    let is_each = words.first().is_some_and(|word| word == "--each");
+    let job = job_of(&words[usize::from(is_each)..]).ok_or(2);
+    let status = job.and_then(|job| answer(&job, if is_each { 1 } else { 32 })).and_then(|(text, run)| {
+        // Without the buffer that standard output has.
+        let mut out = std::io::stdout().as_fd().try_clone_to_owned().map(File::from).map_err(|_| 7)?;
+        out.write_all(&text.0).and_then(|()| run.map_or(Ok(()), |run| run.print(&mut out))).map_err(|_| 7)
+    });
     exit(status.err().unwrap_or(0));
 }

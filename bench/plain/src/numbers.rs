@@ -1,9 +1,9 @@
 //! The numbers of a file. Most have at most four digits: a table says, for each pattern of digits and white bytes among
 //! sixteen bytes, where the digits of its first four numbers are.
 
-use crate::lanes::{Four, digits_of, four_numbers};
+use crate::lanes::{Four, digits_of, four_numbers, padded};
 use std::fs::File;
-use std::io::{ErrorKind, Read};
+use std::io::Read;
 
 const LONGEST: usize = 536_870_912;
 /// Bytes that are read at once.
@@ -13,18 +13,12 @@ const AFTER: usize = 128;
 
 /// The patterns that were met: two words for each, first where the digits are (`four_numbers`), and then a byte each for how
 /// many numbers there are, how many bytes are done with, 1, and whether a longer number begins there.
-pub struct Patterns {
-    words: Vec<u128>,
-    /// The first word whose address is that of two words.
-    first: usize,
-}
+pub struct Patterns(Vec<[u128; 2]>);
 
 impl Patterns {
     pub fn new() -> Patterns {
         // Zeros take memory only where they are looked at.
-        let words = vec![0; (2 << 16) + 1];
-        let first = words.as_ptr() as usize / 16 % 2;
-        Patterns { words, first }
+        Patterns(vec![[0; 2]; 1 << 16])
     }
     #[cold]
     fn meet(&mut self, bits: u16) -> u32 {
@@ -43,8 +37,7 @@ impl Patterns {
             passed = from;
         }
         let told = count | passed << 8 | 1 << 16 | u32::from(is_long) << 24;
-        let word = self.first + 2 * bits as usize;
-        (self.words[word], self.words[word + 1]) = (u128::from_le_bytes(places), told.into());
+        self.0[bits as usize] = [u128::from_le_bytes(places), told.into()];
         told
     }
     /// Gives the numbers of the first `end` bytes, which end with a white one. AFTER white bytes follow.
@@ -62,10 +55,10 @@ impl Patterns {
             }
             let mut from = 0;
             while from <= 48 {
-                let word = self.first + 2 * ((digits >> from) as u16) as usize;
-                let mut told = self.words[word + 1] as u32;
+                let bits = (digits >> from) as u16;
+                let mut told = self.0[bits as usize][1] as u32;
                 if told >> 16 != 1 {
-                    told = if told == 0 { self.meet((digits >> from) as u16) } else { told };
+                    told = if told == 0 { self.meet(bits) } else { told };
                     if told >> 24 == 1 {
                         at += from + (told >> 8 & 255) as usize;
                         from = 0;
@@ -77,7 +70,7 @@ impl Patterns {
                 }
                 let sixteen: &[u8; 16] = block[from..from + 16].try_into().expect("sixteen");
                 // SAFETY: there is room for a number for every two bytes, and 64 more.
-                unsafe { *out.add(made).cast() = four_numbers(sixteen, self.words[word]) };
+                unsafe { *out.add(made).cast() = four_numbers(sixteen, self.0[bits as usize][0]) };
                 made += (told & 255) as usize;
                 from += (told >> 8 & 255) as usize;
             }
@@ -91,23 +84,16 @@ impl Patterns {
 
 /// The number that begins at a place, which goes behind its digits.
 fn long_number(bytes: &[u8], place: &mut usize) -> Option<u32> {
-    let mut value = 0;
-    while bytes[*place].is_ascii_digit() {
-        value = value * 10 + u64::from(bytes[*place] - b'0');
-        if value > u32::MAX.into() {
-            return None;
-        }
-        *place += 1;
-    }
-    Some(value as u32)
+    let end = *place + bytes[*place..].iter().position(|byte| !byte.is_ascii_digit())?;
+    let digits = &bytes[std::mem::replace(place, end)..end];
+    std::str::from_utf8(digits).ok()?.parse().ok()
 }
 
 /// The numbers of a file in their order, read in pieces. A fault is a status: 3 if reading fails, else the one that is told.
 pub struct Numbers<'p> {
     file: Option<File>,
-    /// How many bytes were read, and how many of the last ones begin a number that isn't whole.
+    /// How many bytes were read, and the last ones, which begin a number that may not be whole.
     length: usize,
-    held: usize,
     bytes: Vec<u8>,
     patterns: &'p mut Patterns,
     values: Vec<u32>,
@@ -118,48 +104,38 @@ pub struct Numbers<'p> {
 impl<'p> Numbers<'p> {
     pub fn open(name: &str, bad: i32, patterns: &'p mut Patterns) -> Result<Numbers<'p>, i32> {
         let file = File::open(name).map_err(|_| 3)?;
-        Ok(Numbers { file: Some(file), bytes: vec![0; PIECE + AFTER], bad, ..Numbers::of(Vec::new(), patterns) })
+        let bytes = Vec::with_capacity(2 * PIECE);
+        Ok(Numbers { file: Some(file), bytes, bad, ..Numbers::of(Vec::new(), patterns) })
     }
     pub fn of(values: Vec<u32>, patterns: &'p mut Patterns) -> Numbers<'p> {
-        Numbers { file: None, length: 0, held: 0, bytes: Vec::new(), patterns, values, next: 0, bad: 0 }
+        Numbers { file: None, length: 0, bytes: Vec::new(), patterns, values, next: 0, bad: 0 }
     }
     /// How many numbers are at hand: none only if there are no more.
     fn at_hand(&mut self) -> Result<usize, i32> {
-        while self.next == self.values.len() && self.file.is_some() {
-            self.refill()?;
-        }
+        while self.next == self.values.len() && self.refill()? {}
         Ok(self.values.len() - self.next)
     }
+    /// Reads a piece, if the file may have more.
     #[cold]
-    fn refill(&mut self) -> Result<(), i32> {
-        if self.held + AFTER == self.bytes.len() {
-            self.bytes.resize(2 * self.bytes.len(), 0);
-        }
-        let most = self.bytes.len() - AFTER;
-        let got = match self.file.as_mut().map(|file| file.read(&mut self.bytes[self.held..most])) {
-            Some(Err(fault)) if fault.kind() == ErrorKind::Interrupted => return Ok(()),
-            Some(Ok(got)) => got,
-            _ => return Err(3),
-        };
-        self.length += got;
-        let have = self.held + got;
-        let mut end = have;
+    fn refill(&mut self) -> Result<bool, i32> {
+        let Some(file) = &mut self.file else { return Ok(false) };
+        let got = file.take(PIECE as u64).read_to_end(&mut self.bytes).map_err(|_| 3)?;
         if got == 0 {
             self.file = None;
-            (self.bytes[have], end) = (b' ', have + 1);
-        } else if self.length > LONGEST {
+            self.bytes.push(b' ');
+        }
+        self.length += got;
+        if self.length > LONGEST {
             return Err(self.bad);
         }
-        while end > 0 && self.bytes[end - 1].is_ascii_digit() {
-            end -= 1;
-        }
-        self.held = have.saturating_sub(end);
-        let rest = self.bytes[have - self.held..have].to_vec();
-        self.bytes[end..end + AFTER - 1].fill(b' ');
+        let end = self.bytes.iter().rposition(|byte| !byte.is_ascii_digit()).map_or(0, |last| last + 1);
+        let rest = self.bytes.split_off(end);
+        self.bytes.resize(end + AFTER, b' ');
         self.patterns.read(&self.bytes, end, &mut self.values).ok_or(self.bad)?;
-        self.bytes[..self.held].copy_from_slice(&rest);
+        self.bytes.clear();
+        self.bytes.extend(rest);
         self.next = 0;
-        Ok(())
+        Ok(true)
     }
     /// The next number. It is a fault if there is none.
     pub fn next(&mut self) -> Result<u32, i32> {
@@ -188,7 +164,7 @@ impl<'p> Numbers<'p> {
     pub fn row(&mut self, count: usize, quads: usize, to: &mut Vec<Four>) -> Result<(), i32> {
         let mut numbers = [0; 20];
         self.fill(&mut numbers[..count])?;
-        to.extend(numbers.as_chunks().0[..quads].iter().map(|&four| Four::of(four)));
+        to.extend_from_slice(&padded(&numbers)[..quads]);
         Ok(())
     }
     pub fn has_ended(&mut self) -> Result<bool, i32> {

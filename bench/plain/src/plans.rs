@@ -3,8 +3,8 @@
 //! the first option alone, and only if none is done.
 
 use crate::instance::{Process, Service, WINDOW};
-use crate::lanes::{Eight, Four, flat};
-use crate::moves::{Cause, Change, Plan, Step, product};
+use crate::lanes::{Eight, Four, fetch, flat};
+use crate::moves::{Cause, Change, Few, Move, Plan, Step, product};
 use crate::state::{Places, State};
 
 /// A step with what is known of its process.
@@ -18,8 +18,8 @@ struct Leg<'s, const Q: usize> {
 
 /// No machine.
 const NOWHERE: u32 = u32::MAX;
-/// For each filter that counts where its row begins and what a process asks of it, and how many these are.
-type Terms = ([(usize, u16); 31], usize);
+/// For each filter that counts where its row begins, and what a process asks of it.
+type Terms = Few<(usize, u16), 31>;
 
 impl<const Q: usize> State<'_, Q> {
     fn legs<const N: usize>(&self, steps: [Step; N]) -> [Leg<'_, Q>; N] {
@@ -41,7 +41,7 @@ impl<const Q: usize> State<'_, Q> {
     /// What is free on a machine after the steps, and whether there is enough of it; or, of transient resources, between them.
     /// Those that leave do so first.
     fn after<const N: usize>(&self, legs: &[Leg<'_, Q>; N], m: u32, is_transient: bool) -> ([Four; Q], bool) {
-        let [free, room, _] = self.rows(m);
+        let [free, room, _] = &self.rows[m as usize];
         let (mut left, mut fits) = (if is_transient { *room } else { *free }, Four::all(u32::MAX));
         let cut = |i: usize, asked: Four| if is_transient { asked.and(self.transient[i]) } else { asked };
         let asked = |leg: &Leg<'_, Q>, i: usize| cut(i, leg.required[i]);
@@ -59,15 +59,16 @@ impl<const Q: usize> State<'_, Q> {
     }
     /// The first resource of which a machine has too much.
     fn over<const N: usize>(&self, legs: &[Leg<'_, Q>; N], m: u32, is_transient: bool) -> Option<Cause> {
-        let row = flat(&self.rows(m)[usize::from(is_transient)]);
-        let capacities = self.inst.numbers(&self.inst.capacity, m as usize).iter().enumerate();
-        capacities.filter(|(r, _)| !is_transient || self.inst.transient[*r]).find_map(|(r, &capacity)| {
-            let mut used = i64::from(capacity) - i64::from(row[r]);
-            for leg in legs.iter().filter(|leg| !is_transient || leg.process.home != m) {
-                used +=
-                    i64::from(flat(leg.required)[r]) * (i64::from(leg.step.to == m) - i64::from(leg.step.from == m));
-            }
-            (used > capacity.into()).then_some(Cause::Over(is_transient, m, r as u32, used as u64, capacity))
+        let (inst, row) = (self.inst, flat(&self.rows[m as usize][usize::from(is_transient)]));
+        let counted = || legs.iter().filter(|leg| !is_transient || leg.process.home != m);
+        let change = |leg: &Leg<'_, Q>| i64::from(leg.step.to == m) - i64::from(leg.step.from == m);
+        (0..inst.resources).filter(|&r| !is_transient || inst.transient[r]).find_map(|r| {
+            let capacity = inst.numbers(&inst.capacity, m as usize)[r];
+            let added: i64 = counted().map(|leg| change(leg) * i64::from(flat(leg.required)[r])).sum();
+            let used = i64::from(capacity) - i64::from(row[r]) + added;
+            let told = [m.into(), r as i64, used, capacity.into()];
+            let cause = if is_transient { Cause::new(b"transient", told) } else { Cause::new(b"capacity", told) };
+            (used > capacity.into()).then_some(cause)
         })
     }
     /// In how many locations the service of a step is after the steps.
@@ -88,25 +89,17 @@ impl<const Q: usize> State<'_, Q> {
     }
     /// The least service of which the steps break a dependency.
     fn least_broken<const N: usize>(&self, legs: &[Leg<'_, Q>; N]) -> Option<u32> {
-        let mut least = None;
-        for leg in legs {
+        let has = |number: u32, hood: u16| self.count_after(legs, &self.hoods, number, hood) > 0;
+        let broken = |leg: &Leg<'_, Q>| {
             let (left, entered) = (self.hoods.label(leg.step.from), self.hoods.label(leg.step.to));
-            if left == entered {
-                continue;
-            }
-            let number = leg.process.service;
-            let is_less = |least: Option<u32>, other: u32| least.is_none_or(|least| other < least);
-            let has = |number: u32, hood: u16| self.count_after(legs, &self.hoods, number, hood) > 0;
-            if is_less(least, number) && !self.ground.needs.of(number).iter().all(|&need| has(need, entered)) {
-                least = Some(number);
-            }
+            let (number, is_same) = (leg.process.service, left == entered);
+            let lacks = !is_same && !self.ground.needs.of(number).iter().all(|&need| has(need, entered));
             let dependants = self.ground.dependants.of(number);
-            if !dependants.is_empty() && !has(number, left) {
-                let mut less = dependants.iter().take_while(|&&other| is_less(least, other));
-                least = less.find(|&&other| has(other, left)).copied().or(least);
-            }
-        }
-        least
+            let alone = if is_same || dependants.is_empty() || has(number, left) { &[] } else { dependants };
+            let other = alone.iter().copied().find(|&other| has(other, left));
+            other.into_iter().chain(lacks.then_some(number)).min()
+        };
+        legs.iter().filter_map(broken).min()
     }
     /// The first broken dependency of a service that has one.
     fn broken_of<const N: usize>(&self, legs: &[Leg<'_, Q>; N], number: u32) -> Option<Cause> {
@@ -118,7 +111,7 @@ impl<const Q: usize> State<'_, Q> {
                 let hood = self.hoods.label(m);
                 let is_new = std::mem::replace(&mut last, hood) != hood;
                 let is_broken = is_new && self.count_after(legs, &self.hoods, need, hood) == 0;
-                is_broken.then(|| Cause::Dependency(number, need, self.inst.hood_label[m as usize]))
+                is_broken.then(|| Cause::new(b"dependency", [number, need, self.inst.hood_label[m as usize]]))
             })
         })
     }
@@ -140,7 +133,7 @@ impl<const Q: usize> State<'_, Q> {
     }
     /// The change by moved processes and ways, and the moved counts. There is no way to nowhere.
     fn moved_by<const N: usize>(&self, legs: &[Leg<'_, Q>; N]) -> Change {
-        let mut change = Change::default();
+        let mut change = Change { local: 0, moved: Few::new([]) };
         for Leg { step, process, .. } in legs {
             let moved = change.moved_of(process.service, self.greatest.of(process.service));
             let cost = product(self.inst.weights[0], process.cost.into());
@@ -170,32 +163,30 @@ impl<const Q: usize> State<'_, Q> {
         let stands = legs.iter().map(|leg| (leg.process.service, leg.step.to));
         let meets = |&(s, m): &(u32, u32)| self.count_after(legs, &self.on, s, m as u16) > 1;
         if let Some((service, m)) = stands.filter(meets).min() {
-            return Some(Cause::Conflict(service, m));
+            return Some(Cause::new(b"conflict", [service, m]));
         }
-        let spread = legs.iter().map(|leg| (leg.process.service, self.spread_after(legs, leg), leg.service.spread));
-        if let Some((service, has, wants)) = spread.filter(|(_, has, wants)| has < wants).min() {
-            return Some(Cause::Spread(service, has, wants));
+        let spread = legs.iter().map(|leg| [leg.process.service, self.spread_after(legs, leg), leg.service.spread]);
+        if let Some(numbers) = spread.filter(|[_, has, wants]| has < wants).min() {
+            return Some(Cause::new(b"spread", numbers));
         }
         if let Some(service) = self.least_broken(legs) {
             return self.broken_of(legs, service);
         }
-        let steps =
-            legs.iter().filter(|leg| leg.process.home != leg.step.to).map(|leg| (leg.step.process, leg.step.to));
-        steps.filter(|&(_, to)| self.inst.closed[to as usize]).min().map(|(p, to)| Cause::Closed(p, to))
+        let away = legs.iter().filter(|leg| leg.process.home != leg.step.to).map(|leg| leg.step);
+        let closed = away.filter(|step| self.inst.closed[step.to as usize]).min_by_key(|step| step.process);
+        closed.map(|step| Cause::new(b"closed", [step.process, step.to]))
     }
     /// What a move breaks, or what it changes.
     fn weigh<const N: usize>(&self, all: [Step; N]) -> Result<Change, Cause> {
         let is_earlier = |k: usize| all[..k].iter().any(|earlier| earlier.process == all[k].process);
         if let Some(k) = (1..N).find(|&k| is_earlier(k)) {
-            return Err(Cause::Repeat(all[k].process));
+            return Err(Cause::new(b"repeat", [all[k].process]));
         }
         if let Some(step) = all.iter().find(|step| step.from == step.to) {
-            return Err(Cause::Same(step.process));
+            return Err(Cause::new(b"same", [step.process]));
         }
         let legs = self.legs(all);
-        if let Some(cause) = self.broken_by(&legs) {
-            return Err(cause);
-        }
+        self.broken_by(&legs).map_or(Ok(()), Err)?;
         let mut change = self.moved_by(&legs);
         let touched = all.iter().flat_map(|step| [step.from, step.to]);
         for (k, m) in touched.clone().enumerate() {
@@ -217,13 +208,9 @@ impl<const Q: usize> State<'_, Q> {
             }
             change.local += self.cost_change(m, &free);
         }
-        let whole = self.whole(&change);
+        let whole = self.greatest.whole(&change);
         let fits = |&m: &u32| !self.has_transient || self.after(legs, m, true).1;
         (whole <= most && touched.iter().all(fits) && self.allows(legs)).then_some((whole, change))
-    }
-    /// The change of the cost with the service part.
-    fn whole(&self, change: &Change) -> i128 {
-        change.local + i128::from(self.greatest.growth(change.moved())) * i128::from(self.inst.weights[1])
     }
     /// Divided as the filters are, and cut to 16 bits.
     fn scaled(&self, cost: i128) -> u16 {
@@ -248,17 +235,12 @@ impl<const Q: usize> State<'_, Q> {
             false => 1u64.checked_shl(round(home as usize + machines - start) as u32).unwrap_or(0),
         };
         let (mut sums, mut limit, mut most, mut best) = ([0; WINDOW], 0, allowed, None);
-        let (terms, floor) = self.terms_of(away[0].required, self.whole(&base));
+        let (terms, floor) = self.terms_of(away[0].required, self.greatest.whole(&base));
         let mut mask = homes;
         if floor <= most {
             limit = self.scaled(most - floor);
-            mask |= match is_first_drawing {
-                true => 15,
-                false => {
-                    u64::MAX >> (64 - machines.min(WINDOW))
-                        & self.window(&terms, home as usize, start, limit, &mut sums)
-                }
-            };
+            let mut window = || self.window(&terms, home as usize, start, limit, &mut sums);
+            mask |= if is_first_drawing { 15 } else { window() & u64::MAX >> (64 - machines.min(WINDOW)) };
         }
         while mask != 0 {
             let (i, bit) = (mask.trailing_zeros() as usize, mask & mask.wrapping_neg());
@@ -277,16 +259,17 @@ impl<const Q: usize> State<'_, Q> {
             }
         }
         let first = [step(target(0))];
-        best.map_or_else(|| Plan::refused(first, self.weigh(first)), |(shift, change)| Plan::done(shift, change))
+        let (steps, weighed) = best.map_or_else(|| (first, self.weigh(first)), |(shift, change)| (shift, Ok(change)));
+        (Move::new(steps), weighed)
     }
     /// The terms of a process, and what the cost is at least: if it has more of the second resource of a balance objective the
     /// lack shrinks by so much, but for the filter.
     fn terms_of(&self, required: &[Four; Q], mut floor: i128) -> (Terms, i128) {
         let (inst, asked) = (self.inst, flat(required));
-        let (mut all, mut count) = ([(0, 0); 31], 0);
+        let Few(mut all, mut count) = Terms::new([]);
         let mut add = |row: usize, weight: u32, amount: u64| {
             let amount = (u64::from(weight).saturating_mul(amount) >> self.power).min(65_535) as u16;
-            all[count] = (row * self.stride, amount);
+            all[count] = (row * inst.stride, amount);
             count += usize::from(amount > 0);
         };
         inst.load_weight.iter().zip(asked).enumerate().for_each(|(r, (&weight, &asked))| add(r, weight, asked.into()));
@@ -301,7 +284,7 @@ impl<const Q: usize> State<'_, Q> {
             let greatest = (at..count).max_by_key(|&i| all[i].1).unwrap_or(at);
             all.swap(at, greatest);
         }
-        ((all, count), floor)
+        (Few(all, count), floor)
     }
     /// For each of 64 machines what the way and the filters add, at most, and one bit if that is within the limit.
     fn window(&self, terms: &Terms, home: usize, start: usize, limit: u16, sums: &mut [u16; WINDOW]) -> u64 {
@@ -312,7 +295,7 @@ impl<const Q: usize> State<'_, Q> {
         for part in (0..WINDOW).step_by(PART) {
             let ways = &ways[first + part..][..PART];
             let mut sum: [Eight; 4] = std::array::from_fn(|k| Eight::load(&ways[8 * k..]).shifted(shift).times(share));
-            for (j, &(row, amount)) in terms.0[..terms.1].iter().enumerate() {
+            for (j, &(row, amount)) in terms.all().iter().enumerate() {
                 let least = || sum[0].least(sum[1]).least(sum[2].least(sum[3]));
                 if (j == 3 || j == 6) && least().within(Eight::all(u16::MAX), limits) == 0 {
                     break;
@@ -335,39 +318,37 @@ impl<const Q: usize> State<'_, Q> {
         };
         let first = swap_of(words[2]);
         let alone = self.weigh(first);
-        let (mut best, mut most) = (None, allowed);
-        if let Ok(change) = &alone {
-            let whole = self.whole(change);
-            if whole <= most {
-                (best, most) = (Some((first, *change)), whole - 1);
-            }
-        }
+        let done = alone.ok().map(|change| (self.greatest.whole(&change), first, change));
+        let mut best = done.filter(|(whole, ..)| *whole <= allowed);
         for swap in words[3..6].iter().map(|&word| swap_of(word)) {
-            if swap[0].process == swap[1].process || swap[0].from == swap[0].to {
-                continue;
-            }
-            let legs = self.legs(swap);
-            if let Some((whole, change)) = self.within(&legs, self.moved_by(&legs), [swap[0].from, swap[0].to], most) {
-                (best, most) = (Some((swap, change)), whole - 1);
+            if swap[0].process != swap[1].process && swap[0].from != swap[0].to {
+                let (legs, most) = (self.legs(swap), best.map_or(allowed, |(whole, ..)| whole - 1));
+                let within = self.within(&legs, self.moved_by(&legs), [swap[0].from, swap[0].to], most);
+                best = within.map(|(whole, change)| (whole, swap, change)).or(best);
             }
         }
-        best.map_or_else(|| Plan::refused(first, alone), |(swap, change)| Plan::done(swap, change))
+        let (steps, weighed) = best.map_or((first, alone), |(_, swap, change)| (swap, Ok(change)));
+        (Move::new(steps), weighed)
     }
-    fn plan_chain(&self, words: &[u64; 8], allowed: i128) -> Plan {
+    fn plan_chain(&self, words: &[u64; 8]) -> Plan {
         let [p, q, r] = [words[1], words[2], words[3]].map(|word| self.by_process.of(word));
         let step = |p: usize, to: u32| Step { process: p as u32, from: self.at[p], to };
         let all = [step(p, self.at[q]), step(q, self.at[r]), step(r, self.by_machine.of(words[4]) as u32)];
-        match self.weigh(all) {
-            Ok(change) if self.whole(&change) <= allowed => Plan::done(all, change),
-            weighed => Plan::refused(all, weighed),
-        }
+        (Move::new(all), self.weigh(all))
+    }
+    /// Asks for the memory that a plan with these words needs first.
+    pub fn fetch(&self, words: &[u64; 8]) {
+        let p = self.by_process.of(words[1]);
+        fetch(&self.inst.requirement, p * Q);
+        let (place, ways) = self.inst.window(self.ground.processes[p].home as usize, self.by_machine.of(words[2]));
+        (0..4).for_each(|line| fetch(ways, place + 32 * line));
     }
     /// The first option of least cost among those that are done, or else the first one.
     pub fn plan(&self, words: &[u64; 8], is_first_drawing: bool, allowed: i128) -> Plan {
         match words[0] % 8 {
             0..5 => self.plan_shift(words, is_first_drawing, allowed),
             5 | 6 => self.plan_swap(words, allowed),
-            _ => self.plan_chain(words, allowed),
+            _ => self.plan_chain(words),
         }
     }
 }

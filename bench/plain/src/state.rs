@@ -1,8 +1,8 @@
 //! A worker's replica: a list with all that is kept for it.
 
 use crate::draws::Remainder;
-use crate::instance::{Ground, Instance, SMALL, Service, WINDOW};
-use crate::lanes::{Eight, Four, flat};
+use crate::instance::{Ground, Instance, SMALL, Service};
+use crate::lanes::{Eight, Four, flat, padded};
 use crate::moves::{Greatest, Move, product};
 
 /// One label of each process, in the order of the slots, and for large services how many have each label.
@@ -15,7 +15,7 @@ pub struct Places<'a> {
 impl<'a> Places<'a> {
     /// The labels of the machines of a list.
     fn new(ground: &Ground, label: &'a [u16], list: &[u32]) -> Places<'a> {
-        let mut at: Vec<u16> = ground.members.all().iter().map(|&p| label[list[p as usize] as usize]).collect();
+        let mut at: Vec<u16> = ground.members.all.iter().map(|&p| label[list[p as usize] as usize]).collect();
         let mut table = Vec::new();
         for service in ground.services.iter().filter(|service| service.large != SMALL) {
             let row = table.len();
@@ -33,17 +33,13 @@ impl<'a> Places<'a> {
         if service.large != SMALL {
             return self.table[service.large as usize * self.label.len() + label as usize].into();
         }
-        let labels = Eight::all(label);
+        let same = |first: usize| Eight::load(&self.at[first..]).same(Eight::all(label));
         let (mut first, mut left, mut count) = (service.first as usize, service.size, 0);
-        loop {
-            let same = Eight::load(&self.at[first..]).same(labels);
-            if left <= 8 {
-                return (count + (same & ((1 << (2 * left)) - 1)).count_ones()) / 2;
-            }
-            count += same.count_ones();
-            first += 8;
-            left -= 8;
+        while left > 8 {
+            count += same(first).count_ones();
+            (first, left) = (first + 8, left - 8);
         }
+        (count + (same(first) & ((1 << (2 * left)) - 1)).count_ones()) / 2
     }
     fn change(&mut self, service: &Service, slot: u32, m: u32) {
         let label = self.label(m);
@@ -62,7 +58,7 @@ pub struct State<'a, const Q: usize> {
     pub at: Vec<u32>,
     /// For each machine three rows: what is free; what is free beside those that left too, of transient resources, and the
     /// greatest number of the others; and by how much the capacity is above the safety capacity.
-    rows: Vec<[Four; Q]>,
+    pub rows: Vec<[[Four; Q]; 3]>,
     /// Load and balance cost of each machine.
     pub cost: Vec<i128>,
     weights: [Four; Q],
@@ -74,7 +70,6 @@ pub struct State<'a, const Q: usize> {
     /// For each resource, and twice for each balance objective, by machine going round: how much a machine takes before its
     /// cost rises, divided by 2^`power`, rounded up and cut to 16 bits.
     pub filters: Vec<u16>,
-    pub stride: usize,
     pub power: u32,
     /// A way shifted by the first number, times the second one, is at most its cost divided by 2^`power`, times 2^16.
     pub way_share: (u32, u16),
@@ -91,64 +86,51 @@ pub struct State<'a, const Q: usize> {
 impl<'a, const Q: usize> State<'a, Q> {
     pub fn new(inst: &'a Instance, ground: &'a Ground, initial: &[u32]) -> State<'a, Q> {
         let machines = inst.machines;
-        let fours = |number: &dyn Fn(usize) -> u32| -> [Four; Q] {
-            std::array::from_fn(|quad| {
-                let number = |k| if 4 * quad + k < inst.resources { number(4 * quad + k) } else { 0 };
-                Four::of(std::array::from_fn(number))
-            })
-        };
-        let transient = fours(&|r| if inst.transient[r] { u32::MAX } else { 0 });
-        let mut rows = Vec::with_capacity(3 * machines);
-        for (all, safe) in inst.capacity.as_chunks().0.iter().zip(inst.safety.as_chunks::<Q>().0) {
-            rows.extend([*all, *all, std::array::from_fn(|i| all[i].above(safe[i]))]);
-        }
+        let row = |numbers: Vec<u32>| *padded(&numbers).first_chunk().expect("a row");
+        let transient: [Four; Q] = row(inst.transient.iter().map(|&is| if is { u32::MAX } else { 0 }).collect());
+        let capacities = inst.capacity.as_chunks::<Q>().0.iter().zip(inst.safety.as_chunks::<Q>().0);
+        let gap = |all: &[Four; Q], safe: &[Four; Q]| std::array::from_fn(|i| all[i].above(safe[i]));
+        let mut rows: Vec<_> = capacities.map(|(all, safe)| [*all, *all, gap(all, safe)]).collect();
         for (&m, required) in initial.iter().zip(inst.requirement.as_chunks::<Q>().0) {
-            let free = &mut rows[3 * m as usize];
+            let free = &mut rows[m as usize][0];
             (0..Q).for_each(|i| free[i] = free[i].minus(required[i]));
         }
-        for m in 0..machines {
-            let others = |i: usize| Four::all(u32::MAX).minus(transient[i]);
-            rows[3 * m + 1] = std::array::from_fn(|i| rows[3 * m][i].and(transient[i]).plus(others(i)));
+        let others = transient.map(|transient| Four::all(u32::MAX).minus(transient));
+        for [free, room, _] in &mut rows {
+            *room = std::array::from_fn(|i| free[i].and(transient[i]).plus(others[i]));
         }
-        let stride = machines + WINDOW - 1;
-        let power = power_of(inst);
+        let (power, locations) = (power_of(inst), Places::new(ground, &ground.location, initial));
+        let spread_of = |service: &Service| {
+            let labels = &locations.at[service.slots()];
+            (0..labels.len()).filter(|&k| !labels[..k].contains(&labels[k])).count() as u32
+        };
         let mut state = State {
             inst,
             ground,
             at: initial.to_vec(),
             rows,
             cost: vec![0; machines],
-            weights: fours(&|r| inst.load_weight[r]),
+            weights: row(inst.load_weight.clone()),
             is_narrow: inst.load_weight.iter().map(|&weight| u64::from(weight)).sum::<u64>() < 1 << 32,
             transient,
             has_transient: inst.transient.contains(&true),
-            filters: vec![0; (inst.resources + 2 * inst.balances.len()) * stride],
-            stride,
+            filters: vec![0; (inst.resources + 2 * inst.balances.len()) * inst.stride],
             power,
             way_share: way_share(inst, power),
             on: Places::new(ground, &ground.machine, initial),
-            locations: Places::new(ground, &ground.location, initial),
             hoods: Places::new(ground, &ground.hood, initial),
-            spread: Vec::new(),
-            greatest: Greatest::new(inst.services, inst.processes),
+            spread: ground.services.iter().map(spread_of).collect(),
+            locations,
+            greatest: Greatest::new(inst),
             by_process: Remainder::new(inst.processes),
             by_machine: Remainder::new(machines),
         };
-        for service in &ground.services {
-            let mut labels = state.locations.at[service.slots()].to_vec();
-            labels.sort_unstable();
-            labels.dedup();
-            state.spread.push(labels.len() as u32);
-        }
         (0..machines as u32).for_each(|m| state.renew(m));
         state
     }
-    pub fn rows(&self, m: u32) -> &[[Four; Q]; 3] {
-        self.rows[3 * m as usize..].first_chunk().expect("three rows")
-    }
     /// Load and balance cost of a machine with this free.
     pub fn cost_of(&self, m: u32, free: &[Four; Q]) -> i128 {
-        let ([_, _, gap], numbers) = (self.rows(m), flat(free));
+        let ([_, _, gap], numbers) = (&self.rows[m as usize], flat(free));
         let mut sum = 0;
         if self.is_narrow {
             let load = (0..Q).map(|i| gap[i].above(free[i]).products(self.weights[i]));
@@ -166,10 +148,10 @@ impl<'a, const Q: usize> State<'a, Q> {
     }
     /// Makes the cost and the filters of a machine anew.
     fn renew(&mut self, m: u32) {
-        let (inst, free) = (self.inst, self.rows(m)[0]);
+        let (inst, free) = (self.inst, self.rows[m as usize][0]);
         self.cost[m as usize] = self.cost_of(m, &free);
         let (m, numbers) = (m as usize, flat(&free));
-        let (power, mut filters) = (self.power, self.filters.chunks_exact_mut(self.stride));
+        let (power, mut filters) = (self.power, self.filters.chunks_exact_mut(inst.stride));
         let mut set = |weight: u32, value: u64| {
             let value = u64::from(weight).saturating_mul(value);
             let up = u64::from(value & ((1 << power) - 1) != 0);
@@ -190,14 +172,14 @@ impl<'a, const Q: usize> State<'a, Q> {
     /// Makes a move that breaks nothing.
     pub fn make(&mut self, done: &Move) {
         let (inst, ground) = (self.inst, self.ground);
-        for step in done.steps() {
+        for step in done.all() {
             let p = step.process as usize;
-            let process = ground.processes[p];
+            let process = &ground.processes[p];
             let service = &ground.services[process.service as usize];
             // Between the steps a row may be below zero, so numbers go round.
             let required: &[Four; Q] = &inst.requirement.as_chunks().0[p];
             let mut change = |m: u32, change: fn(Four, Four) -> Four| {
-                let [free, room, _]: &mut [[Four; Q]; 3] = self.rows[3 * m as usize..].first_chunk_mut().expect("rows");
+                let [free, room, _] = &mut self.rows[m as usize];
                 for i in 0..Q {
                     free[i] = change(free[i], required[i]);
                     if m != process.home {
@@ -217,7 +199,7 @@ impl<'a, const Q: usize> State<'a, Q> {
             self.greatest.change(process.service, moved - u32::from(step.to == process.home));
             self.at[p] = step.to;
         }
-        for step in done.steps() {
+        for step in done.all() {
             self.renew(step.from);
             self.renew(step.to);
         }
@@ -226,10 +208,8 @@ impl<'a, const Q: usize> State<'a, Q> {
 
 /// By which power of two the filters are divided, so that what a usual process adds has a dozen bits.
 fn power_of(inst: &Instance) -> u32 {
-    let mut sum = 0u128;
-    for row in flat(&inst.requirement).chunks_exact(inst.quads * 4) {
-        sum += row.iter().zip(&inst.load_weight).map(|(&q, &w)| u128::from(q) * u128::from(w)).sum::<u128>();
-    }
+    let weighted = |(r, &weight): (usize, &u32)| u128::from(weight) * u128::from(inst.sum(&inst.requirement, r));
+    let sum: u128 = inst.load_weight.iter().enumerate().map(weighted).sum();
     (sum / inst.processes as u128 / 4_096 + 1).ilog2()
 }
 

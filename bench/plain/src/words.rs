@@ -2,17 +2,18 @@
 
 use crate::draws::{Lot, Lots};
 
-pub enum Job {
-    Check { model: String, initial: String, new: String, closed: Option<String> },
-    Bound { model: String, initial: Option<String>, closed: Option<String> },
-    Solve { model: String, initial: String, closed: Option<String>, lots: Lots },
-    Trial(u64),
+pub struct Job {
+    pub command: String,
+    /// The names of the model and then of the lists.
+    pub files: Vec<String>,
+    pub closed: Option<String>,
+    pub lots: Lots,
 }
 
 const MOST_PROPOSALS: u64 = 1_000_000;
 
-fn name(word: &String) -> Option<String> {
-    (!word.is_empty() && !word.starts_with('-')).then(|| word.clone())
+fn name(word: &str) -> Option<String> {
+    (!word.is_empty() && !word.starts_with('-')).then(|| word.into())
 }
 
 fn number(word: &str) -> Option<u64> {
@@ -20,18 +21,19 @@ fn number(word: &str) -> Option<u64> {
     is_number.then(|| word.parse().ok()).flatten()
 }
 
-fn lot(word: &String) -> Option<Lot> {
+fn lot(word: &str) -> Option<Lot> {
     if let Some(list) = word.strip_prefix("w:") {
-        let words: Vec<u64> = list.split(',').map(number).collect::<Option<_>>()?;
-        return words.len().is_multiple_of(8).then_some(Lot::Written(words));
+        let written: Vec<u64> = list.split(',').map(number).collect::<Option<_>>()?;
+        let budget = written.len() as u64 / 8;
+        return written.len().is_multiple_of(8).then_some(Lot { seed: 0, budget, written });
     }
     let (seed, budget) = word.split_once(':')?;
-    let (seed, budget) = (number(seed)?, number(budget)?);
-    (budget <= MOST_PROPOSALS).then_some(Lot::Seeded(seed, budget))
+    let lot = Lot { seed: number(seed)?, budget: number(budget)?, ..Lot::default() };
+    (lot.budget <= MOST_PROPOSALS).then_some(lot)
 }
 
 /// The value of an option that may stand in front, by what it has to be; the outer None if it isn't that.
-fn option<T>(rest: &mut &[String], flag: &str, read: impl Fn(&String) -> Option<T>) -> Option<Option<T>> {
+fn option<T>(rest: &mut &[String], flag: &str, read: impl Fn(&str) -> Option<T>) -> Option<Option<T>> {
     if rest.first().is_none_or(|word| word != flag) {
         return Some(None);
     }
@@ -42,31 +44,27 @@ fn option<T>(rest: &mut &[String], flag: &str, read: impl Fn(&String) -> Option<
 
 pub fn job_of(words: &[String]) -> Option<Job> {
     let (command, mut rest) = words.split_first()?;
-    let files = match command.as_str() {
-        "trial" if rest.len() == 1 => return number(&rest[0]).map(Job::Trial),
+    let count = match command.as_str() {
         "check" => 3,
-        "bound" => rest.len().min(2),
+        "bound" => rest.len().clamp(1, 2),
         "solve" => 2,
+        "trial" if rest.len() == 1 => {
+            let all = vec![Lot { seed: number(&rest[0])?, budget: 2_000, ..Lot::default() }];
+            let lots = Lots { slack: 1_000, is_first_drawing: false, all };
+            return Some(Job { command: command.clone(), files: Vec::new(), closed: None, lots });
+        }
         _ => return None,
     };
-    let names: Vec<String> = rest.get(..files)?.iter().map(name).collect::<Option<_>>()?;
-    rest = &rest[files..];
-    let mut names = names.into_iter();
-    let model = names.next()?;
-    if command == "solve" {
-        let slack = option(&mut rest, "--slack", |word| number(word))?.unwrap_or(0);
-        let closed = option(&mut rest, "--closed", name)?;
-        let drawing = |word: &String| ["1", "2"].contains(&&word[..]).then(|| word == "1");
-        let is_first_drawing = option(&mut rest, "--draws", drawing)?.unwrap_or(false);
-        let all: Vec<Lot> = rest.iter().map(lot).collect::<Option<_>>()?;
-        let is_fine = (1..=16).contains(&all.len()) && all.iter().map(Lot::budget).sum::<u64>() <= MOST_PROPOSALS;
-        let lots = Lots { slack, is_first_drawing, all };
-        return is_fine.then_some(Job::Solve { model, initial: names.next()?, closed, lots });
-    }
-    let closed = if files > 1 { option(&mut rest, "--closed", name)? } else { None };
-    match (rest, command.as_str()) {
-        ([], "check") => Some(Job::Check { model, initial: names.next()?, new: names.next()?, closed }),
-        ([], _) => Some(Job::Bound { model, initial: names.next(), closed }),
-        _ => None,
-    }
+    let files = rest.get(..count)?.iter().map(|word| name(word)).collect::<Option<_>>()?;
+    rest = &rest[count..];
+    let slack = option(&mut rest, "--slack", number)?;
+    let closed = option(&mut rest, "--closed", name)?;
+    let drawing = option(&mut rest, "--draws", |word| ["1", "2"].iter().position(|drawing| *drawing == word))?;
+    let all: Vec<Lot> = rest.iter().map(|word| lot(word)).collect::<Option<_>>()?;
+    let is_fine = match command.as_str() {
+        "solve" => (1..=16).contains(&all.len()) && all.iter().map(|lot| lot.budget).sum::<u64>() <= MOST_PROPOSALS,
+        _ => slack.is_none() && drawing.is_none() && all.is_empty(),
+    };
+    let lots = Lots { slack: slack.unwrap_or(0), is_first_drawing: drawing == Some(0), all };
+    is_fine.then_some(Job { command: command.clone(), files, closed, lots })
 }
