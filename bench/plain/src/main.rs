@@ -1,13 +1,13 @@
 //! The work of `reassign` in plain Rust, without a proof: a mark for its speed, and a third opinion on its bytes.
 //!
-//! It does `check`, `bound`, `solve` and `trial` with the words of docs/FORMATS.md, and prints the same bytes for input that is
-//! accepted. Of a refusal it has the status alone: 2 of the words, 3 of reading, 4 of the model, 5 of a list, 6 of a list that
-//! breaks a rule, 7 of writing, and 10 of the closed list. Of several workers each hands in up to 32 plans in one turn; with the
-//! first word `--each` it hands in one. Their report is that of one legal whole journal, of which there are many.
+//! It does `check`, `bound`, `solve` and `trial` with the words of docs/FORMATS.md, and prints the same bytes for input
+//! that is accepted. A refusal has the status alone: 2 of the words, 3 of reading, 4 of the model, 5 of a list, 6 of a
+//! list that breaks a rule, 7 of writing, 10 of the closed list. Each of several workers hands in up to 32 plans a
+//! turn, and one with the first word `--each`. Their report is one legal journal of many.
 //!
-//! It is written to be quick. A window of machines is filtered by numbers of 16 bits that are never above the true costs
-//! (plans.rs), a table finds the numbers in sixteen bytes at once (numbers.rs), and a line is written as soon as its verdict is
-//! known (lines.rs). It is compiled for the processors of the proved program, x86-64-v2 (.cargo/config.toml).
+//! It is written to be quick. Windows of machines are filtered by numbers of 16 bits that are never above the true
+//! costs (plans.rs), a table finds the numbers in sixteen bytes at once (numbers.rs), and a line is written as soon as
+//! its verdict is known (lines.rs). It is compiled for x86-64-v2, as the proved program is.
 #![deny(warnings)]
 
 #[cfg(not(all(target_feature = "sse4.1", target_feature = "popcnt")))]
@@ -50,7 +50,7 @@ fn input_of(job: &Job) -> Result<(Instance, Vec<Vec<u32>>), i32> {
     Ok((inst, lists))
 }
 
-/// The text of a job, and a run whose journal follows it. A worker of several hands in at most so many plans in one turn.
+/// The text of a job, and a run whose journal follows it. A worker of several hands in at most so many plans a turn.
 fn answer(job: &Job, most: u64) -> Result<(Text, Option<Run>), i32> {
     let (inst, lists) = input_of(job)?;
     let mut text = Text::default();
