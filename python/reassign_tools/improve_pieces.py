@@ -16,8 +16,10 @@ GOING_ON = 1 / 16  # of the heat: where a search begins that goes on from a list
 PILOT, PILOT_SHARE, GROWTH = 100_000, 0.02, 8  # tries of the first pilot; how much of the time it takes, else one of more comes
 SURE = 0.75  # the part of the time that is left for which a last piece is planned, since times swing
 PAIR = 5e-9  # seconds for each process and machine in which a descent finds nothing
-FAR, ENTERED = 20, 0.4  # as many times that takes a descent from the start; of it, the time for which a search is tried
-PROPOSALS, BY_PROPOSAL = 1, 12  # of `solve` for each process; tries in the time of a proposal, about
+FAR, ENTERED = 12, 0.4  # as many times that takes a descent from the start; of it, the time for which a search is tried
+LEAST_TRIED = 0.2  # the least part of the time for the first tries on a large instance
+MOST_FIRST = 0.9  # and the most for the piece that makes them
+PROPOSALS, BY_PROPOSAL = 1, 8  # of `solve` for each process; tries in the time of a proposal, about
 
 
 @dataclass
@@ -126,7 +128,8 @@ class Timed:
         self.rate, left = BY_PROPOSAL / each, self.left()
         piece: Piece | None = None
         if left > ENTERED * self.far:
-            piece = self.anneal(0.4 * left, SURE * left, is_known=False)
+            tried = max(SURE * left - self.far, LEAST_TRIED * left)
+            piece = self.anneal(tried, MOST_FIRST * left, is_known=False)
             self.far = min(self.far, left - self.left())
         if piece is None and (proposals := int(SURE * (self.left() - self.around) / each)) > least:
             self.search.solve(min(MOST_PROPOSALS, proposals))
