@@ -4,7 +4,7 @@ use std::alloc::Global;
 use std::mem::swap;
 
 /// If more than one of so many machines was left in a turn, all processes are looked at in the next one.
-const MANY: usize = 4;
+const MANY: usize = 16;
 
 /// Whom the moves of a descent concern: processes whose machine has become dearer, and machines that were left. Nothing
 /// is promised of it.
@@ -33,6 +33,11 @@ impl Concerned {
             turn: 1,
             turns: copies(alloc, machines, 0)?,
         })
+    }
+
+    /// Begins anew, with all processes.
+    pub(crate) fn begin_anew(&mut self) {
+        self.all = true;
     }
 
     /// Begins the next turn.

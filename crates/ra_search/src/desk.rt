@@ -1,6 +1,6 @@
 use crate::orders::{Order, Task};
 use crate::searcher::{Made, Searcher};
-use ra_base::{Fixed, Steps};
+use ra_base::{Assignment, Fixed, Steps};
 use std::hint::spin_loop;
 use std::mem::swap;
 use std::sync::atomic::{AtomicU64, Ordering};
@@ -59,20 +59,32 @@ impl<'a> Desk<'a> {
         }
     }
 
-    /// Gives an order, with the moves that the lead made, which it hands over.
-    pub(crate) fn give<R: Wait>(&self, rt: &R, task: Task, made: &mut Fixed<Made>) {
+    /// Gives an order, with the list at which the lead stands and the moves that it made, which it hands over.
+    pub(crate) fn give<R: Wait>(
+        &self,
+        rt: &R,
+        task: Task,
+        here: &Assignment,
+        made: &mut Fixed<Made>,
+    ) {
         let mut guard = self.order.write(rt);
         let order = &mut *guard;
         order.task = task;
+        if here.len() <= order.list.room() {
+            order.list.clear();
+            order.list.extend_from_slice(here.as_slice());
+        }
         swap(&mut order.taken, made);
         made.clear();
+        drop(guard);
+        self.ended.store(0, Ordering::SeqCst);
+        self.given.fetch_add(1, Ordering::SeqCst);
     }
 
     /// Has all searchers carry out the order, and helps with it.
     pub(crate) fn carry_out<R: Wait, L: Ledger>(&self, rt: &R, steps: &mut Steps<L>) {
-        self.ended.store(0, Ordering::SeqCst);
-        let before = self.given.fetch_add(1, Ordering::SeqCst);
-        self.help(rt, before.wrapping_add(1), 0, steps);
+        let given = self.given.load(Ordering::SeqCst);
+        self.help(rt, given, 0, steps);
         let mut waits = 0;
         let all = self.seats.len() as u64;
         for _ in rt.forever() {
@@ -117,12 +129,26 @@ impl<'a> Desk<'a> {
     fn help<R: Wait, L: Ledger>(&self, rt: &R, number: u64, thread: usize, steps: &mut Steps<L>) {
         let all = self.seats.len();
         for k in 0..all {
-            if k % self.threads.max(1) == thread {
+            if (k + 1) % self.threads.max(1) == thread {
                 self.take_up(rt, k, number, steps);
             }
         }
         for k in 0..all {
+            self.wait_for(k, number);
             self.take_up(rt, k, number, steps);
+        }
+    }
+
+    /// Waits a little for another thread to take up its searcher for an order.
+    fn wait_for(&self, k: usize, number: u64) {
+        let Some(seat) = self.seats.get(k) else {
+            return;
+        };
+        for _ in 0..PATIENCE {
+            if seat.begun.load(Ordering::SeqCst) == number {
+                return;
+            }
+            spin();
         }
     }
 
@@ -133,7 +159,8 @@ impl<'a> Desk<'a> {
         };
         if seat.is_taken_up(number) {
             let order = self.order.read(rt);
-            seat.searcher.lock(rt).obey(&order, steps);
+            let number = k.wrapping_add(1);
+            seat.searcher.lock(rt).obey(number, &order, steps);
             self.ended.fetch_add(1, Ordering::SeqCst);
         }
     }
@@ -141,6 +168,9 @@ impl<'a> Desk<'a> {
 
 /// How many times a thread looks again before it lets others run.
 const LOOKS: u32 = 200;
+
+/// How many times a thread looks whether another one begins its work before it does that itself.
+const PATIENCE: u32 = 200;
 
 /// For how long it waits between two looks.
 const SPINS: u32 = 8;
@@ -151,8 +181,12 @@ fn pause(waits: u32) -> u32 {
         thread::yield_now();
         return waits;
     }
+    spin();
+    waits + 1
+}
+
+fn spin() {
     for _ in 0..SPINS {
         spin_loop();
     }
-    waits + 1
 }

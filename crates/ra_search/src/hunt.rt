@@ -7,7 +7,7 @@ use crate::concerned::Concerned;
 use crate::desk::Desk;
 use crate::found::{Found, Told};
 use crate::kept::Kept;
-use crate::orders::Task;
+use crate::orders::{Part, Task};
 use crate::schedule::Schedule;
 use crate::searcher::Searcher;
 use crate::stretches::Stretch;
@@ -20,8 +20,11 @@ use std::sync::ledger::Ledger;
 /// In how many parts a cooling is cut; after each the list is kept, if it is the best so far.
 const PARTS: u64 = 32;
 
+/// In how many turns all searchers settle before the lead does.
+const TURNS: u32 = 2;
+
 /// The least and the most tries of a slice.
-const LEAST_SLICE: u64 = 1_000;
+const LEAST_SLICE: u64 = 2_000;
 
 const MOST_SLICE: u64 = 200_000;
 
@@ -29,6 +32,10 @@ const MOST_SLICE: u64 = 200_000;
 pub(crate) struct Hunt<'a> {
     pub(crate) lead: Searcher<'a>,
     pub(crate) best: Kept,
+    /// The list at which the lead stood before it settled.
+    pub(crate) last: Kept,
+    /// Whom the moves concern that were made since then.
+    pub(crate) concerned: Concerned,
     pub(crate) schedule: Schedule,
     /// Whether there are enough tries to visit processes by chance.
     pub(crate) by_process: bool,
@@ -38,6 +45,7 @@ pub(crate) struct Hunt<'a> {
     pub(crate) tries: u64,
     pub(crate) heat: u64,
     pub ghost best_kept: { IsKept lead.world best },
+    pub ghost last_kept: { IsKept lead.world last },
 }
 
 /// Frees all lists in one call, so that the end of an owner is short to prove.
@@ -46,6 +54,8 @@ impl Drop for Hunt<'_> {
         let Hunt {
             lead: _,
             best: _,
+            last: _,
+            concerned: _,
             schedule: _,
             by_process: _,
             slice: _,
@@ -70,6 +80,64 @@ impl<'a> Hunt<'a> {
         self.heat = high.units();
         let left = self.schedule.tries.saturating_sub(self.tries);
         self.cool(rt, desk, Cooling::between(high, low), left, steps);
+        self.keep_last();
+        if desk.seats.len() > 0 && self.tries > 0 {
+            self.settle_by_all(rt, desk, steps);
+        }
+    }
+
+    /// Keeps the list at which the lead stands as the last one.
+    fn keep_last(&mut self)
+        ensures { HasHunted self.old self.new }
+    {
+        let lead = &self.lead;
+        let last = &mut self.last;
+        last.keep(&lead.world);
+    }
+
+    /// Settles: all searchers first, each with a part of the processes, then the lead, then all again, so that hardly
+    /// anything is left for the descent.
+    fn settle_by_all<R: Wait, L: Ledger>(&mut self, rt: &R, desk: &Desk<'a>, steps: &mut Steps<L>)
+        ensures { HasHunted self.old self.new }
+    {
+        for _ in 0..TURNS {
+            self.settle_turn(rt, desk, steps);
+        }
+        self.settle_alone(steps);
+        self.settle_turn(rt, desk, steps);
+    }
+
+    /// Has the lead settle, by itself.
+    fn settle_alone<L: Ledger>(&mut self, steps: &mut Steps<L>)
+        ensures { HasHunted self.old self.new }
+    {
+        let lead = &mut self.lead;
+        let concerned = &mut self.concerned;
+        lead.settle(concerned, steps);
+    }
+
+    /// Has all searchers move the processes of their parts to cheaper machines.
+    fn settle_turn<R: Wait, L: Ledger>(&mut self, rt: &R, desk: &Desk<'a>, steps: &mut Steps<L>)
+        ensures { HasHunted self.old self.new }
+    {
+        let parts = desk.seats.len().saturating_add(1);
+        self.give(rt, desk, Task::Settle(parts));
+        self.lead.settle_part(&Part { number: 0, parts }, steps);
+        desk.carry_out(rt, steps);
+        let _merged = self.take_all(rt, desk, Heat::of(0), steps);
+        self.note_concerned();
+        self.concerned.begin_turn();
+    }
+
+    /// Notes whom the moves concern that the lead has made since the last order.
+    fn note_concerned(&mut self)
+        ensures { HasHunted self.old self.new }
+    {
+        let lead = &self.lead;
+        let concerned = &mut self.concerned;
+        for k in 0..lead.made.len() {
+            lead.concern(&lead.made.get(k).mv, concerned);
+        }
     }
 
     /// Searches while the heat falls, and keeps the best list.
@@ -125,7 +193,8 @@ impl<'a> Hunt<'a> {
     )
         ensures { HasHunted self.old self.new }
     {
-        if desk.seats.len() == 0 {
+        let searchers = desk.seats.len() as u64 + 1;
+        if searchers == 1 {
             self.lead.search(stretch, steps);
             self.tries = self.tries.wrapping_add(self.lead.take_tries());
             return;
@@ -135,7 +204,7 @@ impl<'a> Hunt<'a> {
             let begun = stretch.begun.saturating_add(stretch.tries - left);
             let part = Stretch {
                 begun,
-                tries: self.slice.min((left / desk.seats.len() as u64).max(1)),
+                tries: self.slice.min((left / searchers).max(1)),
                 ..*stretch
             };
             let spent = self.search_slice(rt, desk, &part, steps);
@@ -143,8 +212,7 @@ impl<'a> Hunt<'a> {
         }
     }
 
-    /// Has all searchers search a slice, and takes their moves, searcher by searcher, as far as they can still be made.
-    /// Tells how many moves were tried.
+    /// Has all searchers search a slice, and the lead too, and takes their moves. Tells how many moves were tried.
     fn search_slice<R: Wait, L: Ledger>(
         &mut self,
         rt: &R,
@@ -154,8 +222,27 @@ impl<'a> Hunt<'a> {
     ) -> u64
         ensures { HasHunted self.old self.new }
     {
-        self.order(rt, desk, Task::Search(*part), steps);
+        self.give(rt, desk, Task::Search(*part));
+        self.lead.search(part, steps);
+        desk.carry_out(rt, steps);
         let heat = part.cooling.at(part.begun, part.whole);
+        let mut merged = self.take_all(rt, desk, heat, steps);
+        merged.tries = merged.tries.saturating_add(self.lead.take_tries());
+        self.tries = self.tries.wrapping_add(merged.tries);
+        self.fit_slice(&merged);
+        merged.tries
+    }
+
+    /// Takes the moves of all searchers at the desk, searcher by searcher, as far as they can still be made.
+    fn take_all<R: Wait, L: Ledger>(
+        &mut self,
+        rt: &R,
+        desk: &Desk<'a>,
+        heat: Heat,
+        steps: &mut Steps<L>,
+    ) -> Merged
+        ensures { HasHunted self.old self.new }
+    {
         let mut merged = Merged {
             tries: 0,
             taken: 0,
@@ -167,9 +254,7 @@ impl<'a> Hunt<'a> {
             self.take_moves(seat, heat, &mut merged, steps);
             merged.tries = merged.tries.saturating_add(seat.take_tries());
         }
-        self.tries = self.tries.wrapping_add(merged.tries);
-        self.fit_slice(&merged);
-        merged.tries
+        merged
     }
 
     /// Takes the moves of a searcher that can still be made: those that cost no more than they did there, or than a new
@@ -198,9 +283,9 @@ impl<'a> Hunt<'a> {
         ensures { HasHunted self.old self.new }
     {
         let all = merged.taken.saturating_add(merged.lost);
-        if merged.lost > all / 4 {
+        if merged.lost > all / 2 {
             self.slice = (self.slice / 2).max(LEAST_SLICE);
-        } else if all == 0 || merged.lost < all / 8 {
+        } else if all == 0 || merged.lost < all / 4 {
             self.slice = self.slice.saturating_mul(2).min(MOST_SLICE);
         }
     }
@@ -215,19 +300,20 @@ impl<'a> Hunt<'a> {
     )
         ensures { HasHunted self.old self.new }
     {
-        let lead = &mut self.lead;
-        desk.give(rt, task, &mut lead.made);
+        self.give(rt, desk, task);
         desk.carry_out(rt, steps);
     }
 
+    /// Gives all searchers at the desk a task, to be done where the lead stands.
+    fn give<R: Wait>(&mut self, rt: &R, desk: &Desk<'a>, task: Task)
+        ensures { HasHunted self.old self.new }
+    {
+        let lead = &mut self.lead;
+        desk.give(rt, task, lead.world.assignment(), &mut lead.made);
+    }
+
     /// What a search that has run has found, after a descent from its best list.
-    pub(crate) fn ended<L: Ledger>(
-        self,
-        mut last: Kept,
-        mut concerned: Concerned,
-        steps: &mut Steps<L>,
-    ) -> Found
-        requires { IsKept self.lead.world last }
+    pub(crate) fn ended<L: Ledger>(self, steps: &mut Steps<L>) -> Found
         ensures { (from : List Machine) → self.entry.best.parts.total ≤ objective
             self.entry.lead.world.tables self.entry.lead.world.start from →
             IsFound self.entry.lead.world.tables self.entry.lead.world.start from result }
@@ -235,14 +321,19 @@ impl<'a> Hunt<'a> {
         let Hunt {
             mut lead,
             mut best,
+            last,
+            mut concerned,
             schedule: _,
             by_process: _,
             slice: _,
             tries,
             heat,
         } = self;
-        last.keep(&lead.world);
-        lead.stand_at_better(&best, steps);
+        let is_best = lead.stand_at_better(&best, steps);
+        let is_last = lead.stand_at_better(&last, steps);
+        if is_best || is_last {
+            concerned.begin_anew();
+        }
         lead.settle(&mut concerned, steps);
         let _moves = descend(&mut lead.world, steps);
         best.keep(&lead.world);

@@ -1,4 +1,5 @@
 ghost use Rattle.std.specs.Prelude.{◌≡◌, ◌^◌, ◌<◌, ◌≤◌, ◌↔◌, true, length, IfOk};
+ghost use Rattle.ra_check.specs.Made.{IsMadeFor};
 ghost use Rattle.ra_model.specs.Numbers.{machine_count, process_count};
 ghost use Rattle.ra_model.specs.Situations.{cost_at};
 ghost use Rattle.ra_moves.specs.Judging.{broken_by};
@@ -9,7 +10,8 @@ ghost use Rattle.ra_search.specs.Moving.{HasTried, Reaches, Stands, StepStands};
 
 use crate::guides::Guides;
 use crate::kept::Kept;
-use ra_base::{Fixed, NoMemory, Steps};
+use ra_base::{Assignment, Fixed, NoMemory, Steps};
+use ra_check::{Scratch, first_broken, parts};
 use ra_model::machine_of;
 use ra_moves::{Move, Step};
 use ra_plan::cost_below;
@@ -32,11 +34,14 @@ pub(crate) struct Searcher<'a> {
     /// Two lists to which it may return.
     base: Kept,
     chosen: Kept,
+    /// Where lists are judged.
+    scratch: Scratch,
     /// The moves that it made since they were last taken, as far as there is room.
     pub(crate) made: Fixed<Made>,
     /// What it did.
     pub(crate) told: Counts,
     pub ghost guided: { guides.inst.now.tables ≡ world.tables },
+    pub ghost scratched: { IsMadeFor scratch world.tables },
     pub ghost base_kept: { IsKept world base },
     pub ghost chosen_kept: { IsKept world chosen },
 }
@@ -59,6 +64,7 @@ impl Drop for Searcher<'_> {
             guides: _,
             base: _,
             chosen: _,
+            scratch: _,
             made: _,
             told: _,
         } = self;
@@ -79,12 +85,14 @@ impl<'a> Searcher<'a> {
         let guides = Guides::make(alloc, &world, seed)?;
         let base = Kept::make(alloc, &world)?;
         let chosen = Kept::make(alloc, &world)?;
+        let scratch = Scratch::make(alloc, world.instance())?;
         let made = Fixed::make(alloc, room)?;
         Ok(Searcher {
             world,
             guides,
             base,
             chosen,
+            scratch,
             made,
             told: Counts {
                 tries: 0,
@@ -139,7 +147,7 @@ impl<'a> Searcher<'a> {
         true
     }
 
-    /// Notes a move that was made, if there is room.
+    /// Counts a move that was made, and keeps it.
     fn note(&mut self, mv: &Move, rise: u128)
         ensures { self.new.world ≡ self.old.world }
     {
@@ -148,6 +156,13 @@ impl<'a> Searcher<'a> {
             self.told.rises = self.told.rises.wrapping_add(1);
             self.told.risen = self.told.risen.wrapping_add(rise);
         }
+        self.keep_move(mv, rise);
+    }
+
+    /// Keeps a move that was made, for the lead or from it, if there is room.
+    pub(crate) fn keep_move(&mut self, mv: &Move, rise: u128)
+        ensures { self.new.world ≡ self.old.world }
+    {
         if self.made.len() < self.made.room() {
             self.made.push(Made { mv: *mv, rise });
         }
@@ -190,8 +205,8 @@ impl<'a> Searcher<'a> {
         self.guides.renew(&self.world);
     }
 
-    /// Stands at a list that is kept, if that costs less.
-    pub(crate) fn stand_at_better<L: Ledger>(&mut self, kept: &Kept, steps: &mut Steps<L>)
+    /// Stands at a list that is kept, if that costs less, and tells whether it does.
+    pub(crate) fn stand_at_better<L: Ledger>(&mut self, kept: &Kept, steps: &mut Steps<L>) -> bool
         requires { IsKept self.old.world kept.now }
         ensures reaches { Reaches self.old.world self.new.world }
         ensures no_dearer { cost_at self.new.world ≤ cost_at self.old.world }
@@ -199,7 +214,29 @@ impl<'a> Searcher<'a> {
     {
         if kept.parts.total < self.world.parts().total {
             self.stand_at(kept, steps);
+            return true;
         }
+        false
+    }
+
+    /// Stands at a list, if it is one of the instance and breaks no constraint, and tells whether it does. The time grows
+    /// with the size of the instance, and not with what moves.
+    pub(crate) fn take_list<L: Ledger>(&mut self, list: &Assignment, steps: &mut Steps<L>) -> bool
+        ensures reaches { Reaches self.old.world self.new.world }
+        ensures made { self.new.made ≡ self.old.made }
+    {
+        let inst = self.world.instance();
+        let initial = self.world.initial();
+        if !inst.is_assignment(list) {
+            return false;
+        }
+        if first_broken(inst, initial, list, &mut self.scratch).is_some() {
+            return false;
+        }
+        let parts = parts(inst, initial, list, &mut self.scratch);
+        self.world.stand_at(list, parts, steps);
+        self.guides.renew(&self.world);
+        true
     }
 
     /// Returns to the base.

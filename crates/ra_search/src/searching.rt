@@ -34,11 +34,11 @@ const MADE: usize = 16_384;
 /// The most workers that a search may have.
 const MOST_WORKERS: usize = 16;
 
-/// So many searchers there are at most on few machines, and one for each so many machines at most on many. If there were more,
-/// they would lose more of their moves, and it would take them longer to follow those of the others than they save.
+/// At most so many searchers there are on few machines, and one for each so many machines on many. More would lose more
+/// of their moves, and it would take them longer to follow those of the others than they save.
 const FEW_SEARCHERS: u32 = 4;
 
-const MACHINES_EACH: u32 = 500;
+const MACHINES_EACH: u32 = 1_000;
 
 /// How many tries each searcher makes in the first slice.
 const FIRST_SLICE: u64 = 20_000;
@@ -92,8 +92,6 @@ fn search_counted<R: Threads + Wait + Sync, L: Ledger>(
 {
     let mut steps = Steps::<L>::make(blank);
     let world = world_of(alloc, beginning, &mut steps)?;
-    let last = Kept::make(alloc, &world)?;
-    let concerned = Concerned::make(alloc, beginning.inst)?;
     let searchers = searchers_of(schedule.workers, beginning.inst.machines());
     let mut hunt = hunt_of(alloc, world, schedule, searchers)?;
     let threads = threads_of(rt, searchers as usize);
@@ -107,7 +105,7 @@ fn search_counted<R: Threads + Wait + Sync, L: Ledger>(
     )?;
     run(rt, &desk, &mut hunt);
     drop(desk);
-    Ok(hunt.ended(last, concerned, &mut steps))
+    Ok(hunt.ended(&mut steps))
 }
 
 /// A world that stands where the search begins.
@@ -142,6 +140,8 @@ fn hunt_of<'a>(
 {
     let processes = u64::from(world.instance().processes());
     let best = Kept::make(alloc, &world)?;
+    let last = Kept::make(alloc, &world)?;
+    let concerned = Concerned::make(alloc, world.instance())?;
     let room = if searchers > 0 {
         MADE * MOST_WORKERS
     } else {
@@ -151,6 +151,8 @@ fn hunt_of<'a>(
     Ok(Hunt {
         lead,
         best,
+        last,
+        concerned,
         schedule: *schedule,
         by_process: schedule.tries / 512 >= processes,
         slice: FIRST_SLICE,
@@ -159,7 +161,7 @@ fn hunt_of<'a>(
     })
 }
 
-/// How many searchers so many workers have for their moves to be taken by the lead: none if there's one worker.
+/// How many searchers so many workers have, the lead among them: none besides it if there's one worker.
 fn searchers_of(workers: u32, machines: u32) -> u32 {
     if workers > 1 {
         workers.min((machines / MACHINES_EACH).max(FEW_SEARCHERS))
@@ -183,14 +185,15 @@ fn desk_of<'a, L: Ledger>(
         0
     };
     let mut seats = Vec::with_capacity(alloc, searchers as usize)?;
-    for k in 0..searchers {
+    for k in 1..searchers {
         let world = world_of(alloc, beginning, steps)?;
-        let words = seed.wrapping_add(u64::from(k) + 1);
+        let words = seed.wrapping_add(u64::from(k));
         seats.push(Seat::make(Searcher::make(alloc, world, words, MADE)?))?;
     }
     let order = Order {
         task: Task::Stop,
         taken: Fixed::make(alloc, room)?,
+        list: Fixed::make(alloc, beginning.inst.processes() as usize)?,
     };
     Ok(Desk::make(seats, order, threads))
 }

@@ -1,9 +1,10 @@
 ghost use Rattle.std.specs.Prelude.{◌<◌};
 ghost use Rattle.ra_model.specs.Numbers.{process_count};
 ghost use Rattle.ra_sketch.specs.Leavers.{IsLeaverOf};
-ghost use Rattle.ra_search.specs.Moving.{HasSettled};
+ghost use Rattle.ra_search.specs.Moving.{HasSettled, Reaches};
 
 use crate::concerned::Concerned;
+use crate::orders::Part;
 use crate::searcher::Searcher;
 use ra_base::{Machine, Process, Steps};
 use ra_descent::improve;
@@ -83,6 +84,51 @@ impl<'a> Searcher<'a> {
         guides.sketch.may_shift(leaving, m, way, LOWER)
     }
 
+    /// Moves each process of a part to its cheapest machine, as long as there is room for moves.
+    pub(crate) fn settle_part<L: Ledger>(&mut self, part: &Part, steps: &mut Steps<L>)
+        ensures { Reaches self.old.world self.new.world }
+    {
+        for p in 0..self.guides.inst.processes() {
+            if p as usize % part.parts.max(1) == part.number && !self.is_full() {
+                if let Some(mv) = self.improve(Process(p), steps) {
+                    self.keep_move(&mv, 0);
+                }
+            }
+        }
+    }
+
+    /// Moves a process to its cheapest machine, if that makes the list cheaper, and tells its move.
+    fn improve<L: Ledger>(&mut self, p: Process, steps: &mut Steps<L>) -> Option<Move>
+        requires { p.0 < process_count self.old.world.tables }
+        ensures { HasSettled self.old.world self.new.world }
+    {
+        let from = machine_of(self.world.assignment(), p);
+        if !improve(&mut self.world, p, steps) {
+            return None;
+        }
+        let to = machine_of(self.world.assignment(), p);
+        let mv = Move::shift(Step {
+            process: p,
+            from,
+            to,
+        });
+        self.guides.follow(&self.world, &mv);
+        Some(mv)
+    }
+
+    /// Notes whom a move concerns that was made.
+    pub(crate) fn concern(&self, mv: &Move, concerned: &mut Concerned) {
+        for j in 0..mv.steps() {
+            let step = mv.step(j);
+            concerned.leave(step.from);
+            if step.to.0 < self.guides.inst.machines() {
+                for place in 0..self.guides.residents.count(step.to) {
+                    concerned.wake(self.guides.residents.at(step.to, place));
+                }
+            }
+        }
+    }
+
     /// Moves a process to its cheapest machine, if that makes the list cheaper, and notes whom it concerns.
     fn settle_process<L: Ledger>(
         &mut self,
@@ -93,21 +139,13 @@ impl<'a> Searcher<'a> {
         requires { p.0 < process_count self.old.world.tables }
         ensures { HasSettled self.old.world self.new.world }
     {
-        let from = machine_of(self.world.assignment(), p);
-        if !improve(&mut self.world, p, steps) {
-            return false;
+        match self.improve(p, steps) {
+            Some(mv) => {
+                self.keep_move(&mv, 0);
+                self.concern(&mv, concerned);
+                true
+            }
+            None => false,
         }
-        let to = machine_of(self.world.assignment(), p);
-        let mv = Move::shift(Step {
-            process: p,
-            from,
-            to,
-        });
-        self.guides.follow(&self.world, &mv);
-        concerned.leave(from);
-        for place in 0..self.guides.residents.count(to) {
-            concerned.wake(self.guides.residents.at(to, place));
-        }
-        true
     }
 }

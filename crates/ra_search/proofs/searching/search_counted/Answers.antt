@@ -1,18 +1,12 @@
--- The list that is kept first has its world's instance and start, and so has the list that is found.
-use Rattle.std.proofs.Common.{◌≡◌, ◌≤◌, arith, ap, ◌∙◌, sym, subst, List}
+-- The list that is found has the instance and the start of the world of the search.
+use Rattle.std.proofs.Common.{◌≡◌, ◌≤◌, arith, ap, ◌∙◌, subst, List}
 use Rattle.ra_base.specs.declared.ids.Machine.{Machine}
 use Rattle.ra_model.specs.Costs.{objective}
 use Rattle.ra_model.specs.Situations.{Situation, situation, parts_at}
 use Rattle.ra_search.specs.Found.{IsFound}
-use Rattle.ra_search.specs.Kept.{IsKept}
-use Rattle.ra_search.proofs.FoundLemmas.{kept_to, begins_sound}
+use Rattle.ra_search.proofs.FoundLemmas.{begins_sound}
 use Rattle.ra_weigh.proofs.CostLaws.{total_now}
 use Rattle.ra_search.proofs.searching.search_counted.Goals as goal
-
-pub ended-requires : goal.ended-requires
-ended-requires g c =
-    kept_to c.in_ok-hunt.hunt.lead.world c.run.new.hunt.lead.world c.in_ok-last.last c.run.ensures.reaches
-    (subst (λ (st : Situation). IsKept st c.in_ok-last.last) (sym c.in_ok-hunt.ensures.world) c.in_ok-last.ensures.kept)
 
 pub returns : goal.returns
 returns g c =

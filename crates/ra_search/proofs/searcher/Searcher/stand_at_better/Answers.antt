@@ -18,6 +18,6 @@ returns-then-kept-parts-clause-below g c =
     subst (λ (st : Situation). cost_at st ≤ c.args.kept.now.parts.total) (sym c.stand_at.ensures)
     (omega (arith, kept))
 
-pub returns-else-kept-parts-clause-below : goal.returns-else-kept-parts-clause-below
-returns-else-kept-parts-clause-below g c =
+pub returns-clause-below : goal.returns-clause-below
+returns-clause-below g c =
     omega (arith, total_now c.parts.ensures.sound c.parts.ensures.value, c.if-kept-parts.false)
