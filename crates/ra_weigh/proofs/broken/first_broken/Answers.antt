@@ -1,5 +1,5 @@
+use Rattle.std.proofs.Common.{arith}
 use Rattle.ra_weigh.proofs.broken.first_broken.Goals as goal
 
 pub returns : goal.returns
-returns c = rw (c.of.ensures.instance, c.of.ensures.initial, c.of.ensures.assignment, c.of.ensures.steps) at
-    c.first_broken.ensures
+returns c = grind arith

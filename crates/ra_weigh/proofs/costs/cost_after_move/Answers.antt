@@ -4,25 +4,16 @@ use Rattle.ra_weigh.proofs.CostLaws.{total_few, service_few, cost_is, cost_least
 use Rattle.ra_weigh.proofs.costs.cost_after_move.Goals as goal
 
 pub overflow_add-rows : goal.overflow_add-rows
-overflow_add-rows c =
-    omega (arith, total_few c.parts-parts.ensures.sound c.parts-parts.ensures.value, c.change_at_ends-ends.ensures.added_few)
+overflow_add-rows c = grind (arith, total_few)
 
 pub overflow_add-taken : goal.overflow_add-taken
-overflow_add-taken c =
-    omega (arith, service_few c.parts-parts.ensures.sound c.parts-parts.ensures.value, c.change_at_ends-ends.ensures.taken_few)
+overflow_add-taken c = grind (arith, service_few)
 
 pub overflow_add-taken-2 : goal.overflow_add-taken-2
-overflow_add-taken-2 c =
-    omega (
-      arith,
-      service_few c.parts-parts.ensures.sound c.parts-parts.ensures.value,
-      c.change_at_ends-ends.ensures.taken_few,
-      c.requires.ways.taken_few,
-    )
+overflow_add-taken-2 c = grind (arith, service_few)
 
 pub is_high-requires : goal.is_high-requires
-is_high-requires c =
-    omega (arith, total_few c.parts-parts.ensures.sound c.parts-parts.ensures.value, c.change_at_ends-ends.ensures.added_few)
+is_high-requires c = grind (arith, total_few)
 
 pub returns-then-is_high : goal.returns-then-is_high
 returns-then-is_high c =
@@ -33,22 +24,10 @@ returns-then-is_high c =
     (omega (arith, c.is_high.ensures.0 c.if-is_high.true)))
 
 pub overflow_add-added : goal.overflow_add-added
-overflow_add-added c =
-    omega (
-      arith,
-      total_few c.parts-parts.ensures.sound c.parts-parts.ensures.value,
-      c.change_at_ends-ends.ensures.added_few,
-      c.requires.ways.added_few,
-    )
+overflow_add-added c = grind (arith, total_few)
 
 pub is_high-requires-2 : goal.is_high-requires-2
-is_high-requires-2 c =
-    omega (
-      arith,
-      total_few c.parts-parts.ensures.sound c.parts-parts.ensures.value,
-      c.change_at_ends-ends.ensures.added_few,
-      c.requires.ways.added_few,
-    )
+is_high-requires-2 c = grind (arith, total_few)
 
 pub returns-then-is_high-2 : goal.returns-then-is_high-2
 returns-then-is_high-2 c =
@@ -59,14 +38,7 @@ returns-then-is_high-2 c =
     (omega (arith, c.is_high-2.ensures.0 c.if-is_high-2.true)))
 
 pub overflow_add-cost : goal.overflow_add-cost
-overflow_add-cost c =
-    omega (
-      arith,
-      total_few c.parts-parts.ensures.sound c.parts-parts.ensures.value,
-      c.change_at_ends-ends.ensures.added_few,
-      c.requires.ways.added_few,
-      c.service_after.ensures.few,
-    )
+overflow_add-cost c = grind (arith, total_few)
 
 pub overflow_sub-cost : goal.overflow_sub-cost
 overflow_sub-cost c =

@@ -9,44 +9,22 @@ pub step-step-requires : goal.step-step-requires
 step-step-requires c = omega (arith, (c.is_exchange.ensures c.if-not-is_exchange.false).two)
 
 pub cost_now-requires : goal.cost_now-requires
-cost_now-requires c = record {
-  machine = from_known _ _ _ 0 _ c.requires.moves
-      (omega (arith, (c.is_exchange.ensures c.if-not-is_exchange.false).two))
-      c.step-step.ensures;
-}
+cost_now-requires c = grind (arith, from_known)
 
 pub cost_now-requires-2 : goal.cost_now-requires-2
-cost_now-requires-2 c = record {
-  machine = to_known _ _ _ 0 _ c.requires.moves (omega (arith, (c.is_exchange.ensures c.if-not-is_exchange.false).two))
-      c.step-step.ensures;
-}
+cost_now-requires-2 c = grind (arith, to_known)
 
 pub overflow_add-taken : goal.overflow_add-taken
-overflow_add-taken c =
-    omega (
-      arith,
-      service_few c.parts-parts.ensures.sound c.parts-parts.ensures.value,
-      c.cost_now.ensures.few,
-      c.cost_now-2.ensures.few,
-    )
+overflow_add-taken c = grind (arith, service_few)
 
 pub overflow_add-taken-2 : goal.overflow_add-taken-2
-overflow_add-taken-2 c =
-    omega (
-      arith,
-      service_few c.parts-parts.ensures.sound c.parts-parts.ensures.value,
-      c.cost_now.ensures.few,
-      c.cost_now-2.ensures.few,
-      c.requires.ways.taken_few,
-    )
+overflow_add-taken-2 c = grind (arith, service_few)
 
 pub overflow_add-parts : goal.overflow_add-parts
-overflow_add-parts c =
-    omega (arith, total_few c.parts-parts.ensures.sound c.parts-parts.ensures.value, c.requires.ways.added_few)
+overflow_add-parts c = grind (arith, total_few)
 
 pub is_high-requires : goal.is_high-requires
-is_high-requires c =
-    omega (arith, total_few c.parts-parts.ensures.sound c.parts-parts.ensures.value, c.requires.ways.added_few)
+is_high-requires c = grind (arith, total_few)
 
 pub returns : goal.returns
 returns c = λ dear.

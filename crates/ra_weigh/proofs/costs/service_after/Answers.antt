@@ -3,34 +3,22 @@ use Rattle.ra_weigh.proofs.CostLaws.{counts_of_cells, count_change, count_apart,
 use Rattle.ra_weigh.proofs.costs.service_after.Goals as goal
 
 pub greatest_after-after-requires-clause-first : goal.greatest_after-after-requires-clause-first
-greatest_after-after-requires-clause-first c =
-    count_change _ _ 0 c.cells.ensures.sound.well_formed c.requires
-    (counts_of_cells _ _ c.cells.ensures.stand c.greatest-greatest.ensures)
-    c.counts_of-counts.ensures (omega arith)
+greatest_after-after-requires-clause-first c = grind (arith, count_change, counts_of_cells)
 
 pub greatest_after-after-requires-clause-second : goal.greatest_after-after-requires-clause-second
-greatest_after-after-requires-clause-second c =
-    count_change _ _ 1 c.cells.ensures.sound.well_formed c.requires
-    (counts_of_cells _ _ c.cells.ensures.stand c.greatest-greatest.ensures)
-    c.counts_of-counts.ensures (omega arith)
+greatest_after-after-requires-clause-second c = grind (arith, count_change, counts_of_cells)
 
 pub greatest_after-after-requires-clause-third : goal.greatest_after-after-requires-clause-third
-greatest_after-after-requires-clause-third c =
-    count_change _ _ 2 c.cells.ensures.sound.well_formed c.requires
-    (counts_of_cells _ _ c.cells.ensures.stand c.greatest-greatest.ensures)
-    c.counts_of-counts.ensures (omega arith)
+greatest_after-after-requires-clause-third c = grind (arith, count_change, counts_of_cells)
 
 pub greatest_after-after-requires-clause-first_second : goal.greatest_after-after-requires-clause-first_second
-greatest_after-after-requires-clause-first_second c =
-    count_apart _ 0 1 c.counts_of-counts.ensures (omega arith) (omega arith)
+greatest_after-after-requires-clause-first_second c = grind (arith, count_apart)
 
 pub greatest_after-after-requires-clause-first_third : goal.greatest_after-after-requires-clause-first_third
-greatest_after-after-requires-clause-first_third c =
-    count_apart _ 0 2 c.counts_of-counts.ensures (omega arith) (omega arith)
+greatest_after-after-requires-clause-first_third c = grind (arith, count_apart)
 
 pub greatest_after-after-requires-clause-second_third : goal.greatest_after-after-requires-clause-second_third
-greatest_after-after-requires-clause-second_third c =
-    count_apart _ 1 2 c.counts_of-counts.ensures (omega arith) (omega arith)
+greatest_after-after-requires-clause-second_third c = grind (arith, count_apart)
 
 pub returns-clause-value : goal.returns-clause-value
 returns-clause-value c =

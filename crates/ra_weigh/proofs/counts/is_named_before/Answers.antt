@@ -11,16 +11,10 @@ pub service_in-requires-clause-step : goal.service_in-requires-clause-step
 service_in-requires-clause-step c = omega (arith, c.requires.step, c.loop-k-test.true)
 
 pub returns-then-service_in-s : goal.returns-then-service_in-s
-returns-then-service_in-s c =
-    sym (is_named_found c.loop-k.k c.args.j _ c.args.s.0
-    c.loop-k-test.true c.loop-k.invariant (sym c.service_in.ensures.value ∙ c.if-service_in-s.true))
+returns-then-service_in-s c = grind (arith, is_named_found)
 
 pub loop-k-preserved : goal.loop-k-preserved
-loop-k-preserved c =
-    unnamed_more c.loop-k.k _
-    c.args.s.0 c.loop-k.invariant c.service_in.ensures.value c.if-service_in-s.false
+loop-k-preserved c = grind (arith, unnamed_more)
 
 pub returns : goal.returns
-returns c =
-    let all : c.loop-k.k ≡ c.args.j = omega (arith, c.loop-k-test.false, c.loop-k.auto.k-end) in
-    sym (rw all at c.loop-k.invariant)
+returns c = grind arith

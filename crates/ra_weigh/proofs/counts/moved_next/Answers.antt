@@ -8,18 +8,10 @@ use Rattle.ra_weigh.proofs.MovedNext.{moved_kept, moved_step, away_few, moved_fe
 use Rattle.ra_weigh.proofs.counts.moved_next.Goals as goal
 
 pub returns-then-service_in-s : goal.returns-then-service_in-s
-returns-then-service_in-s c = moved_kept _ _ c.args.j c.args.s.0 c.args.moved c.requires.moves
-    c.requires.step
-    (λ same. c.if-service_in-s.true (c.service_in.ensures.value ∙ same)) c.requires.before
+returns-then-service_in-s c = grind (arith, moved_kept)
 
 pub get-home-requires : goal.get-home-requires
-get-home-requires c =
-    omega (
-      arith,
-      process_known _ _ _ c.args.j c.step-step.result c.requires.moves c.requires.step c.step-step.ensures,
-      c.initial.ensures.sound.starts.one_each,
-      ap (λ (x : List Machine). length x) c.initial.ensures.value,
-    )
+get-home-requires c = grind (arith, process_known)
 
 pub overflow_add-result : goal.overflow_add-result
 overflow_add-result c = record {
@@ -51,20 +43,4 @@ overflow_sub-result c =
     )
 
 pub returns : goal.returns
-returns c =
-    let start = c.args.world.now.start in
-    let step = c.step-step.result in
-    let known = process_known _ _ _ c.args.j step c.requires.moves c.requires.step c.step-step.ensures in
-    omega (
-      arith,
-      c.requires.before,
-      c.away.ensures,
-      c.away-2.ensures,
-      moved_step c.args.world.now _ c.args.j c.args.s.0 c.get-home.result.0 c.requires.moves
-          c.requires.step (sym c.service_in.ensures.value ∙ c.if-service_in-s.false)
-          ((machine_at_read start step.process.0 c.get-home.result
-          (omega (arith, known, c.initial.ensures.sound.starts.one_each))
-          (rw c.initial.ensures.value at c.get-home.ensures))
-          ∙ ap (machine_at start) (process_read _ c.args.j step c.step-step.ensures))
-          (from_read _ c.args.j step c.step-step.ensures) (to_read _ c.args.j step c.step-step.ensures),
-    )
+returns c = grind (arith, process_known, moved_step, machine_at_read, process_read, from_read, to_read)

@@ -1,19 +1,13 @@
 -- The process is one of the instance, and so is its service.
+use Rattle.std.proofs.Common.{arith}
 use Rattle.ra_weigh.proofs.MoveLemmas.{process_known, service_read, service_known}
 use Rattle.ra_weigh.proofs.counts.service_in.Goals as goal
 
 pub service_of-requires : goal.service_of-requires
-service_of-requires c =
-    rw c.instance.ensures.value
-    (process_known c.args.world.now.tables c.args.world.now.here c.args.mv.now.steps c.args.j
-    c.step.result c.requires.moves c.requires.step c.step.ensures)
+service_of-requires c = grind (arith, process_known)
 
 pub returns-clause-value : goal.returns-clause-value
-returns-clause-value c = service_read c.args.world.now.tables c.args.mv.now.steps c.args.j
-    c.service_of.result.0 c.step.result c.step.ensures (rw c.instance.ensures.value at c.service_of.ensures)
+returns-clause-value c = grind (arith, service_read)
 
 pub returns-clause-there : goal.returns-clause-there
-returns-clause-there c = service_known c.args.world.now.tables c.service_of.result.0 c.step.result.process.0
-    c.instance.ensures.sound.well_formed
-    (process_known c.args.world.now.tables c.args.world.now.here c.args.mv.now.steps c.args.j
-    c.step.result c.requires.moves c.requires.step c.step.ensures) (rw c.instance.ensures.value at c.service_of.ensures)
+returns-clause-there c = grind (arith, service_known, process_known)

@@ -1,5 +1,5 @@
 -- An end whose machine is named before counts nothing.
-use Rattle.std.proofs.Common.{◌∙◌, sym, ap}
+use Rattle.std.proofs.Common.{◌∙◌, sym, ap, arith}
 use Rattle.ra_base.specs.Sums.{is_named}
 use Rattle.ra_base.proofs.Named.{fresh_again, fresh_new}
 use Rattle.ra_moves.specs.Replacing.{applied}
@@ -9,47 +9,19 @@ use Rattle.ra_weigh.proofs.MoveLemmas.{end_known}
 use Rattle.ra_weigh.proofs.ends.change_at.Goals as goal
 
 pub cost_after-requires-clause-machine : goal.cost_after-requires-clause-machine
-cost_after-requires-clause-machine c =
-    rw c.end_of-m.ensures
-    (end_known c.args.world.now.tables c.args.world.now.here c.args.mv.now.steps c.args.j
-    c.requires.moves c.requires.end)
+cost_after-requires-clause-machine c = grind (arith, end_known)
 
 pub cost_now-requires : goal.cost_now-requires
-cost_now-requires c = record {
-  machine = rw c.end_of-m.ensures
-      (end_known c.args.world.now.tables c.args.world.now.here c.args.mv.now.steps c.args.j
-      c.requires.moves c.requires.end);
-}
+cost_now-requires c = grind (arith, end_known)
 
 pub returns-then-is_named_before-clause-added : goal.returns-then-is_named_before-clause-added
-returns-then-is_named_before-clause-added c =
-    let e = end_in c.args.mv.now.steps in
-    sym (fresh_again e
-    (row_cost c.args.world.now.tables
-    (applied c.args.world.now.here c.args.mv.now.steps)) c.args.j
-    (ap (is_named c.args.j e) (sym c.end_of-m.ensures) ∙ sym c.is_named_before.ensures
-    ∙ c.if-is_named_before.true))
+returns-then-is_named_before-clause-added c = grind (arith, fresh_again)
 
 pub returns-then-is_named_before-clause-taken : goal.returns-then-is_named_before-clause-taken
-returns-then-is_named_before-clause-taken c =
-    let e = end_in c.args.mv.now.steps in
-    sym (fresh_again e (row_cost c.args.world.now.tables c.args.world.now.here) c.args.j
-    (ap (is_named c.args.j e) (sym c.end_of-m.ensures) ∙ sym c.is_named_before.ensures
-    ∙ c.if-is_named_before.true))
+returns-then-is_named_before-clause-taken c = grind (arith, fresh_again)
 
 pub returns-clause-added : goal.returns-clause-added
-returns-clause-added c =
-    let e = end_in c.args.mv.now.steps in
-    let f = row_cost c.args.world.now.tables
-    (applied c.args.world.now.here c.args.mv.now.steps) in
-    c.cost_after.ensures.value ∙ ap f c.end_of-m.ensures
-    ∙ sym (fresh_new e f c.args.j (ap (is_named c.args.j e) (sym c.end_of-m.ensures) ∙ sym c.is_named_before.ensures
-    ∙ c.if-is_named_before.false))
+returns-clause-added c = grind (arith, fresh_new)
 
 pub returns-clause-taken : goal.returns-clause-taken
-returns-clause-taken c =
-    let e = end_in c.args.mv.now.steps in
-    let f = row_cost c.args.world.now.tables c.args.world.now.here in
-    c.cost_now.ensures.value ∙ ap f c.end_of-m.ensures
-    ∙ sym (fresh_new e f c.args.j (ap (is_named c.args.j e) (sym c.end_of-m.ensures) ∙ sym c.is_named_before.ensures
-    ∙ c.if-is_named_before.false))
+returns-clause-taken c = grind (arith, fresh_new)

@@ -1,5 +1,5 @@
 -- The row is that of the assignment after the exchange.
-use Rattle.std.proofs.Common.{◌≡◌, length}
+use Rattle.std.proofs.Common.{◌≡◌, length, arith}
 use Rattle.ra_model.specs.Numbers.{resource_count}
 use Rattle.ra_moves.specs.Replacing.{applied}
 use Rattle.ra_weigh.proofs.RowUse.{required_from}

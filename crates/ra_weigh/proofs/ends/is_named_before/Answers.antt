@@ -11,15 +11,10 @@ pub end_of-requires : goal.end_of-requires
 end_of-requires c = omega (arith, c.requires, c.loop-k-test.true)
 
 pub returns-then-end_of-m : goal.returns-then-end_of-m
-returns-then-end_of-m c =
-    sym (is_named_found c.loop-k.k c.args.j _ c.args.m.0 c.loop-k-test.true
-    c.loop-k.invariant (sym c.end_of.ensures ∙ c.if-end_of-m.true))
+returns-then-end_of-m c = grind (arith, is_named_found)
 
 pub loop-k-preserved : goal.loop-k-preserved
-loop-k-preserved c = unnamed_more c.loop-k.k _ c.args.m.0
-    c.loop-k.invariant c.end_of.ensures c.if-end_of-m.false
+loop-k-preserved c = grind (arith, unnamed_more)
 
 pub returns : goal.returns
-returns c =
-    let all : c.loop-k.k ≡ c.args.j = omega (arith, c.loop-k-test.false, c.loop-k.auto.k-end) in
-    sym (rw all at c.loop-k.invariant)
+returns c = grind arith

@@ -9,14 +9,7 @@ unfolding after_steps
 loop-j-init c = record { width = c.requires.width; now = c.requires.before }
 
 pub follow_step-requires-clause-able : goal.follow_step-requires-clause-able
-follow_step-requires-clause-able c =
-    let i = c.args.world.now in
-    let within : c.loop-j.j < length c.args.mv.now.steps = omega arith in
-    can_follow i.tables _ _ c.loop-j.j _ _ _ _ c.instance.ensures.sound.well_formed c.instance.ensures.sound.small
-    c.requires.moves within c.step.ensures
-    (required_from i.tables _ _ _ c.requires.required within
-    (rw c.instance.ensures.value at c.resources-width.ensures)
-    c.required_row.ensures.each) c.loop-j.invariant.width c.loop-j.invariant.now
+follow_step-requires-clause-able c = grind (arith, can_follow, required_from)
 
 pub loop-j-preserved : goal.loop-j-preserved
 loop-j-preserved c =
@@ -31,6 +24,4 @@ loop-j-preserved c =
     }
 
 pub returns-clause-after : goal.returns-clause-after
-returns-clause-after c =
-    let all : c.loop-j.j ≡ length c.args.mv.now.steps = omega arith in
-    rw (applied_all c.args.world.now.here c.args.mv.now.steps c.loop-j.j all) at c.loop-j.invariant.now
+returns-clause-after c = grind (arith, applied_all)

@@ -5,19 +5,10 @@ use Rattle.ra_weigh.proofs.ChangeLaws.{place_gone}
 use Rattle.ra_weigh.proofs.ways.cost_left.Goals as goal
 
 pub place_cost-cost-requires-clause-process : goal.place_cost-cost-requires-clause-process
-place_cost-cost-requires-clause-process c =
-    process_known _ _ _ c.loop-j.j _ c.requires (omega arith) c.step-step.ensures
+place_cost-cost-requires-clause-process c = grind (arith, process_known)
 
 pub place_cost-cost-requires-clause-machine : goal.place_cost-cost-requires-clause-machine
-place_cost-cost-requires-clause-machine c =
-    from_known _ _ _ c.loop-j.j _ c.requires (omega arith) c.step-step.ensures
+place_cost-cost-requires-clause-machine c = grind (arith, from_known)
 
 pub loop-j-preserved : goal.loop-j-preserved
-loop-j-preserved c =
-    let step = c.step-step.result in
-    record {
-      value = place_gone _ _ _ c.loop-j.j _ _ _ c.loop-j.invariant.value
-          c.place_cost-cost.ensures.value
-          (process_read _ _ step c.step-step.ensures) (from_read _ _ step c.step-step.ensures);
-      few = omega (arith, c.loop-j.invariant.few, c.place_cost-cost.ensures.few);
-    }
+loop-j-preserved c = grind (arith, place_gone, process_read, from_read)

@@ -14,11 +14,7 @@ loop-low-init c =
 
 pub returns-in-Some : goal.returns-in-Some
 unfolding broken_capacity
-returns-in-Some c =
-    let t = c.args.self.now in
-    sought_found _ _ c.loop-low.low
-    c.in-Some.cause c.loop-low.invariant (omega (arith, c.loop-low-test.true, c.machines.ensures))
-    (sym c.in-Some.ensures)
+returns-in-Some c = grind (arith, sought_found)
 
 pub loop-low-preserved : goal.loop-low-preserved
 loop-low-preserved c =
@@ -30,7 +26,4 @@ loop-low-preserved c =
 
 pub returns : goal.returns
 unfolding broken_capacity
-returns c =
-    let t = c.args.self.now in
-    sought_all _ _ c.loop-low.low
-    c.loop-low.invariant (omega (arith, c.loop-low-test.false, c.machines.ensures))
+returns c = grind (arith, sought_all)

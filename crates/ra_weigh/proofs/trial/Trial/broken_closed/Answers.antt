@@ -5,23 +5,15 @@ use Rattle.ra_weigh.proofs.SeekLemmas.{sought_start, sought_on, sought_found, so
 use Rattle.ra_weigh.proofs.trial.Trial.broken_closed.Goals as goal
 
 pub loop-low-init : goal.loop-low-init
-loop-low-init c = sought_start c.args.self.now.local.closed c.next_process-low.ensures.within
-    c.next_process-low.ensures.clear
+loop-low-init c = grind (arith, sought_start)
 
 pub returns-in-Some : goal.returns-in-Some
 unfolding broken_closed
-returns-in-Some c = sought_found _
-    _ c.loop-low.low
-    c.in-Some.cause c.loop-low.invariant (omega (arith, c.loop-low-test.true, c.processes.ensures))
-    (sym c.in-Some.ensures)
+returns-in-Some c = grind (arith, sought_found)
 
 pub loop-low-preserved : goal.loop-low-preserved
-loop-low-preserved c = sought_on c.args.self.now.local.closed c.loop-low.invariant (sym c.in_default.ensures)
-    c.next_process-low-in-loop-low.ensures.from c.next_process-low-in-loop-low.ensures.within
-    c.next_process-low-in-loop-low.ensures.clear
+loop-low-preserved c = grind (arith, sought_on)
 
 pub returns : goal.returns
 unfolding broken_closed
-returns c = sought_all _
-    _ c.loop-low.low
-    c.loop-low.invariant (omega (arith, c.loop-low-test.false, c.processes.ensures))
+returns c = grind (arith, sought_all)

@@ -1,4 +1,5 @@
 -- The counters tell each mark's count.
+use Rattle.std.proofs.Common.{arith}
 use Rattle.ra_weigh.specs.Trials.{tables_of, initial_of, before_of}
 use Rattle.ra_weigh.proofs.TestLemmas.{machine_marked, location_marked, neighbourhood_marked}
 use Rattle.ra_weigh.proofs.trial.Trial.count_before.Goals as goal

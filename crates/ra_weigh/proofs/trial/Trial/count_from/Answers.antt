@@ -8,20 +8,16 @@ use Rattle.ra_weigh.proofs.FlowLemmas.{flows_none, flows_more, flowed_enough, fl
 use Rattle.ra_weigh.proofs.trial.Trial.count_from.Goals as goal
 
 pub one_at-came-requires-clause-process : goal.one_at-came-requires-clause-process
-one_at-came-requires-clause-process c = step_process c.args.self.now.moves c.step-step.ensures
-    (omega (arith, c.loop-j-test.true, c.steps-j-end.ensures.value))
+one_at-came-requires-clause-process c = grind (arith, step_process)
 
 pub one_at-came-requires-clause-machine : goal.one_at-came-requires-clause-machine
-one_at-came-requires-clause-machine c = step_to c.args.self.now.moves c.step-step.ensures
-    (omega (arith, c.loop-j-test.true, c.steps-j-end.ensures.value))
+one_at-came-requires-clause-machine c = grind (arith, step_to)
 
 pub one_at-went-requires-clause-process : goal.one_at-went-requires-clause-process
-one_at-went-requires-clause-process c = step_process c.args.self.now.moves c.step-step.ensures
-    (omega (arith, c.loop-j-test.true, c.steps-j-end.ensures.value))
+one_at-went-requires-clause-process c = grind (arith, step_process)
 
 pub one_at-went-requires-clause-machine : goal.one_at-went-requires-clause-machine
-one_at-went-requires-clause-machine c = step_from c.args.self.now.moves c.step-step.ensures
-    (omega (arith, c.loop-j-test.true, c.steps-j-end.ensures.value))
+one_at-went-requires-clause-machine c = grind (arith, step_from)
 
 pub loop-j-init : goal.loop-j-init
 loop-j-init c =
@@ -36,11 +32,7 @@ loop-j-preserved c =
 
 pub overflow_sub-result : goal.overflow_sub-result
 unfolding marked members_at
-overflow_sub-result c =
-    let all : c.loop-j.j ≡ length (steps_of c.args.self.now) =
-    omega (arith, c.loop-j-test.false, c.steps-j-end.ensures.value) in
-    flowed_enough _ c.args.self.now.moves all c.loop-j.invariant
-    c.requires.kept
+overflow_sub-result c = grind (arith, flowed_enough)
 
 pub returns : goal.returns
 unfolding marked members_at

@@ -1,5 +1,5 @@
 -- Just the one process is there, or as many as the test counts.
-use Rattle.std.proofs.Common.{ap₂, sym, ◌∙◌}
+use Rattle.std.proofs.Common.{ap₂, sym, ◌∙◌, arith}
 use Rattle.ra_model.specs.Broken.{conflict_test}
 use Rattle.ra_weigh.specs.Trials.{tables_of, initial_of, steps_of, before_of, after_of}
 use Rattle.ra_weigh.proofs.StepLemmas.{step_process, to_read, service_read, service_there}
@@ -7,19 +7,10 @@ use Rattle.ra_weigh.proofs.HoldLemmas.{conflict_alone, told_true, told_if_none}
 use Rattle.ra_weigh.proofs.trial.Trial.enters_apart.Goals as goal
 
 pub service_of-s-requires : goal.service_of-s-requires
-service_of-s-requires c =
-    let t = c.args.self.now in
-    step_process t.moves c.step-step.ensures
-    c.requires
+service_of-s-requires c = grind (arith, step_process)
 
 pub on_machine-requires : goal.on_machine-requires
-on_machine-requires c =
-    let t = c.args.self.now in
-    rw t.cells_tables (service_there
-    t.inst.now.well_formed
-    (step_process t.moves c.step-step.ensures
-    c.requires)
-    c.service_of-s.ensures)
+on_machine-requires c = grind (arith, service_there, step_process)
 
 pub returns-then-moves_alone : goal.returns-then-moves_alone
 returns-then-moves_alone c =
@@ -35,13 +26,7 @@ returns-then-moves_alone c =
     (c.on_machine.ensures.count (tables_of t) (initial_of t) (before_of t) t.cells_stand) c.if-on_machine-eq0.true)
 
 pub conflict_test-requires : goal.conflict_test-requires
-conflict_test-requires c =
-    let t = c.args.self.now in
-    record {
-      service = service_there t.inst.now.well_formed
-          (step_process t.moves c.step-step.ensures
-          c.requires) c.service_of-s.ensures;
-    }
+conflict_test-requires c = grind (arith, service_there, step_process)
 
 pub returns : goal.returns
 returns c =

@@ -19,31 +19,15 @@ returns-then-dependants-eq0-clause-leaves c =
     (neighbourhood_of (tables_of t) c.args.from.0) c.dependants-dependants.result.now)
 
 pub returns-then-left-gt0-clause-leaves : goal.returns-then-left-gt0-clause-leaves
-returns-then-left-gt0-clause-leaves c =
-    let t = c.args.self.now in
-    rw (← c.neighbourhood-label.ensures)
-    (some_left _ _ c.args.s.0 c.neighbourhood-label.result c.count_after-left.result c.args.next
-    c.count_after-left.ensures c.if-left-gt0.true)
+returns-then-left-gt0-clause-leaves c = grind (arith, some_left)
 
 pub returns-then-next-u-clause-leaves : goal.returns-then-next-u-clause-leaves
 unfolding service_at
-returns-then-next-u-clause-leaves c =
-    let t = c.args.self.now in
-    let list = c.dependants-dependants.result.now in
-    rw (← c.neighbourhood-label.ensures)
-    (none_before _ _ c.args.s.0 c.neighbourhood-label.result c.args.next
-    (listed _ t.topo.now c.args.s.0 t.topology c.requires.service c.dependants-dependants.ensures)
-    c.requires.within c.loop-k-test.true c.if-next-u.true c.loop-k.invariant)
+returns-then-next-u-clause-leaves c = grind (arith, none_before, listed)
 
 pub returns-then-near-gt0-clause-leaves : goal.returns-then-near-gt0-clause-leaves
 unfolding service_at
-returns-then-near-gt0-clause-leaves c =
-    let t = c.args.self.now in
-    let u : Service = (get_or c.dependants-dependants.result.now c.loop-k.k (record { 0 = 0 })) in
-    rw (← c.neighbourhood-label.ensures)
-    (none_before _ _ c.args.s.0 c.neighbourhood-label.result u.0
-    (listed _ t.topo.now c.args.s.0 t.topology c.requires.service c.dependants-dependants.ensures)
-    (omega (arith, c.if-next-u.false, c.requires.within)) c.loop-k-test.true (omega arith) c.loop-k.invariant)
+returns-then-near-gt0-clause-leaves c = grind (arith, none_before, listed)
 
 pub returns-then-near-gt0-clause-far : goal.returns-then-near-gt0-clause-far
 unfolding service_at
@@ -58,16 +42,7 @@ returns-then-near-gt0-clause-far c = λ nearer.
 
 pub loop-k-preserved : goal.loop-k-preserved
 unfolding service_at
-loop-k-preserved c =
-    let t = c.args.self.now in
-    let u : Service = (get_or c.dependants-dependants.result.now c.loop-k.k (record { 0 = 0 })) in
-    near_next _ _ c.neighbourhood-label.result c.dependants-dependants.result.now u.0 c.loop-k.invariant refl c.count_after-near.ensures c.if-near-gt0.false
+loop-k-preserved c = grind (arith, near_next)
 
 pub returns-clause-leaves : goal.returns-clause-leaves
-returns-clause-leaves c =
-    let t = c.args.self.now in
-    let list = c.dependants-dependants.result.now in
-    rw (← c.neighbourhood-label.ensures)
-    (none_there _ _ c.args.s.0 c.neighbourhood-label.result c.args.next
-    (listed _ t.topo.now c.args.s.0 t.topology c.requires.service c.dependants-dependants.ensures)
-    c.requires.within (omega (arith, c.loop-k-test.false, c.loop-k.auto.k-end)) c.loop-k.invariant)
+returns-clause-leaves c = grind (arith, none_there, listed)

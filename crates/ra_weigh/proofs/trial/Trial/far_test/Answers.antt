@@ -5,17 +5,10 @@ use Rattle.ra_weigh.proofs.TestLemmas.{far_some, far_none}
 use Rattle.ra_weigh.proofs.trial.Trial.far_test.Goals as goal
 
 pub count_after-requires : goal.count_after-requires
-count_after-requires c = need_there
-    c.args.self.now.inst.now.well_formed c.requires.service c.requires.dependency c.requires.need
+count_after-requires c = grind (arith, need_there)
 
 pub returns-then-count_after-eq0 : goal.returns-then-count_after-eq0
-returns-then-count_after-eq0 c = far_some _ _ c.args.s.0 c.args.k
-    c.args.p.0
-    c.machine_after.ensures.machine c.neighbourhood-neighbourhood.ensures c.requires.need c.count_after.ensures
-    c.if-count_after-eq0.true
+returns-then-count_after-eq0 c = grind (arith, far_some)
 
 pub returns-else-count_after-eq0 : goal.returns-else-count_after-eq0
-returns-else-count_after-eq0 c = far_none _ _ c.args.s.0 c.args.k
-    c.args.p.0
-    c.machine_after.ensures.machine c.neighbourhood-neighbourhood.ensures c.requires.need c.count_after.ensures
-    (omega (arith, c.if-count_after-eq0.false))
+returns-else-count_after-eq0 c = grind (arith, far_none)

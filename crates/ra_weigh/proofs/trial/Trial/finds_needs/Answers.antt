@@ -10,44 +10,19 @@ use Rattle.ra_weigh.proofs.NearLemmas.{distinct_listed, listed_there, needs_star
 use Rattle.ra_weigh.proofs.trial.Trial.finds_needs.Goals as goal
 
 pub loop-k-init : goal.loop-k-init
-loop-k-init c = needs_start _ _ c.distinct_needs-needs.result.now
-    c.neighbourhood-label.result
+loop-k-init c = grind (arith, needs_start)
 
 pub count_after-near-requires : goal.count_after-near-requires
 unfolding service_at
-count_after-near-requires c =
-    let list = c.distinct_needs-needs.result.now in
-    let need : Service = (get_or list c.loop-k.k (record { 0 = 0 })) in
-    listed_there _ c.args.s.0 c.loop-k.k need.0 list c.args.self.now.inst.now.well_formed
-    (distinct_listed _ c.args.self.now.topo.now c.args.s.0 c.args.self.now.topology
-    c.requires.service c.distinct_needs-needs.ensures) c.requires.service c.loop-k-test.true refl
+count_after-near-requires c = grind (arith, listed_there, distinct_listed)
 
 pub returns-then-near-eq0 : goal.returns-then-near-eq0
 unfolding service_at
-returns-then-near-eq0 c =
-    let list = c.distinct_needs-needs.result.now in
-    let need : Service = (get_or list c.loop-k.k (record { 0 = 0 })) in
-    told_false (λ (finds : FindsNeeds (tables_of c.args.self.now) (after_of c.args.self.now) c.args.s.0
-    (neighbourhood_of (tables_of c.args.self.now) c.args.to.0)).
-    need_missing _ _ c.args.s.0 c.neighbourhood-label.result
-    c.loop-k.k list need.0 c.count_after-near.result
-    (distinct_listed _ c.args.self.now.topo.now c.args.s.0 c.args.self.now.topology
-    c.requires.service c.distinct_needs-needs.ensures) c.loop-k-test.true refl c.count_after-near.ensures
-    c.if-near-eq0.true (rw (← c.neighbourhood-label.ensures) at finds))
+returns-then-near-eq0 c = told_false (λ finds. grind (arith, need_missing, distinct_listed))
 
 pub loop-k-preserved : goal.loop-k-preserved
 unfolding service_at
-loop-k-preserved c =
-    let list = c.distinct_needs-needs.result.now in
-    let need : Service = (get_or list c.loop-k.k (record { 0 = 0 })) in
-    need_next _ _ list c.neighbourhood-label.result c.loop-k.k need.0
-    c.count_after-near.result c.loop-k.invariant refl c.count_after-near.ensures c.if-near-eq0.false
+loop-k-preserved c = grind (arith, need_next)
 
 pub returns : goal.returns
-returns c =
-    told_true (rw (← c.neighbourhood-label.ensures)
-    (needs_all _ _ c.args.s.0 c.neighbourhood-label.result
-    c.distinct_needs-needs.result.now c.loop-k.k
-    (distinct_listed _ c.args.self.now.topo.now c.args.s.0
-    c.args.self.now.topology c.requires.service c.distinct_needs-needs.ensures)
-    (omega (arith, c.loop-k-test.false, c.loop-k.auto.k-end)) c.loop-k.invariant))
+returns c = told_true (grind (arith, needs_all, distinct_listed))

@@ -48,8 +48,4 @@ loop-j-preserved c =
     }
 
 pub returns-clause-before : goal.returns-clause-before
-returns-clause-before c =
-    let t = c.args.self.now in
-    let all : c.loop-j.j ≡ length (steps_of t) = omega (arith, c.loop-j-test.false, c.steps-j-end.ensures.value) in
-    none_far _ c.loop-j.j c.loop-j.next t.moves t.fine all
-    c.loop-j.invariant.within c.loop-j.invariant.spare
+returns-clause-before c = grind (arith, none_far)

@@ -9,32 +9,18 @@ use Rattle.ra_weigh.proofs.FitLemmas.{below_start, below_more, at_from_below}
 use Rattle.ra_weigh.proofs.trial.Trial.fits_by_flows.Goals as goal
 
 pub fits_flowing-requires : goal.fits_flowing-requires
-fits_flowing-requires c = record {
-  machine = c.requires.machine;
-  resource = omega (arith, c.loop-r-test.true, c.resources-r-end.ensures);
-  flow = c.requires.flow;
-  between = c.requires.between;
-}
+fits_flowing-requires c = grind arith
 
 pub loop-r-init : goal.loop-r-init
 loop-r-init c =
     below_start _ _ _ c.args.m.0
 
 pub returns-then-not-fits_flowing : goal.returns-then-not-fits_flowing
-returns-then-not-fits_flowing c =
-    told_false (λ (all : FitsBelow (tables_of c.args.self.now) (initial_of c.args.self.now) (after_of c.args.self.now)
-    c.args.m.0 (resource_count (tables_of c.args.self.now))).
-    both_ways c.fits_flowing.result c.if-not-fits_flowing.true
-    (c.fits_flowing.ensures.1
-    (at_from_below _ _ _
-    c.args.m.0 c.loop-r.r _ (omega (arith, c.loop-r-test.true, c.resources-r-end.ensures)) all)))
+returns-then-not-fits_flowing c = told_false (λ all. grind (arith, at_from_below))
 
 pub loop-r-preserved : goal.loop-r-preserved
 loop-r-preserved c = below_more _ _ _
     c.args.m.0 c.loop-r.r c.loop-r.invariant (c.fits_flowing.ensures.0 c.if-not-fits_flowing.false)
 
 pub returns : goal.returns
-returns c =
-    let all : c.loop-r.r ≡ resource_count (tables_of c.args.self.now) =
-    omega (arith, c.loop-r-test.false, c.loop-r.auto.r-end, c.resources-r-end.ensures) in
-    told_true (rw all at c.loop-r.invariant)
+returns c = told_true (grind arith)

@@ -10,41 +10,18 @@ use Rattle.ra_weigh.proofs.CauseRowLemmas.{used_here, between_here}
 use Rattle.ra_weigh.proofs.trial.Trial.fits_by_steps.Goals as goal
 
 pub fits_at-requires : goal.fits_at-requires
-fits_at-requires c =
-    let t = c.args.self.now in
-    let within : c.loop-r.r < resource_count (tables_of t) =
-    omega (arith, c.loop-r-test.true, c.resources-r-end.ensures) in
-    record {
-      machine = c.requires;
-      resource = within;
-      used = used_here c.loop-r.r
-          t.rows_tables (c.usage_row-used.ensures.values _ t.rows_stand) within;
-      used_below = c.usage_row-used.ensures.below.each c.loop-r.r;
-      between = between_here
-          c.loop-r.r t.rows_tables t.rows_start
-          (c.transient_row-between.ensures.values _ t.rows_stand) within;
-      between_below = c.transient_row-between.ensures.below.each c.loop-r.r;
-    }
+fits_at-requires c = grind (arith, used_here, between_here)
 
 pub loop-r-init : goal.loop-r-init
 loop-r-init c =
     below_start _ _ _ c.args.m.0
 
 pub returns-then-not-fits_at : goal.returns-then-not-fits_at
-returns-then-not-fits_at c =
-    told_false (λ (all : FitsBelow (tables_of c.args.self.now) (initial_of c.args.self.now) (after_of c.args.self.now)
-    c.args.m.0 (resource_count (tables_of c.args.self.now))).
-    both_ways c.fits_at.result c.if-not-fits_at.true
-    (c.fits_at.ensures.1
-    (at_from_below _ _ _
-    c.args.m.0 c.loop-r.r _ (omega (arith, c.loop-r-test.true, c.resources-r-end.ensures)) all)))
+returns-then-not-fits_at c = told_false (λ all. grind (arith, at_from_below))
 
 pub loop-r-preserved : goal.loop-r-preserved
 loop-r-preserved c = below_more _ _ _
     c.args.m.0 c.loop-r.r c.loop-r.invariant (c.fits_at.ensures.0 c.if-not-fits_at.false)
 
 pub returns : goal.returns
-returns c =
-    let all : c.loop-r.r ≡ resource_count (tables_of c.args.self.now) =
-    omega (arith, c.loop-r-test.false, c.loop-r.auto.r-end, c.resources-r-end.ensures) in
-    told_true (rw all at c.loop-r.invariant)
+returns c = told_true (grind arith)

@@ -22,7 +22,4 @@ loop-j-preserved c = flow_more _ _
     c.step-step.result _ c.step-step.ensures (c.required_row-amounts.ensures.each r within))
 
 pub returns : goal.returns
-returns c =
-    let all : c.loop-j.j ≡ length (steps_of c.args.self.now) =
-    omega (arith, c.loop-j-test.false, c.steps-j-end.ensures.value) in
-    rw all at c.loop-j.invariant
+returns c = grind arith

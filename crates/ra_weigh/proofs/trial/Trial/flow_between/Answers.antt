@@ -10,8 +10,7 @@ loop-j-init c = flow_none _ _
     _ c.no_side-come.result.amounts.now c.no_side-come.ensures.width
 
 pub home-home-requires : goal.home-home-requires
-home-home-requires c = step_process c.args.self.now.moves c.step-step.ensures
-    (omega (arith, c.loop-j-test.true, c.steps-j-end.ensures.value))
+home-home-requires c = grind (arith, step_process)
 
 pub with-came-requires : goal.with-came-requires
 with-came-requires c = c.required_row-amounts.ensures.width ∙ sym c.loop-j.invariant.come_width
@@ -29,7 +28,4 @@ loop-j-preserved c = flow_more _ _
     c.is_guest-goes.ensures.home c.is_guest-goes.ensures.guest)
 
 pub returns : goal.returns
-returns c =
-    let all : c.loop-j.j ≡ length (steps_of c.args.self.now) =
-    omega (arith, c.loop-j-test.false, c.steps-j-end.ensures.value) in
-    rw all at c.loop-j.invariant
+returns c = grind arith

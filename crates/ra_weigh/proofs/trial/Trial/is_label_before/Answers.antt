@@ -11,16 +11,10 @@ pub end_label-requires : goal.end_label-requires
 end_label-requires c = omega (arith, c.requires, c.loop-j-test.true)
 
 pub returns-then-end_label-label : goal.returns-then-end_label-label
-returns-then-end_label-label c =
-    sym (is_named_found c.loop-j.j c.args.end _
-    c.args.label c.loop-j-test.true c.loop-j.invariant (sym c.end_label.ensures ∙ c.if-end_label-label.true))
+returns-then-end_label-label c = grind (arith, is_named_found)
 
 pub loop-j-preserved : goal.loop-j-preserved
-loop-j-preserved c =
-    unnamed_more c.loop-j.j _
-    c.args.label c.loop-j.invariant (sym c.end_label.ensures) c.if-end_label-label.false
+loop-j-preserved c = grind (arith, unnamed_more)
 
 pub returns : goal.returns
-returns c =
-    let all : c.loop-j.j ≡ c.args.end = omega (arith, c.loop-j-test.false, c.loop-j.auto.j-end) in
-    sym (rw all at c.loop-j.invariant)
+returns c = grind arith

@@ -1,5 +1,5 @@
 -- Its service, as it is read.
-use Rattle.std.proofs.Common.{eqb, sym, ◌∙◌, eq-eqb}
+use Rattle.std.proofs.Common.{eqb, sym, ◌∙◌, eq-eqb, arith}
 use Rattle.std.proofs.lemmas.Bool.{eqb-true, both_ways}
 use Rattle.ra_weigh.specs.Trials.{tables_of, steps_of}
 use Rattle.ra_weigh.proofs.StepLemmas.{step_process, service_read}
@@ -9,12 +9,7 @@ pub service_of-requires : goal.service_of-requires
 service_of-requires c = step_process c.args.self.now.moves c.step.ensures c.requires
 
 pub returns-clause-moves : goal.returns-clause-moves
-returns-clause-moves c = λ told.
-    service_read (tables_of c.args.self.now) (steps_of c.args.self.now) c.args.k
-    c.step.ensures c.service_of.ensures ∙ eqb-true c.service_of.result.0 c.args.s.0 told
+returns-clause-moves c = λ told. grind (arith, service_read, eqb-true)
 
 pub returns-clause-none : goal.returns-clause-none
-returns-clause-none c = λ told other same.
-    both_ways (eqb c.service_of.result.0 c.args.s.0) told (eq-eqb c.service_of.result.0 c.args.s.0
-    (sym (service_read (tables_of c.args.self.now)
-    (steps_of c.args.self.now) c.args.k c.step.ensures c.service_of.ensures) ∙ same))
+returns-clause-none c = λ told other same. grind (arith, eq-eqb, service_read)

@@ -9,21 +9,10 @@ use Rattle.ra_weigh.proofs.HoldLemmas.{none_start, none_more, none_all, told_tru
 use Rattle.ra_weigh.proofs.trial.Trial.keeps_closed.Goals as goal
 
 pub closed_there-requires : goal.closed_there-requires
-closed_there-requires c =
-    let t = c.args.self.now in
-    let within : c.loop-j.j < length (steps_of t) = omega (arith, c.loop-j-test.true, c.steps-j-end.ensures.value) in
-    record {
-      process = step_process t.moves
-          c.step-step.ensures within;
-      machine = lands_read c.loop-j.j c.step-step.result.process.0 t.moves c.step-step.ensures within refl;
-      there = step_to t.moves c.step-step.ensures
-          within;
-    }
+closed_there-requires c = grind (arith, step_process, lands_read, step_to)
 
 pub loop-j-init : goal.loop-j-init
-loop-j-init c =
-    none_start _
-    _
+loop-j-init c = grind (arith, none_start)
 
 pub returns-in-Some : goal.returns-in-Some
 unfolding broken_closed
@@ -35,13 +24,8 @@ returns-in-Some c =
     (omega (arith, c.loop-j-test.true, c.steps-j-end.ensures.value))) c.in-Some.ensures)
 
 pub loop-j-preserved : goal.loop-j-preserved
-loop-j-preserved c =
-    none_more _
-    _ c.step-step.result.process.0 c.loop-j.invariant
-    (process_read (steps_of c.args.self.now) c.loop-j.j c.step-step.ensures) (sym c.in_default.ensures)
+loop-j-preserved c = grind (arith, none_more, process_read)
 
 pub returns : goal.returns
 unfolding broken_closed
-returns c =
-    told_true (none_all c.args.self.now.local.closed
-    (omega (arith, c.loop-j-test.false, c.steps-j-end.ensures.value)) c.loop-j.invariant)
+returns c = told_true (grind (arith, none_all))

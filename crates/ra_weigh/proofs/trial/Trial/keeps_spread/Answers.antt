@@ -8,8 +8,7 @@ use Rattle.ra_weigh.proofs.HoldLemmas.{none_start, none_more, none_all, told_tru
 use Rattle.ra_weigh.proofs.trial.Trial.keeps_spread.Goals as goal
 
 pub loop-j-init : goal.loop-j-init
-loop-j-init c = none_start _
-    _
+loop-j-init c = grind (arith, none_start)
 
 pub returns-in-Some : goal.returns-in-Some
 unfolding broken_spread
@@ -21,14 +20,8 @@ returns-in-Some c =
     c.in-Some.ensures)
 
 pub loop-j-preserved : goal.loop-j-preserved
-loop-j-preserved c =
-    none_more _
-    _ _ c.loop-j.invariant refl
-    (sym c.in_default.ensures)
+loop-j-preserved c = grind (arith, none_more)
 
 pub returns : goal.returns
 unfolding broken_spread
-returns c =
-    told_true (none_all (spread_moved c.args.self.now.local)
-    (omega (arith, c.loop-j-test.false, c.steps-j-end.ensures.value))
-    c.loop-j.invariant)
+returns c = told_true (grind (arith, none_all, spread_moved))

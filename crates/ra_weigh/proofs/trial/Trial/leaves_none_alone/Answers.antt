@@ -21,14 +21,10 @@ returns-then-dependants-eq0 c =
     (neighbourhood_of (tables_of c.args.self.now) c.args.from.0) c.dependants-dependants.result.now))
 
 pub returns-then-left-gt0 : goal.returns-then-left-gt0
-returns-then-left-gt0 c =
-    told_true (rw (← c.neighbourhood-label.ensures)
-    (not_alone _ _ c.args.s.0 c.args.s.0
-    c.neighbourhood-label.result c.count_after-left.result refl c.count_after-left.ensures c.if-left-gt0.true))
+returns-then-left-gt0 c = told_true (grind (arith, not_alone))
 
 pub loop-k-init : goal.loop-k-init
-loop-k-init c = near_start _ _ c.neighbourhood-label.result
-    c.dependants-dependants.result.now
+loop-k-init c = grind (arith, near_start)
 
 pub count_after-near-requires : goal.count_after-near-requires
 unfolding service_at
@@ -39,31 +35,11 @@ count_after-near-requires c =
 
 pub returns-then-near-gt0 : goal.returns-then-near-gt0
 unfolding service_at
-returns-then-near-gt0 c =
-    let u : Service = (get_or c.dependants-dependants.result.now c.loop-k.k (record { 0 = 0 })) in
-    told_false (λ (leaves : LeavesNone (tables_of c.args.self.now) (after_of c.args.self.now) c.args.s.0
-    (neighbourhood_of (tables_of c.args.self.now) c.args.from.0)).
-    alone_found _ _ c.args.s.0 c.args.s.0
-    c.neighbourhood-label.result c.loop-k.k u.0 c.count_after-left.result
-    c.count_after-near.result refl
-    (listed _ c.args.self.now.topo.now c.args.s.0
-    c.args.self.now.topology c.requires.service c.dependants-dependants.ensures) c.loop-k-test.true refl
-    c.count_after-left.ensures c.if-left-gt0.false c.count_after-near.ensures c.if-near-gt0.true
-    (rw (← c.neighbourhood-label.ensures) at leaves))
+returns-then-near-gt0 c = told_false (λ leaves. grind (arith, alone_found, listed))
 
 pub loop-k-preserved : goal.loop-k-preserved
 unfolding service_at
-loop-k-preserved c =
-    let u : Service = (get_or c.dependants-dependants.result.now c.loop-k.k (record { 0 = 0 })) in
-    near_next _ _ c.neighbourhood-label.result
-    c.dependants-dependants.result.now u.0 c.loop-k.invariant refl
-    c.count_after-near.ensures c.if-near-gt0.false
+loop-k-preserved c = grind (arith, near_next)
 
 pub returns : goal.returns
-returns c = told_true
-    (rw (← c.neighbourhood-label.ensures)
-    (alone_all _ _ c.args.s.0 c.args.s.0
-    c.neighbourhood-label.result refl
-    (listed _ c.args.self.now.topo.now c.args.s.0
-    c.args.self.now.topology c.requires.service c.dependants-dependants.ensures)
-    (omega (arith, c.loop-k-test.false, c.loop-k.auto.k-end)) c.loop-k.invariant))
+returns c = told_true (grind (arith, alone_all, listed))

@@ -6,9 +6,7 @@ use Rattle.ra_weigh.proofs.LocationLemmas.{held_none, held_more, located_enough,
 use Rattle.ra_weigh.proofs.trial.Trial.locations_after.Goals as goal
 
 pub loop-j-init : goal.loop-j-init
-loop-j-init c = held_none _
-    _
-    _
+loop-j-init c = grind (arith, held_none)
 
 pub held_at-end-requires-clause-end : goal.held_at-end-requires-clause-end
 unfolding end_count

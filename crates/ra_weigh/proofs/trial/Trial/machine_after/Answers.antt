@@ -11,31 +11,19 @@ pub loop-j-init : goal.loop-j-init
 loop-j-init c = is_named_none _ c.args.p.0
 
 pub returns-then-step-p-clause-machine : goal.returns-then-step-p-clause-machine
-returns-then-step-p-clause-machine c = lands_read c.loop-j.j c.args.p.0 c.args.self.now.moves c.step-step.ensures
-    (omega (arith, c.loop-j-test.true, c.steps-j-end.ensures.value)) c.if-step-p.true
+returns-then-step-p-clause-machine c = grind (arith, lands_read)
 
 pub returns-then-step-p-clause-there : goal.returns-then-step-p-clause-there
-returns-then-step-p-clause-there c = step_to c.args.self.now.moves c.step-step.ensures
-    (omega (arith, c.loop-j-test.true, c.steps-j-end.ensures.value))
+returns-then-step-p-clause-there c = grind (arith, step_to)
 
 pub loop-j-preserved : goal.loop-j-preserved
-loop-j-preserved c = unnamed_more c.loop-j.j _
-    c.args.p.0 c.loop-j.invariant
-    (process_read (steps_of c.args.self.now) c.loop-j.j c.step-step.ensures) c.if-step-p.false
+loop-j-preserved c = grind (arith, unnamed_more, process_read)
 
 pub get-requires : goal.get-requires
 get-requires c = omega (arith, c.requires, c.args.self.now.moves.fits.one_each)
 
 pub returns-clause-machine : goal.returns-clause-machine
-returns-clause-machine c =
-    let all : c.loop-j.j ≡ length (steps_of c.args.self.now) =
-    omega (arith, c.loop-j-test.false, c.steps-j-end.ensures.value) in
-    stays_read c.loop-j.j c.args.p.0
-    c.get.result.0 c.args.self.now.moves all c.loop-j.invariant (machine_at_read _ c.args.p.0 c.get.result
-    (omega (arith, c.requires, c.args.self.now.moves.fits.one_each)) c.get.ensures)
+returns-clause-machine c = grind (arith, stays_read, machine_at_read)
 
 pub returns-clause-there : goal.returns-clause-there
-returns-clause-there c =
-    let at = machine_at_read _ c.args.p.0 c.get.result
-    (omega (arith, c.requires, c.args.self.now.moves.fits.one_each)) c.get.ensures in
-    omega (arith, at, c.args.self.now.moves.fits.in_range c.args.p.0 c.requires)
+returns-clause-there c = grind (arith, machine_at_read)

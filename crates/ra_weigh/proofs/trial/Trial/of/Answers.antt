@@ -1,5 +1,5 @@
 -- What a world keeps is what a trial needs.
-use Rattle.std.proofs.Common.{refl}
+use Rattle.std.proofs.Common.{refl, arith}
 use Rattle.ra_model.proofs.BrokenLemmas.{fine_from_unbroken}
 use Rattle.ra_moves.proofs.Local.{failures_are_local}
 use Rattle.ra_weigh.proofs.StepLemmas.{none_each}

@@ -12,10 +12,7 @@ use Rattle.ra_weigh.proofs.trial.Trial.pair_dependency.Goals as goal
 
 pub far_test-requires-clause-process : goal.far_test-requires-clause-process
 unfolding member_at
-far_test-requires-clause-process c =
-    member_there _ c.args.s.0 c.loop-x.x c.members-members.result.now
-    (members_listed c.args.self.now.topo.now c.args.s.0
-    c.args.self.now.topology c.requires.service c.members-members.ensures) c.loop-x-test.true
+far_test-requires-clause-process c = grind (arith, member_there, members_listed)
 
 pub returns-in-Some : goal.returns-in-Some
 unfolding far_member member_at
@@ -28,14 +25,10 @@ returns-in-Some c =
 
 pub loop-x-preserved : goal.loop-x-preserved
 unfolding far_member member_at
-loop-x-preserved c =
-    first_more_none c.loop-x.x
-    _
-    c.loop-x.invariant (sym c.in_default.ensures)
+loop-x-preserved c = grind (arith, first_more_none)
 
 pub loop-x-init : goal.loop-x-init
-loop-x-init c =
-    first_none _
+loop-x-init c = grind (arith, first_none)
 
 pub returns : goal.returns
 returns c =
@@ -49,13 +42,7 @@ returns c =
     c.members-members.result.now)) all ∙ c.loop-x.invariant)
 
 pub stays_near-requires-clause-need : goal.stays_near-requires-clause-need
-stays_near-requires-clause-need c = need_there
-    c.args.self.now.inst.now.well_formed c.requires.service c.requires.dependency c.requires.need
+stays_near-requires-clause-need c = grind (arith, need_there)
 
 pub returns-then-stays_near : goal.returns-then-stays_near
-returns-then-stays_near c =
-    sym (pair_stays _ c.args.s.0 c.args.k c.args.self.now.moves c.args.self.now.fine c.requires.service
-    c.requires.dependency
-    (subst (λ u. StaysNear (tables_of c.args.self.now) (after_of c.args.self.now) (steps_of c.args.self.now)
-    c.args.s.0 u (length (steps_of c.args.self.now))) c.requires.need
-    (c.stays_near.ensures.0 c.if-stays_near.true)))
+returns-then-stays_near c = grind (arith, pair_stays)

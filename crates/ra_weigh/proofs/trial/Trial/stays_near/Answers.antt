@@ -10,20 +10,16 @@ use Rattle.ra_weigh.proofs.NearLemmas.{stays_start, stays_next, stays_found, sta
 use Rattle.ra_weigh.proofs.trial.Trial.stays_near.Goals as goal
 
 pub service_of-own-requires : goal.service_of-own-requires
-service_of-own-requires c = step_process c.args.self.now.moves c.step-step.ensures
-    (omega (arith, c.loop-j-test.true, c.steps-j-end.ensures.value))
+service_of-own-requires c = grind (arith, step_process)
 
 pub finds_one-requires-clause-to : goal.finds_one-requires-clause-to
-finds_one-requires-clause-to c = step_to c.args.self.now.moves c.step-step.ensures
-    (omega (arith, c.loop-j-test.true, c.steps-j-end.ensures.value))
+finds_one-requires-clause-to c = grind (arith, step_to)
 
 pub leaves_one-requires-clause-from : goal.leaves_one-requires-clause-from
-leaves_one-requires-clause-from c = step_from c.args.self.now.moves c.step-step.ensures
-    (omega (arith, c.loop-j-test.true, c.steps-j-end.ensures.value))
+leaves_one-requires-clause-from c = grind (arith, step_from)
 
 pub loop-j-init : goal.loop-j-init
-loop-j-init c = stays_start _ _ _ c.args.s.0
-    c.args.need.0
+loop-j-init c = grind (arith, stays_start)
 
 pub returns-then-not-finds_one : goal.returns-then-not-finds_one
 returns-then-not-finds_one c =
@@ -52,20 +48,7 @@ returns-then-not-leaves_one c =
     (from_read (steps_of c.args.self.now) c.loop-j.j c.step-step.ensures)))))
 
 pub loop-j-preserved : goal.loop-j-preserved
-loop-j-preserved c = stays_next _ _ _
-    c.args.s.0 c.args.need.0 c.loop-j.j c.service_of-own.result.0
-    _
-    _ c.loop-j.invariant
-    (service_read (tables_of c.args.self.now)
-    (steps_of c.args.self.now) c.loop-j.j c.step-step.ensures c.service_of-own.ensures)
-    (ap (neighbourhood_of (tables_of c.args.self.now))
-    (to_read (steps_of c.args.self.now) c.loop-j.j c.step-step.ensures))
-    (ap (neighbourhood_of (tables_of c.args.self.now))
-    (from_read (steps_of c.args.self.now) c.loop-j.j c.step-step.ensures))
-    (c.finds_one.ensures.0 c.if-not-finds_one.false) (c.leaves_one.ensures.0 c.if-not-leaves_one.false)
+loop-j-preserved c = grind (arith, stays_next, service_read, to_read, from_read)
 
 pub returns : goal.returns
-returns c =
-    let all : c.loop-j.j ≡ length (steps_of c.args.self.now) =
-    omega (arith, c.loop-j-test.false, c.steps-j-end.ensures.value) in
-    told_true (rw all at c.loop-j.invariant)
+returns c = told_true (grind arith)

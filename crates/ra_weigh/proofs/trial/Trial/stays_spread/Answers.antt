@@ -1,5 +1,5 @@
 -- Each way in which it is plain.
-use Rattle.std.proofs.Common.{ap, sym, ◌∙◌}
+use Rattle.std.proofs.Common.{ap, sym, ◌∙◌, arith}
 use Rattle.std.proofs.lemmas.Bool.{eqb-true}
 use Rattle.ra_model.specs.Numbers.{location_of}
 use Rattle.ra_weigh.specs.Trials.{tables_of, initial_of, steps_of, before_of}
@@ -8,18 +8,10 @@ use Rattle.ra_weigh.proofs.SpreadLemmas.{spread_to_spare, spread_there, spread_b
 use Rattle.ra_weigh.proofs.trial.Trial.stays_spread.Goals as goal
 
 pub spread_min-requires : goal.spread_min-requires
-spread_min-requires c =
-    let t = c.args.self.now in
-    service_there t.inst.now.well_formed
-    (step_process t.moves c.requires.step c.requires.named)
-    c.requires.service
+spread_min-requires c = grind (arith, service_there, step_process)
 
 pub locations-requires : goal.locations-requires
-locations-requires c =
-    let t = c.args.self.now in
-    rw t.cells_tables (service_there t.inst.now.well_formed
-    (step_process t.moves c.requires.step c.requires.named)
-    c.requires.service)
+locations-requires c = grind (arith, service_there, step_process)
 
 pub returns-then-spread_min-locations : goal.returns-then-spread_min-locations
 returns-then-spread_min-locations c = λ told.
@@ -31,28 +23,16 @@ returns-then-spread_min-locations c = λ told.
     (c.locations.ensures.count (tables_of t) (initial_of t) (before_of t) t.cells_stand) c.if-spread_min-locations.true
 
 pub location-left-requires : goal.location-left-requires
-location-left-requires c =
-    let t = c.args.self.now in
-    step_from t.moves c.requires.step c.requires.named
+location-left-requires c = grind (arith, step_from)
 
 pub location-come-requires : goal.location-come-requires
-location-come-requires c =
-    let t = c.args.self.now in
-    step_to t.moves c.requires.step c.requires.named
+location-come-requires c = grind (arith, step_to)
 
 pub in_location-requires : goal.in_location-requires
-in_location-requires c =
-    let t = c.args.self.now in
-    rw t.cells_tables (service_there t.inst.now.well_formed
-    (step_process t.moves c.requires.step c.requires.named)
-    c.requires.service)
+in_location-requires c = grind (arith, service_there, step_process)
 
 pub in_location-requires-2 : goal.in_location-requires-2
-in_location-requires-2 c =
-    let t = c.args.self.now in
-    rw t.cells_tables (service_there t.inst.now.well_formed
-    (step_process t.moves c.requires.step c.requires.named)
-    c.requires.service)
+in_location-requires-2 c = grind (arith, service_there, step_process)
 
 pub returns-then-left-come : goal.returns-then-left-come
 returns-then-left-come c = λ told.

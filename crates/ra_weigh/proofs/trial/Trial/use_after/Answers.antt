@@ -20,10 +20,7 @@ loop-j-preserved c = flows_more _ _ c.loop-j.invariant
 
 pub overflow_sub-result : goal.overflow_sub-result
 unfolding use_of
-overflow_sub-result c =
-    let all : c.loop-j.j ≡ length (steps_of c.args.self.now) =
-    omega (arith, c.loop-j-test.false, c.steps-j-end.ensures.value) in
-    flowed_enough _ c.args.self.now.moves all c.loop-j.invariant c.requires.kept
+overflow_sub-result c = grind (arith, flowed_enough)
 
 pub returns : goal.returns
 unfolding use_of
