@@ -10,11 +10,5 @@ loop-k-init c = is_named_none _ c.args.s.0
 pub service_in-requires-clause-step : goal.service_in-requires-clause-step
 service_in-requires-clause-step c = omega (arith, c.requires.step, c.loop-k-test.true)
 
-pub returns-then-service_in-s : goal.returns-then-service_in-s
-returns-then-service_in-s c = grind (arith, is_named_found)
-
 pub loop-k-preserved : goal.loop-k-preserved
 loop-k-preserved c = grind (arith, unnamed_more)
-
-pub returns : goal.returns
-returns c = grind arith

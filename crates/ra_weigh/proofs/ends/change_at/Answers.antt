@@ -8,12 +8,6 @@ use Rattle.ra_weigh.specs.PlaceCosts.{row_cost}
 use Rattle.ra_weigh.proofs.MoveLemmas.{end_known}
 use Rattle.ra_weigh.proofs.ends.change_at.Goals as goal
 
-pub cost_after-requires-clause-machine : goal.cost_after-requires-clause-machine
-cost_after-requires-clause-machine c = grind (arith, end_known)
-
-pub cost_now-requires : goal.cost_now-requires
-cost_now-requires c = grind (arith, end_known)
-
 pub returns-then-is_named_before-clause-added : goal.returns-then-is_named_before-clause-added
 returns-then-is_named_before-clause-added c = grind (arith, fresh_again)
 

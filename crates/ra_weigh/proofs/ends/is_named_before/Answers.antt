@@ -10,11 +10,5 @@ loop-k-init c = is_named_none _ c.args.m.0
 pub end_of-requires : goal.end_of-requires
 end_of-requires c = omega (arith, c.requires, c.loop-k-test.true)
 
-pub returns-then-end_of-m : goal.returns-then-end_of-m
-returns-then-end_of-m c = grind (arith, is_named_found)
-
 pub loop-k-preserved : goal.loop-k-preserved
 loop-k-preserved c = grind (arith, unnamed_more)
-
-pub returns : goal.returns
-returns c = grind arith

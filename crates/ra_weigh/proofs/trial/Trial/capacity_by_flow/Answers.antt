@@ -9,12 +9,6 @@ use Rattle.ra_weigh.proofs.trial.Trial.capacity_by_flow.Goals as goal
 pub loop-r-init : goal.loop-r-init
 loop-r-init c = first_none _
 
-pub use_flowing-used-requires : goal.use_flowing-used-requires
-use_flowing-used-requires c = grind arith
-
-pub capacity_test-requires : goal.capacity_test-requires
-capacity_test-requires c = grind arith
-
 pub returns-in-Some : goal.returns-in-Some
 unfolding row_capacity
 returns-in-Some c = grind (arith, first_found)

@@ -7,18 +7,6 @@ use Rattle.ra_weigh.specs.Trials.{steps_of}
 use Rattle.ra_weigh.proofs.FlowLemmas.{flows_none, flows_more, flowed_enough, flowed}
 use Rattle.ra_weigh.proofs.trial.Trial.count_from.Goals as goal
 
-pub one_at-came-requires-clause-process : goal.one_at-came-requires-clause-process
-one_at-came-requires-clause-process c = grind (arith, step_process)
-
-pub one_at-came-requires-clause-machine : goal.one_at-came-requires-clause-machine
-one_at-came-requires-clause-machine c = grind (arith, step_to)
-
-pub one_at-went-requires-clause-process : goal.one_at-went-requires-clause-process
-one_at-went-requires-clause-process c = grind (arith, step_process)
-
-pub one_at-went-requires-clause-machine : goal.one_at-went-requires-clause-machine
-one_at-went-requires-clause-machine c = grind (arith, step_from)
-
 pub loop-j-init : goal.loop-j-init
 loop-j-init c =
     flows_none _ _ 1

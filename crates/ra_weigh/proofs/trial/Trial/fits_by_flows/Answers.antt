@@ -8,9 +8,6 @@ use Rattle.ra_weigh.proofs.HoldLemmas.{told_true, told_false}
 use Rattle.ra_weigh.proofs.FitLemmas.{below_start, below_more, at_from_below}
 use Rattle.ra_weigh.proofs.trial.Trial.fits_by_flows.Goals as goal
 
-pub fits_flowing-requires : goal.fits_flowing-requires
-fits_flowing-requires c = grind arith
-
 pub loop-r-init : goal.loop-r-init
 loop-r-init c =
     below_start _ _ _ c.args.m.0

@@ -20,6 +20,3 @@ loop-j-preserved c = flow_more _ _
     (rw c.in-Some.is at c.with-came.ensures) (rw c.in-Some-went.is at c.with-went.ensures)
     (λ r within. use_moves _ _ c.args.m.0 r c.loop-j.j
     c.step-step.result _ c.step-step.ensures (c.required_row-amounts.ensures.each r within))
-
-pub returns : goal.returns
-returns c = grind arith

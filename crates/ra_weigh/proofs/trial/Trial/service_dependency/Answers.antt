@@ -9,9 +9,6 @@ use Rattle.ra_weigh.proofs.trial.Trial.service_dependency.Goals as goal
 pub loop-k-init : goal.loop-k-init
 loop-k-init c = first_none _
 
-pub pair_dependency-requires : goal.pair_dependency-requires
-pair_dependency-requires c = grind arith
-
 pub returns-in-Some : goal.returns-in-Some
 unfolding service_dependency
 returns-in-Some c = grind (arith, first_found)

@@ -9,12 +9,6 @@ use Rattle.ra_weigh.proofs.trial.Trial.transient_by_flow.Goals as goal
 pub loop-r-init : goal.loop-r-init
 loop-r-init c = first_none _
 
-pub transient_flowing-used-requires : goal.transient_flowing-used-requires
-transient_flowing-used-requires c = grind arith
-
-pub transient_test-requires : goal.transient_test-requires
-transient_test-requires c = grind arith
-
 pub returns-in-Some : goal.returns-in-Some
 unfolding row_transient
 returns-in-Some c = grind (arith, first_found)
