@@ -24,4 +24,4 @@ pub use journal::Journal;
 pub use listing::Entries;
 pub use refusing::is_refused;
 pub use replies::Reply;
-pub use states::{advance, cost_then};
+pub use states::advance;

@@ -32,14 +32,6 @@ impl Model for SmallStep {
 }
 
 impl SmallStep {
-    /// Whether a step fits into six bytes.
-    pub(crate) fn fits(step: &Step) -> bool
-        ensures yes { result ≡ true → IsSmallStep step.now }
-        ensures no { IsSmallStep step.now → result ≡ true }
-    {
-        step.process.0 < 65536 && step.from.0 < 65536 && step.to.0 < 65536
-    }
-
     /// A step in six bytes.
     pub(crate) fn of(step: &Step) -> SmallStep
         requires { IsSmallStep step.now }

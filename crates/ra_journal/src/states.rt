@@ -2,7 +2,7 @@ ghost use Rattle.std.specs.Prelude.{◌≡◌};
 ghost use Rattle.ra_moves.specs.Steps.{StandsAt, from_in};
 ghost use Rattle.ra_journal.specs.Entries.{steps_made};
 ghost use Rattle.ra_guards.specs.Made.{after_made};
-ghost use Rattle.ra_journal.specs.States.{cost_then, IsDistinctIfDone};
+ghost use Rattle.ra_journal.specs.States.{IsDistinctIfDone};
 
 use ra_base::Assignment;
 use ra_moves::{Move, Verdict, apply};
@@ -19,16 +19,5 @@ pub fn advance(state: &mut Assignment, mv: &Move, verdict: &Verdict)
     match verdict {
         Verdict::Done { .. } => apply(state, mv),
         Verdict::Refused { .. } => {}
-    }
-}
-
-/// The cost after a verdict, if it was `cost` before.
-#[tactic(auto, unfolding(crate::specs::States::cost_then))]
-pub fn cost_then(cost: u128, verdict: &Verdict) -> u128
-    ensures { result ≡ cost_then cost verdict.now }
-{
-    match verdict {
-        Verdict::Done { cost } => *cost,
-        Verdict::Refused { .. } => cost,
     }
 }

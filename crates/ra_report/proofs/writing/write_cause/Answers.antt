@@ -1,8 +1,0 @@
-use Rattle.std.proofs.Common.{rules}
-use Rattle.ra_report.proofs.GatheringLemmas.{writes}
-use Rattle.ra_report.proofs.writing.write_cause.Goals as goal
-
-pub returns : goal.returns
-returns g c = writes g.O.Sink.taken g.O.Sink.faults c.make-text.result c.add_cause.new.text c.finish.new.self
-    c.make-text.ensures.same (search rules) c.make-text.ensures.sound c.make-text.ensures.none c.add_cause.ensures
-    c.finish.ensures.adds c.finish.ensures.none c.finish.ensures.whole c.finish.ensures.part
