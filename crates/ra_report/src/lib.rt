@@ -35,6 +35,6 @@ pub use texts::{
     CauseWords, add_assignment, add_cause, add_machines, add_parts, cause_words, prepend_cause,
 };
 pub use writing::{
-    write_accepted, write_bound, write_cause, write_entry, write_fault, write_head, write_parts,
-    write_report, write_report_at, write_summary,
+    write_accepted, write_bound, write_entry, write_fault, write_head, write_parts, write_report,
+    write_report_at, write_summary,
 };

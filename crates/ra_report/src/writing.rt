@@ -4,15 +4,15 @@ ghost use Rattle.ra_report.specs.FaultTexts.{CanBeTold, fault_text};
 ghost use Rattle.ra_report.specs.JournalTexts.{best_state, parts_in, bound_in, text_of, head_of, entry_line, accepted_line, bound_text};
 ghost use Rattle.ra_report.specs.Writes.{Writes};
 ghost use Rattle.ra_report.specs.Summaries.{summary_of};
-ghost use Rattle.ra_report.specs.Texts.{parts_text, cause_text};
+ghost use Rattle.ra_report.specs.Texts.{parts_text};
 
 use crate::desks::{Desks, add_entries_at};
 use crate::faults::{Fault, add_fault};
 use crate::journal::add_entry;
 use crate::solved::{add_bound, add_head, add_number, add_report};
 use crate::summary::add_summary;
-use crate::{Gathered, WriteFault, add_cause, add_parts};
-use ra_base::{Assignment, Cause, Parts};
+use crate::{Gathered, WriteFault, add_parts};
+use ra_base::{Assignment, Parts};
 use ra_bounds::Bound;
 use ra_io::Sink;
 use ra_journal::{Entry, Journal};
@@ -25,15 +25,6 @@ pub fn write_parts<O: Sink>(sink: &mut O, parts: &Parts) -> Result<(), WriteFaul
 {
     let mut text = Gathered::make(sink);
     add_parts(&mut text, parts);
-    text.finish()
-}
-
-/// Writes a cause: its name and its numbers, without an end of the line.
-pub fn write_cause<O: Sink>(sink: &mut O, cause: &Cause) -> Result<(), WriteFault>
-    ensures { Writes (writing O.Sink sink.old sink.new) (cause_text cause.now) result }
-{
-    let mut text = Gathered::make(sink);
-    add_cause(&mut text, cause);
     text.finish()
 }
 
