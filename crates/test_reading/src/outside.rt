@@ -8,7 +8,7 @@ use ra_io::{
     Sink, put_all,
 };
 use std::alloc::Global;
-use std::io::Write;
+use std::io::{ErrorKind, Write};
 use std::os::fd::AsRawFd;
 use std::process::Abort;
 use std::{fs, io, thread};
@@ -175,42 +175,62 @@ fn a_name_longer_than_any_path_fails(rt: HostRuntime) {
     drop(name);
 }
 
-/// A writer that takes one byte at once, and has room for three.
+/// A writer that takes one byte at once, and has room for three. It holds a byte back until it is flushed, and takes no
+/// other before that.
 #[derive(Drop)]
 struct Narrow<'a> {
+    held: Option<u8>,
     bytes: &'a mut Vec<u8>,
 }
 
 impl Write for Narrow<'_> {
     fn write(&mut self, piece: &[u8]) -> io::Result<usize> {
-        if self.bytes.len() >= 3 || piece.is_empty() {
+        if self.held.is_some() || piece.is_empty() {
             return Ok(0);
         }
-        self.bytes.push(piece[0])?;
+        self.held = Some(piece[0]);
         Ok(1)
     }
 
     fn flush(&mut self) -> io::Result<()> {
+        if self.bytes.len() >= 3 {
+            return Err(io::Error::from(ErrorKind::WriteZero));
+        }
+        if let Some(byte) = self.held {
+            self.bytes.push(byte)?;
+        }
+        self.held = None;
         Ok(())
     }
 }
 
+/// Demands that a sink flushes each byte, fails if it can't be flushed, and fails if the writer then takes none.
+fn demand_flushed(rt: &impl Abort, sink: &mut impl Sink) {
+    same(rt, put_all(sink, b"012"), Ok(()));
+    same(rt, sink.put(b"3"), Err(Failed));
+    same(rt, sink.put(b"4"), Err(Failed));
+}
+
 #[test]
-fn an_out_sink_writes(rt: HostRuntime) {
+fn an_out_sink_writes_and_flushes(rt: HostRuntime) {
     let mut bytes = Vec::new(rt.alloc());
-    let mut sink = OutSink::make(Narrow { bytes: &mut bytes });
-    same(&rt, put_all(&mut sink, b"012"), Ok(()));
-    same(&rt, sink.put(b"3"), Err(Failed));
+    let mut sink = OutSink::make(Narrow {
+        held: None,
+        bytes: &mut bytes,
+    });
+    demand_flushed(&rt, &mut sink);
     same(&rt, bytes.as_slice(), b"012".as_slice());
     drop(bytes);
 }
 
 #[test]
-fn an_err_sink_writes(rt: HostRuntime) {
+fn an_err_sink_writes_and_flushes(rt: HostRuntime) {
     let mut bytes = Vec::new(rt.alloc());
-    let mut sink = ErrSink::make(Narrow { bytes: &mut bytes });
-    same(&rt, put_all(&mut sink, b"012"), Ok(()));
-    same(&rt, sink.put(b"3"), Err(Failed));
+    let mut sink = ErrSink::make(Narrow {
+        held: None,
+        bytes: &mut bytes,
+    });
+    demand_flushed(&rt, &mut sink);
     same(&rt, bytes.as_slice(), b"012".as_slice());
     drop(bytes);
 }
