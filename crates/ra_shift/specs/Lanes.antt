@@ -1,11 +1,12 @@
 -- What process p asks of the filter rows, as terms for the lanes, and the sums of sixty-four neighbouring machines
 -- (this project's).
-use Rattle.std.specs.Prelude.{◌≡◌, ◌≢◌, ℕ, ◌+◌, ◌-◌, ◌*◌, ◌%◌, ◌^◌, ◌<◌, ◌≤◌, ◌↔◌, min, List, All, None, if◌then◌else◌, nat_lt, slice_index}
+use Rattle.std.specs.Prelude.{◌≡◌, ◌≢◌, ℕ, ◌+◌, ◌-◌, ◌*◌, ◌%◌, ◌^◌, ◌<◌, ◌≤◌, ◌↔◌, min, List, All, None, true, if◌then◌else◌, nat_lt, slice_index}
 use Rattle.std.specs.Int.{bit_at}
 use Rattle.ra_base.specs.Sums.{total}
 use Rattle.ra_base.specs.Tables.{cell}
 use Rattle.ra_shift.specs.Windows.{lacking, amounts}
 use Rattle.ra_shift.specs.declared.blocks.Term.{Term}
+use Rattle.ra_shift.specs.declared.terms.Asks.{Asks}
 use Rattle.ra_model.specs.declared.raw.Tables.{Tables}
 use Rattle.ra_model.specs.Numbers.{resource_count, machine_count, balance_count, machine_weight_of, way_cost_of}
 use Rattle.ra_model.specs.Assignments.{machine_at}
@@ -35,6 +36,12 @@ pub record AreTerms (i : Tables) (n : ℕ) (asked : ℕ → ℕ) (terms : List T
   pub asks : amounts terms ≡ total n asked
   pub lacks : (rows : List ℕ) (k : ℕ)
       → lacking rows terms k ≡ total n (λ j. asked j - cell (filter_width i) rows j k)
+
+-- what p asks of the filter rows: terms that are exact if they are said to be small enough for the lanes
+pub record AreAsked (i : Tables) (p : ℕ) (asks : Asks) : Type 0 where
+  pub rows : AreInRows i asks.terms.items
+  pub small : asks.are_small ≡ true → amounts asks.terms.items ≤ 2 ^ 30
+  pub terms : asks.are_small ≡ true → AreTerms i (filter_row_count i) (filter_asked i p) asks.terms.items
 
 -- one more term, unless its amount is 0
 pub record HasAlsoTerm (old : List Term) (row amount : ℕ) (new : List Term) : Type 0 where

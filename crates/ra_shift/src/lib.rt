@@ -18,3 +18,4 @@ pub use blocks::{Term, add_up, add_ways, marks_of};
 pub use finding::Finding;
 pub use rings::ring_part;
 pub use shift::Shift;
+pub use terms::Asks;

@@ -5,7 +5,7 @@ ghost use Rattle.ra_model.specs.Assignments.{machine_at};
 ghost use Rattle.ra_model.specs.Services.{on_machine, in_neighbourhood};
 ghost use Rattle.ra_model.specs.Situations.{cost_at, IsSound};
 ghost use Rattle.ra_shift.specs.Arriving.{BreaksNothing, cost_after, moved_after, room_below, members_near, service_now, cost_added, cost_taken, IsCostBelow, IsSumBelow, sum_at};
-ghost use Rattle.ra_shift.specs.Lanes.{AreCheapMarked};
+ghost use Rattle.ra_shift.specs.Lanes.{AreAsked, AreCheapMarked};
 ghost use Rattle.ra_shift.specs.Conditions.{HasRoom, HasRoomBetween, IsAlone, locations_after, KeepsSpread, FindsOtherNeeds, Lacks, KeepsDependants, IsAdmitted};
 ghost use Rattle.ra_shift.specs.Leaving.{machine_left, location_left, neighbourhood_left, spread_wanted, cost_left, cost_before};
 ghost use Rattle.ra_shift.specs.Sharing.{AreRequired, way_cost};
@@ -13,7 +13,8 @@ ghost use Rattle.ra_shift.specs.Sharing.{AreRequired, way_cost};
 use crate::costs::{cost_with, cost_without, way_cost};
 use crate::filter::{balance_above, load_above, saved, service_away, service_with};
 use crate::reads::{is_away, may_leave, spread_without};
-use crate::windows::{limit_below, sums_of};
+use crate::terms::{Asks, asks_of};
+use crate::windows::limit_below;
 use ra_base::{Machine, Process, Resource, Service, Steps, one_when};
 use ra_model::machine_of;
 use ra_world::World;
@@ -230,12 +231,38 @@ impl<'w, 'a> Shift<'w, 'a> {
         ensures { IfSome result (λ marks.
             AreCheapMarked self.now.world.now self.now.process.0 first bound marks sums.new) }
     {
+        self.marks_by(&self.asks(), first, bound, sums)
+    }
+
+    /// What the process asks of the filter rows. Who marks several windows finds it once.
+    #[inline(always)]
+    pub fn asks(&self) -> Asks
+        ensures { AreAsked self.now.world.now.tables self.now.process.0 result }
+    {
+        asks_of(self.world.instance(), self.required)
+    }
+
+    /// The marks of sixty-four machines as `marks` gives them, if what the process asks is known already.
+    #[inline(always)]
+    pub fn marks_by(
+        &self,
+        asks: &Asks,
+        first: u32,
+        bound: u128,
+        sums: &mut [u32; 64],
+    ) -> Option<u64>
+        requires asks { AreAsked self.now.world.now.tables self.now.process.0 asks.now }
+        requires first { first < machine_count self.now.world.now.tables }
+        requires bound { bound ≤ 2 ^ 120 }
+        ensures { IfSome result (λ marks.
+            AreCheapMarked self.now.world.now self.now.process.0 first bound marks sums.new) }
+    {
         let room = self.room_below(bound);
         if room == 0 {
             return Some(0);
         }
         let limit = limit_below(room);
-        sums_of(self.world, self.required, self.home, first, limit, sums)
+        self.sums_from(asks, first, limit, sums)
     }
 
     /// The initial machine.

@@ -1,53 +1,47 @@
 ghost use Rattle.std.specs.Prelude.{◌≡◌, ℕ, ◌-◌, ◌^◌, ◌<◌, ◌≤◌, IfSome, min, length, slice_index};
-ghost use Rattle.ra_model.specs.Numbers.{resource_count, machine_count};
-ghost use Rattle.ra_model.specs.Assignments.{machine_at};
-ghost use Rattle.ra_shift.specs.Lanes.{AreSums, HaveWays};
-ghost use Rattle.ra_shift.specs.Sharing.{AreRequired};
+ghost use Rattle.ra_model.specs.Numbers.{machine_count};
+ghost use Rattle.ra_shift.specs.Lanes.{AreAsked, AreSums, HaveWays};
 
-use crate::terms::find_terms;
+use crate::shift::Shift;
+use crate::terms::Asks;
 use crate::{add_up, add_ways, marks_of, ring_part};
-use arrayvec::ArrayVec;
 use ra_base::Machine;
 use ra_model::Instance;
-use ra_world::World;
 
 /// How much a way may cost with its weight, so that the sums fit into lanes.
 const MOST: u64 = 1 << 30;
 
-/// What each of sixty-four machines from one on adds for a process with this initial machine, if that is at most a
-/// limit. The answer has a bit for each such machine; there is no answer if the numbers are too great for lanes. Most
-/// windows have no such machine even if all ways were free, and then no way is read.
-pub(crate) fn sums_of(
-    world: &World<'_>,
-    required: &[u32],
-    home: Machine,
-    first: u32,
-    limit: u32,
-    sums: &mut [u32; 64],
-) -> Option<u64>
-    requires width { length required.now ≡ resource_count world.now.tables }
-    requires home { home.0 < machine_count world.now.tables }
-    requires first { first < machine_count world.now.tables }
-    ensures { (p : ℕ) → AreRequired world.now.tables p required.now →
-        home.0 ≡ machine_at world.now.start p →
-        IfSome result (λ marks. AreSums world.now p first limit marks sums.new) }
-{
-    let inst = world.instance();
-    let mut terms = ArrayVec::new();
-    if !find_terms(inst, required, &mut terms) {
-        return None;
+impl Shift<'_, '_> {
+    /// What each of sixty-four machines from one on adds for the process, if that is at most a limit. The answer has a
+    /// bit for each such machine; there is no answer if the numbers are too great for lanes. Most windows have no such
+    /// machine even if all ways were free, and then no way is read.
+    pub(crate) fn sums_from(
+        &self,
+        asks: &Asks,
+        first: u32,
+        limit: u32,
+        sums: &mut [u32; 64],
+    ) -> Option<u64>
+        requires asks { AreAsked self.now.world.now.tables self.now.process.0 asks.now }
+        requires first { first < machine_count self.now.world.now.tables }
+        ensures { IfSome result (λ marks.
+            AreSums self.now.world.now self.now.process.0 first limit marks sums.new) }
+    {
+        if !asks.are_small {
+            return None;
+        }
+        add_up(
+            self.world.filter_rows(),
+            asks.terms.as_slice(),
+            first as usize,
+            limit,
+            sums,
+        );
+        if marks_of(sums, limit) == 0 {
+            return Some(0);
+        }
+        with_ways(self.world.instance(), self.home, first, limit, sums)
     }
-    add_up(
-        world.filter_rows(),
-        terms.as_slice(),
-        first as usize,
-        limit,
-        sums,
-    );
-    if marks_of(sums, limit) == 0 {
-        return Some(0);
-    }
-    with_ways(inst, home, first, limit, sums)
 }
 
 /// Adds to sixty-four sums what the ways to their machines cost, unless that is too much for lanes. The answer has a bit
