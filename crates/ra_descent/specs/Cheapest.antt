@@ -4,7 +4,8 @@ use Rattle.ra_base.specs.declared.ids.Machine.{Machine}
 use Rattle.ra_model.specs.Numbers.{machine_count}
 use Rattle.ra_model.specs.Assignments.{machine_at}
 use Rattle.ra_model.specs.Situations.{Situation, cost_at}
-use Rattle.ra_shift.specs.Arriving.{BreaksNothing, cost_after}
+use Rattle.ra_moves.specs.Replacing.{after_move}
+use Rattle.ra_shift.specs.Arriving.{BreaksNothing, cost_after, steps_to}
 use Rattle.ra_descent.specs.declared.cheapest.Cheapest.{Cheapest}
 
 -- the shift to machine m breaks something, or costs at least a bound
@@ -34,3 +35,14 @@ pub record IsCheapest (st : Situation) (p n : ℕ) (best : Cheapest) : Type 0 wh
   pub offer : IsOffer st p best
   pub home : IsDear st p (machine_at st.start p) best.cost
   pub each : (m : ℕ) → m < n → IsDear st p m best.cost
+
+-- process p has gone to machine m: that breaks nothing, lowers the cost, and no other machine costs less
+pub record IsShiftedTo (old : Situation) (p m : ℕ) (new : Situation) : Type 0 where
+  pub within : m < machine_count old.tables
+  pub free : BreaksNothing old p m
+  pub least : (other : ℕ) → other < machine_count old.tables → IsDear old p other (cost_after old p m)
+  pub after : new ≡ after_move old (steps_to old p m)
+
+-- process p has gone to its cheapest machine
+abbrev pub HasGone : Situation → ℕ → Situation → Type 0
+HasGone old p new = (m : ℕ) × IsShiftedTo old p m new

@@ -4,6 +4,7 @@ ghost use Rattle.ra_model.specs.Situations.{cost_at};
 ghost use Rattle.ra_moves.specs.Judging.{broken_by};
 ghost use Rattle.ra_moves.specs.Replacing.{after_move};
 ghost use Rattle.ra_shift.specs.Arriving.{steps_to, BreaksNothing};
+ghost use Rattle.ra_descent.specs.Cheapest.{HasGone};
 ghost use Rattle.ra_descent.specs.Optimal.{NoShiftOf, NoShiftCheaper};
 
 use crate::windows::cheapest_of;
@@ -48,6 +49,7 @@ fn after(number: u32, count: u32) -> u32
 /// Moves a process to its cheapest machine, if that makes the list cheaper, and tells whether it does.
 pub fn improve<L: Ledger>(world: &mut World<'_>, process: Process, steps: &mut Steps<L>) -> bool
     requires { process.0 < process_count world.old.tables }
+    ensures gone { result ≡ true → HasGone world.old process.0 world.new }
     ensures cheaper { result ≡ true → cost_at world.new < cost_at world.old }
     ensures same { world.new ≡ record world.old { here = world.new.here } }
     ensures stays { result ≡ false → world.new ≡ world.old }

@@ -1,13 +1,13 @@
 ghost use Rattle.std.specs.Prelude.{◌≡◌, ◌+◌, ◌<◌, ◌≤◌};
 ghost use Rattle.ra_model.specs.Numbers.{machine_count, process_count};
 ghost use Rattle.ra_model.specs.Situations.{cost_at};
-ghost use Rattle.ra_shift.specs.Lanes.{AreCheapMarked};
+ghost use Rattle.ra_shift.specs.Lanes.{AreAsked, AreCheapMarked};
 ghost use Rattle.ra_descent.specs.Cheapest.{IsCheapest};
 
 use crate::cheapest::Cheapest;
 use crate::marks::next_mark;
 use ra_base::{Machine, Process, Steps};
-use ra_shift::Shift;
+use ra_shift::{Asks, Shift};
 use ra_world::World;
 use std::sync::ledger::Ledger;
 
@@ -22,13 +22,14 @@ pub(crate) fn cheapest_of<L: Ledger>(
     ensures { IsCheapest world.now process.0 (machine_count world.now.tables) result }
 {
     let shift = Shift::make(world, process, steps);
+    let asks = shift.asks();
     let machines = world.instance().machines();
     let mut best = of_home(&shift, world.parts().total);
     let mut sums = [0; 64];
     let mut first = 0;
     while first < machines {
         let end = machines.min(first + 64);
-        best = with_window(&shift, first, end, best, &mut sums);
+        best = with_window(&shift, &asks, first, end, best, &mut sums);
         first = end;
     }
     best
@@ -50,18 +51,20 @@ fn of_home(shift: &Shift<'_, '_>, now: u128) -> Cheapest
 /// their numbers allow it.
 fn with_window(
     shift: &Shift<'_, '_>,
+    asks: &Asks,
     first: u32,
     end: u32,
     best: Cheapest,
     sums: &mut [u32; 64],
 ) -> Cheapest
+    requires asks { AreAsked shift.now.world.now.tables shift.now.process.0 asks.now }
     requires some { first < end }
     requires few { end ≤ first + 64 }
     requires end { end ≤ machine_count shift.now.world.now.tables }
     requires best { IsCheapest shift.now.world.now shift.now.process.0 first best }
     ensures { IsCheapest shift.now.world.now shift.now.process.0 end result }
 {
-    match shift.marks(first, best.cost, sums) {
+    match shift.marks_by(asks, first, best.cost, sums) {
         Some(marks) => with_marked(shift, first, end, best, marks, sums),
         None => with_each(shift, first, end, best),
     }
