@@ -68,7 +68,8 @@ impl<'a> Searcher<'a> {
         false
     }
 
-    /// Whether a machine may be cheaper for a process, by its rough cost.
+    /// Whether a machine may be cheaper for a process, by its rough cost. Most would not be even if the way to them were
+    /// free, and then no way is read.
     #[inline(always)]
     fn attracts(&self, m: Machine, leaving: &Leaving<'_>) -> bool
         requires { IsLeaverOf self.now.world.tables leaving.now }
@@ -79,6 +80,9 @@ impl<'a> Searcher<'a> {
         }
         if m.0 == leaving.home.0 {
             return guides.sketch.may_return(&self.world, leaving, LOWER);
+        }
+        if !guides.sketch.may_shift(leaving, m, 0, LOWER) {
+            return false;
         }
         let way = guides.sketch.way_to(&self.world, leaving, m);
         guides.sketch.may_shift(leaving, m, way, LOWER)
