@@ -1,6 +1,6 @@
 -- What the answer to an edit is, and what is left after it.
 use Rattle.std.proofs.Common.{◌≡◌, ◌≢◌, ℕ, ◌<◌, ◌≤◌, List, length, Some, None, refl, sym, ◌∙◌, subst, ⊎_elim}
-use Rattle.std.proofs.Common.{eq-eqb, ne_eqb}
+use Rattle.std.proofs.Common.{ap, eq-eqb, ne_eqb}
 use Rattle.std.proofs.Math.Nat.{mod-eq_of_lt}
 use Rattle.std.proofs.lemmas.Bool.{cases_lt, cases_eq, lt-ltb, le-ltb}
 use Rattle.ra_base.specs.declared.causes.Cause.{Cause}
@@ -102,18 +102,12 @@ kept_barred d e k reply h =
           (row_of e.width e.requirements k)) h,
     )
 
--- a broken constraint
-pub answered_broken : (d next : Drafted) (e : EditLists) (k : ℕ) (cause : Cause) →
-    barred (length d.rows) (edit_at e k) ≡ None → next ≡ edited d (edit_at e k) (row_of e.width e.requirements k) →
-    broken_in next ≡ Some cause → Broken cause ≡ edit_answer d e k
-unfolding edit_answer answer edit_reply
-answered_broken d next e k cause free same broken = rw (free, ← same, broken) refl
-
-pub kept_broken : (d next : Drafted) (e : EditLists) (k : ℕ) (cause : Cause) → barred (length d.rows) (edit_at e k) ≡
-    None → next ≡ edited d (edit_at e k) (row_of e.width e.requirements k) → broken_in next ≡ Some cause →
-    d ≡ after_edit d e k
-unfolding after_edit kept
-kept_broken d next e k cause free same broken = rw (← answered_broken d next e k cause free same broken) refl
+-- a broken constraint: what is answered, and what is left
+pub broken_edit : (d : Drafted) (e : EditLists) (k : ℕ) (cause : Cause) → barred (length d.rows) (edit_at e k) ≡ None →
+    broken_in (edited d (edit_at e k) (row_of e.width e.requirements k)) ≡ Some cause →
+    (Broken cause ≡ edit_answer d e k) × (d ≡ after_edit d e k)
+unfolding edit_answer answer edit_reply after_edit kept
+broken_edit d e k cause free broken = (rw (free, broken) refl, rw (free, broken) refl)
 
 -- an edit that is done
 total_is : {parts : Parts} (d : Drafted) → parts ≡ parts_of (instance_of d) d.initial d.current →
@@ -121,18 +115,13 @@ total_is : {parts : Parts} (d : Drafted) → parts ≡ parts_of (instance_of d) 
 unfolding draft_cost parts_of
 total_is d same = cc
 
-pub answered_done : {next : Drafted} {parts : Parts} (d : Drafted) (e : EditLists) (k : ℕ) →
-    barred (length d.rows) (edit_at e k) ≡
-    None → next ≡ edited d (edit_at e k) (row_of e.width e.requirements k) → broken_in next ≡ None →
-    parts ≡ parts_of (instance_of next) next.initial next.current → Done parts.total ≡ edit_answer d e k
-unfolding edit_answer answer edit_reply
-answered_done {next} d e k free same fine cost = rw (free, ← same, fine, total_is next cost) refl
-
-pub kept_done : (d next : Drafted) (e : EditLists) (k : ℕ) (parts : Parts) → barred (length d.rows) (edit_at e k) ≡
-    None → next ≡ edited d (edit_at e k) (row_of e.width e.requirements k) → broken_in next ≡ None →
-    parts ≡ parts_of (instance_of next) next.initial next.current → next ≡ after_edit d e k
-unfolding after_edit kept
-kept_done d next e k parts free same fine cost = rw (← answered_done d e k free same fine cost) same
+pub done_edit : {next : Drafted} {parts : Parts} (d : Drafted) (e : EditLists) (k : ℕ) →
+    barred (length d.rows) (edit_at e k) ≡ None → next ≡ edited d (edit_at e k) (row_of e.width e.requirements k) →
+    broken_in next ≡ None → parts ≡ parts_of (instance_of next) next.initial next.current →
+    (Done parts.total ≡ edit_answer d e k) × (next ≡ after_edit d e k)
+unfolding edit_answer answer edit_reply after_edit kept
+done_edit {next} d e k free same fine cost =
+    (rw (free, ← same, fine, total_is next cost) refl, rw (free, ← same, fine) refl)
 
 -- the current list is feasible
 pub kept_feasible : {d : Drafted} {parts : Parts} → IsKeptDraft d parts → Feasible (instance_of d) d.initial d.current
@@ -150,29 +139,28 @@ same_feasible {d} {j} sound feasible same =
     ∙ unbroken_from_feasible (instance_of d) d.initial d.current feasible)
 
 -- what an edit makes of a draft is sound
-pub next_sound : {d old next : Drafted} {e : EditLists} (k : ℕ) → d ≡ old → IsSoundDraft d → AreEditsFor old.origin e →
-    k < length e.edits → barred (length d.rows) (edit_at e k) ≡ None →
-    next ≡ edited d (edit_at e k) (row_of e.width e.requirements k) → length (row_of e.width e.requirements k) ≡
-    e.width → IsSoundDraft next
+pub next_sound : {d old next : Drafted} {e : EditLists} {asked : List ℕ} (k : ℕ) → d ≡ old → IsSoundDraft d →
+    AreEditsFor old.origin e → k < length e.edits → barred (length d.rows) (edit_at e k) ≡ None →
+    asked ≡ row_of e.width e.requirements k → length asked ≡ e.width →
+    next ≡ edited d (edit_at e k) (row_of e.width e.requirements k) → IsSoundDraft next
 unfolding edit_at
-next_sound {e} k same sound fits within free is width =
+next_sound {e} k same sound fits within free asked_is width is =
     let here = rw (← same) at fits in
-    subst IsSoundDraft (sym is)
-    (edited_sound (edit_at e k) (row_of e.width e.requirements k) sound free (here.each k within)
-    (width ∙ here.width))
+    subst IsSoundDraft (sym is) (edited_sound (edit_at e k) (row_of e.width e.requirements k) sound free
+    (here.each k within) (ap length (sym asked_is) ∙ width ∙ here.width))
 
 -- and it is what the kind of the edit says
 pub next_edited : {d old : Drafted} {e : EditLists} {edit : Edit} {asked : List ℕ} (next : Drafted) (k : ℕ) → d ≡ old →
     IsSoundDraft d → AreEditsFor old.origin e → k < length e.edits → edit ≡ edit_at e k →
     asked ≡ row_of e.width e.requirements k → barred (length d.rows) (edit_at e k) ≡ None →
-    next ≡ edited d (edit_at e k) (row_of e.width e.requirements k) →
-    length (row_of e.width e.requirements k) ≡ e.width → IsEdited d edit asked next
+    length asked ≡ e.width → next ≡ edited d (edit_at e k) (row_of e.width e.requirements k) →
+    IsEdited d edit asked next
 unfolding edit_at
-next_edited {d} {e} {asked} next k same sound fits within is asked_is free made width =
+next_edited {d} {e} {asked} next k same sound fits within is asked_is free width made =
     let fits_d = rw (← same) at fits in
     subst (λ (x : Edit). IsEdited d x asked next) (sym is)
     (rw (← asked_is) at (edited_is (edit_at e k) (row_of e.width e.requirements k) sound free (fits_d.each k within)
-    (width ∙ fits_d.width) made))
+    (ap length (sym asked_is) ∙ width ∙ fits_d.width) made))
 
 -- its service and its machine exist
 pub next_fits : {d old : Drafted} {e : EditLists} {edit : Edit} (k : ℕ) → d ≡ old → AreEditsFor old.origin e →

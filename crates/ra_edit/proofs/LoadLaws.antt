@@ -1,5 +1,5 @@
 -- Laws of the use that is kept.
-use Rattle.std.proofs.Common.{◌≡◌, ◌≢◌, ℕ, ◌+◌, ◌*◌, ◌^◌, ◌<◌, ◌≤◌, Bool, true, false, cond, eqb, ◌||◌, inl, inr}
+use Rattle.std.proofs.Common.{◌≡◌, ◌≢◌, ◌⊎◌, ℕ, ◌+◌, ◌*◌, ◌^◌, ◌<◌, ◌≤◌, Bool, true, false, cond, eqb, ◌||◌, inl, inr}
 use Rattle.std.proofs.Common.{⊎_elim, List, [], ◌∷◌, ◌++◌, length, get_or, set, slice_index, replicate, refl, sym, ap}
 use Rattle.std.proofs.Common.{◌∙◌, subst, arith, eq-eqb, ne_eqb, length-set}
 use Rattle.std.proofs.lemmas.Bool.{cases_eq, cases_lt, or_left, or_right}
@@ -45,59 +45,53 @@ part_all width n at amount low high all part = record {
   same_length = part.same_length;
 }
 
--- one column more has grown
-pub part_raised : (width n at value : ℕ) (amount : ℕ → ℕ) (old mid new : List ℕ) → n < width →
-    at * width + n < length mid → value ≡ cell width mid at n + amount n → new ≡ set mid (at * width + n) value →
-    Part width n at amount old mid → Part width (n + 1) at amount old new
-part_raised width n at value amount old mid new column within is written part = rw written (record {
+-- one cell is written, and differs by its amount then
+part_next : {width n at : ℕ} {amount : ℕ → ℕ} {low high old new : List ℕ} → n < width →
+    ((m r : ℕ) → r < width → (m ≢ at) ⊎ (r ≢ n) → cell width new m r ≡ cell width high m r) →
+    ((m r : ℕ) → r < width → (m ≢ at) ⊎ (r ≢ n) → cell width old m r ≡ cell width low m r) →
+    cell width new at n ≡ cell width old at n + amount n → length new ≡ length old →
+    Part width n at amount low high → Part width (n + 1) at amount old new
+part_next {n} {at} column high_same low_same here size part = record {
   done = λ m r w h. ⊎_elim
       (λ (before : r < n). omega (
         arith,
-        cell_write_other width mid at n value m r column w (inr (omega arith)),
+        high_same m r w (inr (omega arith)),
+        low_same m r w (inr (omega arith)),
         part.done m r w before,
       ))
       (λ (late : n ≤ r). let e : r ≡ n = omega arith in rw e (⊎_elim
-      (λ (here : at ≡ m). rw (eq-eqb at m here, ← here)
-      (omega (arith, cell_write_same width mid at n value within, part.rest at n column (omega arith), is)))
-      (λ (apart : at ≢ m). rw (ne_eqb at m apart) (omega (
+      (λ (same : at ≡ m). rw (eq-eqb at m same, ← same) here)
+      (λ (apart : at ≢ m). let other : (m ≢ at) ⊎ (n ≢ n) = inl (λ (d : m ≡ at). apart (sym d)) in
+      rw (ne_eqb at m apart) (omega (
         arith,
-        cell_write_other width mid at n value m n column column
-            (inl (λ (d : m ≡ at). apart (sym d))),
+        high_same m n column other,
+        low_same m n column other,
         part.rest m n column (omega arith),
       )))
       (cases_eq at m)))
       (cases_lt r n);
-  rest = λ m r w h. cell_write_other width mid at n value m r column w (inr (omega arith))
-      ∙ part.rest m r w (omega arith);
-  same_length = length-set mid (at * width + n) value ∙ part.same_length;
-})
+  rest = λ m r w h. high_same m r w (inr (omega arith)) ∙ part.rest m r w (omega arith)
+      ∙ sym (low_same m r w (inr (omega arith)));
+  same_length = size;
+}
+
+-- one column more has grown
+pub part_raised : (width n at value : ℕ) (amount : ℕ → ℕ) (old mid new : List ℕ) → n < width →
+    at * width + n < length mid → value ≡ cell width mid at n + amount n → new ≡ set mid (at * width + n) value →
+    Part width n at amount old mid → Part width (n + 1) at amount old new
+part_raised width n at value amount old mid new column within is written part = rw written (part_next column
+    (λ m r w apart. cell_write_other width mid at n value m r column w apart) (λ m r w apart. refl)
+    (omega (arith, cell_write_same width mid at n value within, part.rest at n column (omega arith), is))
+    (length-set mid (at * width + n) value ∙ part.same_length) part)
 
 -- one column more has shrunk
 pub part_lowered : (width n at value : ℕ) (amount : ℕ → ℕ) (old mid new : List ℕ) → n < width →
     at * width + n < length mid → value + amount n ≡ cell width mid at n → new ≡ set mid (at * width + n) value →
     Part width n at amount mid old → Part width (n + 1) at amount new old
-part_lowered width n at value amount old mid new column within is written part = rw written (record {
-  done = λ m r w h. ⊎_elim
-      (λ (before : r < n). omega (
-        arith,
-        cell_write_other width mid at n value m r column w (inr (omega arith)),
-        part.done m r w before,
-      ))
-      (λ (late : n ≤ r). let e : r ≡ n = omega arith in rw e (⊎_elim
-      (λ (here : at ≡ m). rw (eq-eqb at m here, ← here)
-      (omega (arith, cell_write_same width mid at n value within, part.rest at n column (omega arith), is)))
-      (λ (apart : at ≢ m). rw (ne_eqb at m apart) (omega (
-        arith,
-        cell_write_other width mid at n value m n column column
-            (inl (λ (d : m ≡ at). apart (sym d))),
-        part.rest m n column (omega arith),
-      )))
-      (cases_eq at m)))
-      (cases_lt r n);
-  rest = λ m r w h. part.rest m r w (omega arith)
-      ∙ sym (cell_write_other width mid at n value m r column w (inr (omega arith)));
-  same_length = part.same_length ∙ sym (length-set mid (at * width + n) value);
-})
+part_lowered width n at value amount old mid new column within is written part = rw written (part_next column
+    (λ m r w apart. refl) (λ m r w apart. cell_write_other width mid at n value m r column w apart)
+    (omega (arith, cell_write_same width mid at n value within, part.rest at n column (omega arith), is))
+    (part.same_length ∙ sym (length-set mid (at * width + n) value)) part)
 
 -- a read within a row is a cell
 pub row_read : {place x : ℕ} (width at r : ℕ) (table : List ℕ) → place ≡ at * width + r → x ≡ get_or table place 0 →
@@ -236,8 +230,7 @@ transient_kept {d} m r are column = are.between.each m r column ∙ sym (transie
 used_share : {at : ℕ} (e : Drafted) (p m r : ℕ) (amount : ℕ → ℕ) → at ≡ machine_at e.current p →
     amount r ≡ requirement_of (instance_of e) p r → cond (eqb at m) (amount r) 0 ≡ cond (eqb (machine_at e.current p) m)
     (requirement_of (instance_of e) p r) 0
-used_share e p m r amount at_is is =
-    cc
+used_share e p m r amount at_is is = cc
 
 between_share : {home at : ℕ} (e : Drafted) (p m r : ℕ) (amount : ℕ → ℕ) → home ≡ machine_at e.initial p →
     at ≡ machine_at e.current p → amount r ≡ requirement_of (instance_of e) p r →
@@ -337,8 +330,6 @@ pub between_enough : {d e : Drafted} {p : ℕ} {loads : Loads} (m r : ℕ) → A
     requirement_of (instance_of e) p r ≤ cell (resource_count e.origin) loads.between.items m r
 between_enough m r are one w there =
     omega (arith, transient_kept m r are w, rw there at (transient_more m r one (rw one.origin at w)))
-
--- what a process requires at a row that was read
 
 -- the row of a machine
 

@@ -48,9 +48,6 @@ unfolding with_process_rows row_balance balance_share balance_weight_of target_o
     capacity_of resource_count balance_count
 row_balance_with i rows requirements m u = refl
 
-pub same_origin : (d e : Drafted) → e.origin ≡ d.origin → (f : Tables → ℕ) → f d.origin ≡ f e.origin
-same_origin d e origin f = cc
-
 -- use
 
 pub use_more : {d e : Drafted} {p : ℕ} (m r : ℕ) → OneMore d e p → r < resource_count d.origin →
@@ -185,25 +182,22 @@ load_elsewhere {d} {e} {p} m more apart = load_here e d.origin m more.origin
     (λ r column. omega (arith, rw (ne_eqb (machine_at e.current p) m apart) at (use_more m r more column)))
     ∙ sym (load_here d d.origin m refl)
 
+-- a sum over the machines that changes at one machine
+machines_more : (d e : Drafted) (m high_cost low_cost : ℕ) (high low : ℕ → ℕ) → e.origin ≡ d.origin →
+    m < machine_count d.origin → ((k : ℕ) → k ≢ m → high k ≡ low k) →
+    high_cost ≡ total (machine_count (instance_of e)) high → low_cost ≡ total (machine_count (instance_of d)) low →
+    high_cost + low m ≡ low_cost + high m
+unfolding machine_count with_process_rows
+machines_more d e m high_cost low_cost high low origin within others high_is low_is =
+    cc (total_change (machine_count d.origin) m high low within (λ k k_in apart. others k apart))
+
 pub load_more : (d e : Drafted) (p m : ℕ) → OneMore d e p → machine_at e.current p ≡ m → m < machine_count d.origin →
     load_cost (instance_of e) e.current + row_load d.origin m (use_of (instance_of d) d.current m) ≡
     load_cost (instance_of d) d.current + row_load d.origin m (use_of (instance_of e) e.current m)
-unfolding machine_count with_process_rows
-load_more d e p m more here within =
-    let high = machine_load (instance_of e) e.current in
-    let changed = total_change (machine_count d.origin) m high (machine_load (instance_of d) d.current) within
-    (λ k k_in apart. load_elsewhere k more (λ same. apart (sym same ∙ here))) in
-    let all_high : load_cost (instance_of e) e.current ≡ total (machine_count d.origin) high =
-    cc (load_by_machine (instance_of e) e.current, more.origin) in
-    omega (
-      arith,
-      changed,
-      load_here d d.origin m refl,
-      load_here e d.origin m more.origin,
-      load_by_machine
-          (instance_of d) d.current,
-      all_high,
-    )
+load_more d e p m more here within = rw (← load_here d d.origin m refl, ← load_here e d.origin m more.origin)
+    (machines_more d e m _ _ (machine_load (instance_of e) e.current) (machine_load (instance_of d) d.current)
+    more.origin within (λ k apart. load_elsewhere k more (λ same. apart (sym same ∙ here)))
+    (load_by_machine (instance_of e) e.current) (load_by_machine (instance_of d) d.current))
 
 balance_here : (f : Drafted) (i : Tables) (m : ℕ) → f.origin ≡ i → machine_balance (instance_of f) f.current m ≡
     row_balance i m (use_of (instance_of f) f.current m)
@@ -221,22 +215,11 @@ pub balance_more : (d e : Drafted) (p m : ℕ) → WellFormed d.origin → OneMo
     m < machine_count d.origin → balance_cost (instance_of e) e.current + row_balance d.origin m
     (use_of (instance_of d) d.current m) ≡ balance_cost (instance_of d) d.current + row_balance d.origin m
     (use_of (instance_of e) e.current m)
-unfolding machine_count with_process_rows
 balance_more d e p m limits more here within =
-    let high = machine_balance (instance_of e) e.current in
-    let changed = total_change (machine_count d.origin) m high (machine_balance (instance_of d) d.current) within
-    (λ k k_in apart. balance_elsewhere k limits more (λ same. apart (sym same ∙ here))) in
-    let all_high : balance_cost (instance_of e) e.current ≡ total (machine_count d.origin) high =
-    cc (balance_by_machine (instance_of e) e.current, more.origin) in
-    omega (
-      arith,
-      changed,
-      balance_here d d.origin m refl,
-      balance_here e d.origin m more.origin,
-      balance_by_machine
-          (instance_of d) d.current,
-      all_high,
-    )
+    rw (← balance_here d d.origin m refl, ← balance_here e d.origin m more.origin)
+    (machines_more d e m _ _ (machine_balance (instance_of e) e.current) (machine_balance (instance_of d) d.current)
+    more.origin within (λ k apart. balance_elsewhere k limits more (λ same. apart (sym same ∙ here)))
+    (balance_by_machine (instance_of e) e.current) (balance_by_machine (instance_of d) d.current))
 
 weighted : (v w x y z : ℕ) → v ≡ w → x ≡ y + z → v * x ≡ w * y + w * z
 weighted v w x y z same sum = rw (same, sum) (grind arith)

@@ -278,3 +278,10 @@ few_of {d} sound =
 
 pub few_rows : {d : Drafted} {parts : Parts} → IsKeptDraft d parts → length d.rows ≤ 50000
 few_rows h = (few_of h.sound).rows
+
+-- each list of machines has one of each process
+pub initial_read : {d : Drafted} {p : ℕ} → IsSoundDraft d → p < length d.rows → p < length d.initial
+initial_read sound within = omega (arith, (few_of sound).initial)
+
+pub current_read : {d : Drafted} {p : ℕ} → IsSoundDraft d → p < length d.rows → p < length d.current
+current_read sound within = omega (arith, (few_of sound).current)

@@ -8,7 +8,7 @@ use Rattle.ra_base.specs.declared.ids.Service.{Service}
 use Rattle.ra_base.specs.declared.causes.Cause.{Cause}
 use Rattle.ra_base.specs.declared.causes.Cause.TheVariants.{Capacity, Transient, Conflict, Spread, Dependency}
 use Rattle.ra_model.specs.declared.raw.Tables.{Tables}
-use Rattle.ra_model.specs.Numbers.{service_row, machine_row, service_count}
+use Rattle.ra_model.specs.Numbers.{service_row, service_count}
 use Rattle.ra_model.specs.Numbers.{dependency_count, dependency_start, dependency_end, transient_at, capacity_of}
 use Rattle.ra_model.specs.Numbers.{spread_of, need_of, need_at, neighbourhood_of, service_weight_of}
 use Rattle.ra_model.specs.Usage.{use_of, transient_of}
@@ -25,6 +25,7 @@ use Rattle.ra_base.proofs.Searches.{or_else_none, first_none_from, first_same}
 use Rattle.ra_base.proofs.Picks.{pick_first}
 use Rattle.ra_edit.proofs.BrokenLaws.{dependencies_with, capacity_with, transient_with, need_with, spread_with}
 use Rattle.ra_edit.proofs.BrokenLaws.{services_with}
+use Rattle.ra_edit.proofs.ShareLaws.{neighbourhood_with}
 
 pub capacity_over : (e : Drafted) (m r used cap : ℕ) → used ≡ use_of (instance_of e) e.current m r →
     cap ≡ capacity_of e.origin m r → cap < used → Some (Capacity (record { 0 = m }) (record { 0 = r }) used cap) ≡
@@ -115,10 +116,6 @@ pub ruleset needs = (need_far, need_near)
 
 pub ruleset lefts = (left_some, left_none)
 
-pub label_in : (e : Drafted) (m : ℕ) → neighbourhood_of (instance_of e) m ≡ neighbourhood_of e.origin m
-unfolding with_process_rows neighbourhood_of machine_row
-label_in e m = refl
-
 pub service_weight_in : (e : Drafted) → service_weight_of (instance_of e) ≡ service_weight_of e.origin
 unfolding with_process_rows service_weight_of
 service_weight_in e = refl
@@ -204,7 +201,7 @@ dependencies_from e s same = cc (dependencies_with e s)
 
 pub label_from : {i : Tables} (e : Drafted) (m : ℕ) → e.origin ≡ i → neighbourhood_of (instance_of e) m ≡
     neighbourhood_of i m
-label_from e m same = cc (label_in e m)
+label_from e m same = cc (neighbourhood_with e.origin e.rows e.requirements m)
 
 pub need_from : {i : Tables} (e : Drafted) (s k : ℕ) → e.origin ≡ i → need_of (instance_of e) s k ≡ need_of i s k
 need_from e s k same = cc (need_with e s k)

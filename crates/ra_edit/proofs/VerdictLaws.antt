@@ -37,6 +37,8 @@ use Rattle.ra_edit.specs.Replies.{barred, broken_in}
 use Rattle.ra_edit.specs.Keeping.{IsSoundDraft, IsKeptDraft}
 use Rattle.ra_edit.proofs.ShareLaws.{load_more, balance_more, process_more, way_more, moved_more, load_term}
 use Rattle.ra_edit.proofs.ShareLaws.{balance_term}
+use Rattle.ra_edit.proofs.BrokenLaws.{services_with, with_both}
+use Rattle.ra_edit.proofs.TestLaws.{service_weight_in}
 use Rattle.ra_edit.proofs.AddedLaws.{added_law}
 use Rattle.ra_edit.proofs.RetiredLaws.{retired_law}
 use Rattle.ra_edit.proofs.ResizedLaws.{resized_law}
@@ -148,14 +150,10 @@ unfolding broken_in
 come_broken {d} {e} {s} {m} kept come = added_law d e (length d.rows) s m come.more kept.unbroken come.service come.home
     come.here come.service_in come.machine_in
 
-pub service_there : {d : Drafted} (p : ℕ) → IsSoundDraft d → p < length d.rows →
-    service_of (instance_of d) p < service_count d.origin
-unfolding with_process_rows process_count service_count
-service_there p sound within = sound.well_formed.services p within
-
-pub gone_service : {d e : Drafted} {p s : ℕ} → IsSoundDraft d → HasGone d e p → s ≡ service_of (instance_of d) p →
+pub service_at : {d : Drafted} {p s : ℕ} → IsSoundDraft d → p < length d.rows → s ≡ service_of (instance_of d) p →
     s < service_count d.origin
-gone_service {p} sound gone s_is = omega (arith, s_is, service_there p sound gone.there)
+unfolding with_process_rows process_count service_count
+service_at {p} sound within is = rw is (sound.well_formed.services p within)
 
 pub gone_broken : {d e : Drafted} {parts : Parts} {p s : ℕ} (label : ℕ) → IsKeptDraft d parts → HasGone d e p →
     s ≡ service_of (instance_of d) p → label ≡ neighbourhood_of d.origin (machine_at d.current p) →
@@ -163,7 +161,7 @@ pub gone_broken : {d e : Drafted} {parts : Parts} {p s : ℕ} (label : ℕ) → 
 unfolding broken_in
 gone_broken {d} {e} {p} {s} label kept gone s_is label_is =
     retired_law e d p s label gone.fewer kept.unbroken (sym s_is)
-    (rw gone.fewer.origin at (gone_service kept.sound gone s_is))
+    (rw gone.fewer.origin at (service_at kept.sound gone.there s_is))
     (cc)
 
 machines_less : (d : Drafted) (p : ℕ) → machine_count (retired d p).origin ≡ machine_count d.origin
@@ -188,17 +186,15 @@ other_broken {d} {e} {p} {home} {here} kept other home_is here_is =
 
 -- what it costs
 
+-- the parts with these five numbers
+abbrev pub parts_with : ℕ → ℕ → ℕ → ℕ → ℕ → Parts
+parts_with l b p s m =
+    record { load = l; balance = b; process = p; service = s; machine = m; total = l + b + p + s + m }
+
 parts_from : (e : Drafted) (l b p s m : ℕ) → l ≡ load_cost (instance_of e) e.current →
     b ≡ balance_cost (instance_of e) e.current → p ≡ process_cost (instance_of e) e.initial e.current →
     s ≡ service_cost (instance_of e) e.initial e.current → m ≡ machine_cost (instance_of e) e.initial e.current →
-    record {
-      load = l;
-      balance = b;
-      process = p;
-      service = s;
-      machine = m;
-      total = l + b + p + s + m;
-    } ≡ parts_of (instance_of e) e.initial e.current
+    parts_with l b p s m ≡ parts_of (instance_of e) e.initial e.current
 unfolding parts_of objective
 parts_from e l b p s m l_is b_is p_is s_is m_is = rw (l_is, b_is, p_is, s_is, m_is) refl
 
@@ -252,15 +248,6 @@ moved_same {e} {p} s more home =
     never true = refl
     never false = refl
 
-services_both : (d e : Drafted) → e.origin ≡ d.origin → service_count (instance_of e) ≡ service_count (instance_of d)
-unfolding with_process_rows service_count
-services_both d e origin = cc
-
-weight_both : (d e : Drafted) → e.origin ≡ d.origin → service_weight_of (instance_of e) ≡ service_weight_of
-    (instance_of d)
-unfolding with_process_rows service_weight_of
-weight_both d e origin = cc
-
 service_same : {d e : Drafted} {p : ℕ} → OneMore d e p → machine_at e.initial p ≡ machine_at e.current p →
     service_cost (instance_of e) e.initial e.current ≡ service_cost (instance_of d) d.initial d.current
 unfolding service_cost
@@ -269,8 +256,9 @@ service_same {d} {e} more home =
     greatest (service_count (instance_of d)) (moved_of (instance_of d) d.initial d.current) =
     greatest_same (service_count (instance_of e)) (moved_of (instance_of e) e.initial e.current)
     (moved_of (instance_of d) d.initial d.current) (λ s s_in. moved_same s more home)
-    ∙ ap (λ n. greatest n (moved_of (instance_of d) d.initial d.current)) (services_both d e more.origin) in
-    rw (weight_both d e more.origin, counts) refl
+    ∙ ap (λ n. greatest n (moved_of (instance_of d) d.initial d.current))
+    (with_both d e service_count more.origin services_with) in
+    rw (with_both d e service_weight_of more.origin service_weight_in, counts) refl
 
 process_same : {d e : Drafted} {p : ℕ} → OneMore d e p → machine_at e.initial p ≡ machine_at e.current p →
     process_cost (instance_of e) e.initial e.current ≡ process_cost (instance_of d) d.initial d.current
@@ -286,14 +274,8 @@ pub come_parts : {d e : Drafted} {cost : Parts} {s m w : ℕ} {before after : Ma
     WellFormed d.origin →
     HasParts d cost → HasCome d e s m → AreCostsOn d m before → AreCostsOn e m after →
     l + before.load ≡ cost.load + after.load → b + before.balance ≡ cost.balance + after.balance →
-    w ≡ machine_weight_of d.origin * way_cost_of d.origin m m → record {
-      load = l;
-      balance = b;
-      process = cost.process;
-      service = cost.service;
-      machine = cost.machine + w;
-      total = l + b + cost.process + cost.service + (cost.machine + w);
-    } ≡ parts_of (instance_of e) e.initial e.current
+    w ≡ machine_weight_of d.origin * way_cost_of d.origin m m →
+    parts_with l b cost.process cost.service (cost.machine + w) ≡ parts_of (instance_of e) e.initial e.current
 come_parts {d} {e} {cost} {m} {w} {after} l b well has come before_is after_is l_is b_is w_is =
     let more = come.more in
     let origin = more.origin in
@@ -337,14 +319,7 @@ pub gone_parts : {d e : Drafted} {cost : Parts} {p m s : ℕ} {before after : Ma
     b + before.balance ≡ cost.balance + after.balance → q ≡ cost.process - process_weight_of d.origin * process_share
     (instance_of d) d.initial p (machine_at d.current p) → s ≡ service_cost (instance_of e) e.initial e.current →
     w ≡ cost.machine - machine_weight_of d.origin * way_cost_of d.origin (machine_at d.initial p)
-    (machine_at d.current p) → record {
-      load = l;
-      balance = b;
-      process = q;
-      service = s;
-      machine = w;
-      total = l + b + q + s + w;
-    } ≡ parts_of (instance_of e) e.initial e.current
+    (machine_at d.current p) → parts_with l b q s w ≡ parts_of (instance_of e) e.initial e.current
 gone_parts {d} {e} {p} {m} {s} {before} l b q w well has gone here m_in before_is after_is l_is b_is q_is s_is w_is =
     let origin = gone.fewer.origin in
     let low_in = rw origin at m_in in
@@ -395,14 +370,8 @@ pub other_parts : {d e : Drafted} {cost : Parts} {p m : ℕ} {before after : Mac
     WellFormed d.origin →
     m < machine_count d.origin → m ≡ machine_at d.current p → HasParts d cost → HasOther d e p → AreCostsOn d m before →
     AreCostsOn e m after → l + before.load ≡ cost.load + after.load →
-    b + before.balance ≡ cost.balance + after.balance → record {
-      load = l;
-      balance = b;
-      process = cost.process;
-      service = cost.service;
-      machine = cost.machine;
-      total = l + b + cost.process + cost.service + cost.machine;
-    } ≡ parts_of (instance_of e) e.initial e.current
+    b + before.balance ≡ cost.balance + after.balance →
+    parts_with l b cost.process cost.service cost.machine ≡ parts_of (instance_of e) e.initial e.current
 other_parts {d} {e} {cost} {p} {m} l b well m_in here has other before_is after_is l_is b_is =
     let low = retired d p in
     let low_origin = other.before.origin in
@@ -454,14 +423,14 @@ pub balance_counted : {d : Drafted} {m : ℕ} {costs : MachineCosts} → m < mac
     costs.balance ≤ balance_cost (instance_of d) d.current
 balance_counted {d} {m} within are = omega (arith, are.balance, balance_term d m within)
 
--- the machine of a process exists
-pub here_in : {d : Drafted} (p : ℕ) → IsSoundDraft d → p < length d.rows →
-    machine_at d.current p < machine_count d.origin
-here_in {d} p sound within = in_range d d.current p sound.current.in_range within
+-- the machines of a process exist, and so does its service
+pub here_at : {d : Drafted} {p m : ℕ} → IsSoundDraft d → p < length d.rows → m ≡ machine_at d.current p →
+    m < machine_count d.origin
+here_at {d} {p} sound within is = omega (arith, is, in_range d d.current p sound.current.in_range within)
 
-pub home_in : {d : Drafted} (p : ℕ) → IsSoundDraft d → p < length d.rows →
-    machine_at d.initial p < machine_count d.origin
-home_in {d} p sound within = in_range d d.initial p sound.initial.in_range within
+pub home_at : {d : Drafted} {p m : ℕ} → IsSoundDraft d → p < length d.rows → m ≡ machine_at d.initial p →
+    m < machine_count d.origin
+home_at {d} {p} sound within is = omega (arith, is, in_range d d.initial p sound.initial.in_range within)
 
 -- a product of two numbers of files
 pub times_small : (x y : ℕ) → x < 2 ^ 32 → y < 2 ^ 32 → x * y < 2 ^ 64

@@ -2,18 +2,16 @@
 use Rattle.std.proofs.Common.{◌∙◌, sym, arith, eq-eqb}
 use Rattle.ra_model.specs.Assignments.{machine_at}
 use Rattle.ra_edit.specs.Keeping.{tables_with}
-use Rattle.ra_edit.proofs.SoundLaws.{few_of}
+use Rattle.ra_edit.proofs.SoundLaws.{initial_read, current_read}
 use Rattle.ra_edit.proofs.ScanLaws.{cost_told, cost_moves}
 use Rattle.ra_model.specs.Costs.{process_share}
 use Rattle.ra_edit.proofs.costs.moved_share.Goals as goal
 
 pub machine_of-requires : goal.machine_of-requires
-machine_of-requires c =
-    omega (arith, (few_of c.requires.sound).current, c.requires.process)
+machine_of-requires c = current_read c.requires.sound c.requires.process
 
 pub machine_of-requires-2 : goal.machine_of-requires-2
-machine_of-requires-2 c =
-    omega (arith, (few_of c.requires.sound).initial, c.requires.process)
+machine_of-requires-2 c = initial_read c.requires.sound c.requires.process
 
 pub returns-then-machine_of : goal.returns-then-machine_of
 unfolding process_share

@@ -1,27 +1,26 @@
 -- A process that requires something else: what it touches, or what it costs.
-use Rattle.std.proofs.Common.{◌≡◌, ◌∙◌, ◌<◌, refl, sym, arith}
+use Rattle.std.proofs.Common.{◌≡◌, ◌∙◌, refl, sym, arith}
 use Rattle.ra_model.specs.Assignments.{machine_at}
-use Rattle.ra_model.specs.Numbers.{machine_count}
-use Rattle.ra_edit.specs.Loads.{draft_in}
+use Rattle.ra_edit.specs.Drafts.{Drafted}
+use Rattle.ra_edit.specs.Kinds.{HasOther, Asks}
+use Rattle.ra_edit.specs.Loads.{IsUseRow, draft_in}
+use Rattle.ra_edit.specs.Replies.{broken_in}
 use Rattle.ra_model.proofs.BoundLemmas.{use_under, transient_under}
 use Rattle.ra_edit.proofs.LoadLaws.{row_small, row_enough, row_other, use_step, transient_step, there_first, there_now}
-use Rattle.ra_edit.proofs.VerdictLaws.{has_gone, parts_told, other_broken, other_parts, here_in, home_in}
-use Rattle.ra_edit.proofs.SoundLaws.{few_of}
+use Rattle.ra_edit.proofs.VerdictLaws.{has_gone, parts_told, other_broken, other_parts, here_at, home_at}
+use Rattle.ra_edit.proofs.SoundLaws.{initial_read, current_read}
 use Rattle.ra_edit.proofs.verdicts.judge_resized.Goals as goal
+use Rattle.ra_edit.proofs.verdicts.judge_resized.Goals.{After-resized_breaks}
 
 pub machine_of-home-requires : goal.machine_of-home-requires
-machine_of-home-requires c = omega (arith, (few_of c.requires.held.kept.sound).initial, c.requires.process)
+machine_of-home-requires c = initial_read c.requires.held.kept.sound c.requires.process
 
 pub machine_of-here-requires : goal.machine_of-here-requires
-machine_of-here-requires c = omega (arith, (few_of c.requires.held.kept.sound).current, c.requires.process)
+machine_of-here-requires c = current_read c.requires.held.kept.sound c.requires.process
 
 pub use_row-requires : goal.use_row-requires
 use_row-requires c = record {
-  machine = omega (
-    arith,
-    c.machine_of-here.ensures,
-    here_in c.args.p.0 c.requires.held.kept.sound c.requires.process,
-  );
+  machine = here_at c.requires.held.kept.sound c.requires.process c.machine_of-here.ensures;
   grid = c.requires.held.loads_are.used_grid;
 }
 
@@ -40,11 +39,7 @@ row_changed-requires c =
 
 pub transient_row-requires : goal.transient_row-requires
 transient_row-requires c = record {
-  machine = omega (
-    arith,
-    c.machine_of-home.ensures,
-    home_in c.args.p.0 c.requires.held.kept.sound c.requires.process,
-  );
+  machine = home_at c.requires.held.kept.sound c.requires.process c.machine_of-home.ensures;
   grid = c.requires.held.loads_are.between_grid;
 }
 
@@ -64,11 +59,7 @@ row_changed-requires-2 c =
 
 pub transient_row-requires-2 : goal.transient_row-requires-2
 transient_row-requires-2 c = record {
-  machine = omega (
-    arith,
-    c.machine_of-here.ensures,
-    here_in c.args.p.0 c.requires.held.kept.sound c.requires.process,
-  );
+  machine = here_at c.requires.held.kept.sound c.requires.process c.machine_of-here.ensures;
   grid = c.requires.held.loads_are.between_grid;
 }
 
@@ -88,55 +79,52 @@ row_changed-requires-3 c =
 pub resized_breaks-requires : goal.resized_breaks-requires
 resized_breaks-requires c =
     record {
-      home = omega (
-        arith,
-        c.machine_of-home.ensures,
-        home_in c.args.p.0 c.requires.held.kept.sound
-            c.requires.process,
-      );
-      here = omega (
-        arith,
-        c.machine_of-here.ensures,
-        here_in c.args.p.0 c.requires.held.kept.sound
-            c.requires.process,
-      );
+      home = home_at c.requires.held.kept.sound c.requires.process c.machine_of-home.ensures;
+      here = here_at c.requires.held.kept.sound c.requires.process c.machine_of-here.ensures;
       used = rw c.as_slice.ensures (c.in_ok-used.ensures.one_each ∙ c.use_row.ensures.one_each);
       at_home = rw c.as_slice-2.ensures (c.in_ok-at_home.ensures.one_each ∙ c.transient_row.ensures.one_each);
       at_here = rw c.as_slice-3.ensures (c.in_ok-at_here.ensures.one_each ∙ c.transient_row-2.ensures.one_each);
     }
 
-pub returns-in-Some : goal.returns-in-Some
-returns-in-Some c = λ e other asks.
+-- the row of its machine after the edit, and what is broken then
+used_row : (c : After-resized_breaks) → (e : Drafted) → HasOther (draft_in c.args.kept.now) e c.args.p.0 →
+    Asks e c.args.p.0 c.args.asked.now → IsUseRow e c.machine_of-here.result.0 c.as_slice.result.now
+used_row c e other asks =
+    let here : c.machine_of-here.result.0 ≡ machine_at e.current c.args.p.0 =
+    rw other.current c.machine_of-here.ensures in
+    rw c.as_slice.ensures (row_other (use_step other.before (sym c.machine_of-here.ensures))
+    (use_step other.after (sym here)) (c.use_row.ensures.row _ refl c.requires.held.loads_are)
+    c.requirements_of-was.ensures asks c.in_ok-used.ensures.one_each c.in_ok-used.ensures.each)
+
+broken_then : (c : After-resized_breaks) → (e : Drafted) → HasOther (draft_in c.args.kept.now) e c.args.p.0 →
+    Asks e c.args.p.0 c.args.asked.now → broken_in e ≡ c.resized_breaks.result
+broken_then c e other asks =
     let d = draft_in c.args.kept.now in
     let home = c.machine_of-home.ensures in
     let here = c.machine_of-here.ensures in
     let home_e : c.machine_of-home.result.0 ≡ machine_at e.initial c.args.p.0 = rw other.initial home in
     let here_e : c.machine_of-here.result.0 ≡ machine_at e.current c.args.p.0 = rw other.current here in
-    let used = row_other (use_step other.before (sym here)) (use_step other.after (sym here_e))
-    (c.use_row.ensures.row d refl c.requires.held.loads_are)
-    c.requirements_of-was.ensures asks c.in_ok-used.ensures.one_each c.in_ok-used.ensures.each in
     let at_home = row_other (transient_step _ other.before (there_first d _ home)) (transient_step _ other.after
     (there_first e _ home_e)) (c.transient_row.ensures.row d refl c.requires.held.loads_are)
     c.requirements_of-was.ensures asks c.in_ok-at_home.ensures.one_each c.in_ok-at_home.ensures.each in
     let at_here = row_other (transient_step _ other.before (there_now d _ here)) (transient_step _ other.after
     (there_now e _ here_e)) (c.transient_row-2.ensures.row d refl c.requires.held.loads_are)
     c.requirements_of-was.ensures asks c.in_ok-at_here.ensures.one_each c.in_ok-at_here.ensures.each in
-    let broken = other_broken c.requires.held.kept other home here
-    ∙ sym (c.resized_breaks.ensures e (other.after.origin ∙ sym other.before.origin) (rw c.as_slice.ensures used)
-    (rw c.as_slice-2.ensures at_home) (rw c.as_slice-3.ensures at_here)) in
-    broken ∙ c.in-Some.is
+    other_broken c.requires.held.kept other home here
+    ∙ sym (c.resized_breaks.ensures e (other.after.origin ∙ sym other.before.origin)
+    (used_row c e other asks)
+    (rw c.as_slice-2.ensures at_home) (rw c.as_slice-3.ensures at_here))
+
+pub returns-in-Some : goal.returns-in-Some
+returns-in-Some c = λ e other asks. broken_then (goal.at.returns-in-Some c).After-resized_breaks e other asks
+    ∙ c.in-Some.is
 
 pub costs_with-costs-requires : goal.costs_with-costs-requires
 costs_with-costs-requires c =
     record {
       kept = c.requires.held.kept;
       loads = c.requires.held.loads_are;
-      machine = omega (
-        arith,
-        c.machine_of-here.ensures,
-        here_in c.args.p.0
-            c.requires.held.kept.sound c.requires.process,
-      );
+      machine = here_at c.requires.held.kept.sound c.requires.process c.machine_of-here.ensures;
       one_each = rw c.as_slice-4.ensures (c.in_ok-used.ensures.one_each ∙ c.use_row.ensures.one_each);
     }
 
@@ -154,29 +142,14 @@ summed-cost-requires c =
 
 pub returns : goal.returns
 returns c = λ e other asks.
-    let d = draft_in c.args.kept.now in
-    let home = c.machine_of-home.ensures in
     let here = c.machine_of-here.ensures in
-    let home_e : c.machine_of-home.result.0 ≡ machine_at e.initial c.args.p.0 = rw other.initial home in
-    let here_e : c.machine_of-here.result.0 ≡ machine_at e.current c.args.p.0 = rw other.current here in
-    let used = row_other (use_step other.before (sym here)) (use_step other.after (sym here_e))
-    (c.use_row.ensures.row d refl c.requires.held.loads_are)
-    c.requirements_of-was.ensures asks c.in_ok-used.ensures.one_each c.in_ok-used.ensures.each in
-    let at_home = row_other (transient_step _ other.before (there_first d _ home)) (transient_step _ other.after
-    (there_first e _ home_e)) (c.transient_row.ensures.row d refl c.requires.held.loads_are)
-    c.requirements_of-was.ensures asks c.in_ok-at_home.ensures.one_each c.in_ok-at_home.ensures.each in
-    let at_here = row_other (transient_step _ other.before (there_now d _ here)) (transient_step _ other.after
-    (there_now e _ here_e)) (c.transient_row-2.ensures.row d refl c.requires.held.loads_are)
-    c.requirements_of-was.ensures asks c.in_ok-at_here.ensures.one_each c.in_ok-at_here.ensures.each in
-    let broken = other_broken c.requires.held.kept other home here
-    ∙ sym (c.resized_breaks.ensures e (other.after.origin ∙ sym other.before.origin) (rw c.as_slice.ensures used)
-    (rw c.as_slice-2.ensures at_home) (rw c.as_slice-3.ensures at_here)) in
-    let within : c.machine_of-here.result.0 < machine_count d.origin =
-    omega (arith, here, here_in c.args.p.0 c.requires.held.kept.sound c.requires.process) in
+    let at = (goal.at.returns c).After-resized_breaks in
     let costs = c.costs_with-costs.ensures.costs e (other.after.origin ∙ sym other.before.origin)
-    (rw c.as_slice-4.ensures used) in (
-      broken ∙ c.in_default.is,
+    (rw (c.as_slice-4.ensures, ← c.as_slice.ensures) (used_row at e other asks)) in (
+      broken_then at e other asks ∙ c.in_default.is,
       c.summed-cost.ensures ∙ other_parts c.costs_with-costs.result.load c.costs_with-costs.result.balance
-          c.args.kept.now.inst.now.well_formed within here (parts_told c.requires.held.kept c.small.ensures) other
-          costs.before_are costs.after_are costs.load costs.balance,
+          c.args.kept.now.inst.now.well_formed
+          (here_at c.requires.held.kept.sound c.requires.process here) here
+          (parts_told c.requires.held.kept c.small.ensures) other costs.before_are costs.after_are costs.load
+          costs.balance,
     )

@@ -1,12 +1,12 @@
 -- A process that has gone: what it touched, or what is left of the cost.
-use Rattle.std.proofs.Common.{◌∙◌, sym, ap, arith}
+use Rattle.std.proofs.Common.{◌∙◌, sym, ap}
 use Rattle.ra_model.specs.Numbers.{neighbourhood_of}
-use Rattle.ra_edit.proofs.SoundLaws.{few_of}
-use Rattle.ra_edit.proofs.VerdictLaws.{service_there, gone_broken, here_in}
+use Rattle.ra_edit.proofs.SoundLaws.{current_read}
+use Rattle.ra_edit.proofs.VerdictLaws.{gone_broken, here_at, service_at}
 use Rattle.ra_edit.proofs.verdicts.judge_retired.Goals as goal
 
 pub machine_of-here-requires : goal.machine_of-here-requires
-machine_of-here-requires c = omega (arith, (few_of c.requires.held.kept.sound).current, c.requires.process)
+machine_of-here-requires c = current_read c.requires.held.kept.sound c.requires.process
 
 pub retired_breaks-requires : goal.retired_breaks-requires
 retired_breaks-requires c =
@@ -14,20 +14,9 @@ retired_breaks-requires c =
       sound = c.requires.held.kept.sound;
       members = c.requires.held.members_are;
       topology = c.requires.held.topology_is;
-      service =
-          omega (
-            arith,
-            c.service_of-s.ensures,
-            service_there c.args.p.0 c.requires.held.kept.sound
-                c.requires.process,
-          );
+      service = service_at c.requires.held.kept.sound c.requires.process c.service_of-s.ensures;
       process = c.requires.process;
-      machine = omega (
-        arith,
-        c.machine_of-here.ensures,
-        here_in c.args.p.0 c.requires.held.kept.sound
-            c.requires.process,
-      );
+      machine = here_at c.requires.held.kept.sound c.requires.process c.machine_of-here.ensures;
       mine = c.service_of-s.ensures;
       here = c.machine_of-here.ensures;
     }

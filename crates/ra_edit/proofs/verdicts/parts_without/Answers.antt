@@ -3,12 +3,12 @@ use Rattle.std.proofs.Common.{◌∙◌, ◌<◌, refl, sym, arith}
 use Rattle.ra_model.specs.Numbers.{machine_count}
 use Rattle.ra_edit.specs.Loads.{draft_in}
 use Rattle.ra_edit.proofs.LoadLaws.{row_less, row_enough, use_step}
-use Rattle.ra_edit.proofs.VerdictLaws.{parts_told, has_gone, gone_process, gone_way, gone_parts, here_in}
+use Rattle.ra_edit.proofs.VerdictLaws.{parts_told, has_gone, gone_process, gone_way, gone_parts, here_at}
 use Rattle.ra_edit.proofs.verdicts.parts_without.Goals as goal
 
 pub use_row-requires : goal.use_row-requires
 use_row-requires c = record {
-  machine = omega (arith, c.requires.here, here_in c.args.p.0 c.requires.held.kept.sound c.requires.process);
+  machine = here_at c.requires.held.kept.sound c.requires.process c.requires.here;
   grid = c.requires.held.loads_are.used_grid;
 }
 
@@ -25,12 +25,7 @@ pub costs_with-costs-requires : goal.costs_with-costs-requires
 costs_with-costs-requires c = record {
   kept = c.requires.held.kept;
   loads = c.requires.held.loads_are;
-  machine = omega (
-    arith,
-    c.requires.here,
-    here_in c.args.p.0
-        c.requires.held.kept.sound c.requires.process,
-  );
+  machine = here_at c.requires.held.kept.sound c.requires.process c.requires.here;
   one_each = rw c.as_slice.ensures (c.in_ok-used.ensures.one_each ∙ c.use_row.ensures.one_each);
 }
 
@@ -71,7 +66,7 @@ summed-requires c =
 pub returns : goal.returns
 returns c = λ e gone.
     let within : c.args.here.0 < machine_count c.args.kept.now.inst.now.tables =
-    omega (arith, c.requires.here, here_in c.args.p.0 c.requires.held.kept.sound c.requires.process) in
+    here_at c.requires.held.kept.sound c.requires.process c.requires.here in
     let costs = c.costs_with-costs.ensures.costs e (sym gone.fewer.origin)
     (rw c.as_slice.ensures (row_less (use_step gone.fewer (sym c.requires.here))
     (c.use_row.ensures.row (draft_in c.args.kept.now) refl c.requires.held.loads_are) c.requirements_of.ensures

@@ -1,12 +1,18 @@
 use Rattle.std.proofs.Common.{◌≡◌, length, refl, ap, sym, ◌∙◌}
 use Rattle.ra_edit_read.specs.EditLists.{edit_at, row_of}
+use Rattle.ra_edit.specs.declared.replies.EditReply.TheVariants.{Done, Broken}
+use Rattle.ra_edit.specs.declared.verdicts.Judged.TheVariants.{Fine}
+use Rattle.std.proofs.Common.{None}
+use Rattle.ra_edit.specs.Drafts.{Drafted}
 use Rattle.ra_edit.specs.Editing.{edited}
-use Rattle.ra_edit.specs.Replies.{barred}
-use Rattle.ra_edit.specs.Keeping.{drafted}
+use Rattle.ra_edit.specs.Kinds.{IsEdited}
+use Rattle.ra_edit.specs.Replies.{barred, edit_answer, after_edit}
+use Rattle.ra_edit.specs.Keeping.{drafted, IsJudgedDraft}
 use Rattle.ra_edit.specs.Loads.{draft_in}
-use Rattle.ra_edit.proofs.DraftLaws.{answered_barred, kept_barred, answered_broken, kept_broken, answered_done}
-use Rattle.ra_edit.proofs.DraftLaws.{kept_done, next_sound, next_edited, next_fits, next_width}
+use Rattle.ra_edit.proofs.DraftLaws.{answered_barred, kept_barred, broken_edit, done_edit, next_sound, next_edited}
+use Rattle.ra_edit.proofs.DraftLaws.{next_fits, next_width}
 use Rattle.ra_edit.proofs.draft.Draft.edit.Goals as goal
+use Rattle.ra_edit.proofs.draft.Draft.edit.Goals.{In-Refused}
 
 pub returns-in-Some-clause-reply : goal.returns-in-Some-clause-reply
 returns-in-Some-clause-reply c =
@@ -29,29 +35,21 @@ judge-requires c =
           c.requires.fits c.requirements_of-asked.ensures.one_each;
     }
 
+-- the edit breaks a constraint: what is answered, and what is left
+refused : (c : In-Refused) → let d = draft_in c.self.inside.kept in
+    (Broken c.in-Refused.cause ≡ edit_answer d c.args.edits.now c.args.i) × (d ≡ after_edit d c.args.edits.now c.args.i)
+refused c =
+    let free = ap (barred _) (sym c.edit-edit.ensures) ∙ sym c.barred.ensures ∙ c.in_default.is in
+    let asked = c.requirements_of-asked.ensures in
+    broken_edit (draft_in c.self.inside.kept) c.args.edits.now c.args.i c.in-Refused.cause free
+    (rw c.in-Refused.is at (c.in_ok-cause.ensures _ (next_edited _ c.args.i c.self.view_is c.self.invariant.kept.sound
+    c.requires.fits c.requires.edit c.edit-edit.ensures asked.row free asked.one_each refl)))
+
 pub returns-in-Refused-clause-reply : goal.returns-in-Refused-clause-reply
-returns-in-Refused-clause-reply c =
-    let d = draft_in c.self.inside.kept in
-    let next = edited d (edit_at c.args.edits.now c.args.i)
-    (row_of c.args.edits.now.width c.args.edits.now.requirements c.args.i) in
-    let free = ap (barred (length d.rows)) (sym c.edit-edit.ensures) ∙ sym c.barred.ensures ∙ c.in_default.is in
-    rw c.self.view_is at (answered_broken d next c.args.edits.now c.args.i c.in-Refused.cause free refl
-    (rw c.in-Refused.is at (c.in_ok-cause.ensures next (next_edited next c.args.i
-    c.self.view_is c.self.invariant.kept.sound c.requires.fits c.requires.edit
-    c.edit-edit.ensures c.requirements_of-asked.ensures.row free refl
-    (cc (c.requirements_of-asked.ensures.row, c.requirements_of-asked.ensures.one_each))))))
+returns-in-Refused-clause-reply c = rw c.self.view_is at (refused c).0
 
 pub returns-in-Refused-clause-after : goal.returns-in-Refused-clause-after
-returns-in-Refused-clause-after c =
-    let d = draft_in c.self.inside.kept in
-    let next = edited d (edit_at c.args.edits.now c.args.i)
-    (row_of c.args.edits.now.width c.args.edits.now.requirements c.args.i) in
-    let free = ap (barred (length d.rows)) (sym c.edit-edit.ensures) ∙ sym c.barred.ensures ∙ c.in_default.is in
-    rw c.self.view_is at (kept_broken d next c.args.edits.now c.args.i c.in-Refused.cause free refl
-    (rw c.in-Refused.is at (c.in_ok-cause.ensures next (next_edited next c.args.i
-    c.self.view_is c.self.invariant.kept.sound c.requires.fits c.requires.edit
-    c.edit-edit.ensures c.requirements_of-asked.ensures.row free refl
-    (cc (c.requirements_of-asked.ensures.row, c.requirements_of-asked.ensures.one_each))))))
+returns-in-Refused-clause-after c = rw c.self.view_is at (refused c).1
 
 pub follow-requires : goal.follow-requires
 follow-requires c =
@@ -103,58 +101,51 @@ invariant_of-self c = record {
   room = c.self.invariant.room;
 }
 
+-- the edit is done: the lists that are kept then are those of what it makes
+abbrev next : goal.After-parts-in-Fine-1 → Drafted
+next c = drafted c.self.inside.kept.inst.now.tables c.edit.new.self
+
+free : (c : goal.After-parts-in-Fine-1) →
+    barred (length c.self.inside.kept.lists.rows.items) (edit_at c.args.edits.now c.args.i) ≡ None
+free c = ap (barred _) (sym c.edit-edit.ensures) ∙ sym c.barred.ensures ∙ c.in_default.is
+
+next_is : (c : goal.After-parts-in-Fine-1) → next c ≡ edited (draft_in c.self.inside.kept)
+    (edit_at c.args.edits.now c.args.i)
+    (row_of c.args.edits.now.width c.args.edits.now.requirements c.args.i)
+next_is c = cc (c.edit.ensures.lists, c.edit-edit.ensures, c.requirements_of-asked.ensures.row)
+
+made : (c : goal.After-parts-in-Fine-1) →
+    IsEdited (draft_in c.self.inside.kept) c.edit-edit.result c.requirements_of-asked.result.now (next c)
+made c = next_edited _ c.args.i c.self.view_is c.self.invariant.kept.sound c.requires.fits c.requires.edit
+    c.edit-edit.ensures c.requirements_of-asked.ensures.row (free c)
+    c.requirements_of-asked.ensures.one_each (next_is c)
+
+found : (c : goal.After-parts-in-Fine-1) → IsJudgedDraft (next c) (Fine c.in-Fine.parts)
+found c = rw c.in-Fine.is at (c.in_ok-cause.ensures _ (made c))
+
+done : (c : goal.After-parts-in-Fine-1) → let d = draft_in c.self.inside.kept in
+    (Done c.in-Fine.parts.total ≡ edit_answer d c.args.edits.now c.args.i)
+    × (next c ≡ after_edit d c.args.edits.now c.args.i)
+done c =
+    done_edit (draft_in c.self.inside.kept) c.args.edits.now c.args.i (free c) (next_is c) (found c).0 (found c).1
+
 pub invariant_of-self-in-Fine : goal.invariant_of-self-in-Fine
-invariant_of-self-in-Fine c =
-    let d = draft_in c.self.inside.kept in
-    let next = drafted c.self.inside.kept.inst.now.tables c.edit.new.self in
-    let free = ap (barred (length d.rows)) (sym c.edit-edit.ensures) ∙ sym c.barred.ensures ∙ c.in_default.is in
-    let same : next ≡ edited d (edit_at c.args.edits.now c.args.i)
-    (row_of c.args.edits.now.width c.args.edits.now.requirements c.args.i) =
-    cc (c.edit.ensures.lists, c.edit-edit.ensures, c.requirements_of-asked.ensures.row) in
-    let width = ap length (sym c.requirements_of-asked.ensures.row) ∙ c.requirements_of-asked.ensures.one_each in
-    let made =
-    next_edited next c.args.i
-    c.self.view_is c.self.invariant.kept.sound c.requires.fits c.requires.edit
-    c.edit-edit.ensures c.requirements_of-asked.ensures.row free same width in
-    let found = rw c.in-Fine.is at (c.in_ok-cause.ensures next made) in
-    record {
-      kept = record {
-        sound = next_sound c.args.i c.self.view_is c.self.invariant.kept.sound
-            c.requires.fits c.requires.edit free same width;
-        unbroken = found.0;
-        parts_are = found.1;
-      };
-      loads_are = c.follow-in-Fine.ensures next made;
-      members_are = c.in_ok-follow-in-Fine.ensures.after next c.requirements_of-asked.result.now made;
-      topology_is = c.self.invariant.topology_is;
-      moved_are = c.follow_moved.ensures next c.requirements_of-asked.result.now made;
-      room = c.edit.ensures.room;
-    }
+invariant_of-self-in-Fine c = record {
+  kept = record {
+    sound = next_sound c.args.i c.self.view_is c.self.invariant.kept.sound c.requires.fits c.requires.edit (free c)
+        c.requirements_of-asked.ensures.row c.requirements_of-asked.ensures.one_each (next_is c);
+    unbroken = (found c).0;
+    parts_are = (found c).1;
+  };
+  loads_are = c.follow-in-Fine.ensures _ (made c);
+  members_are = c.in_ok-follow-in-Fine.ensures.after _ c.requirements_of-asked.result.now (made c);
+  topology_is = c.self.invariant.topology_is;
+  moved_are = c.follow_moved.ensures _ c.requirements_of-asked.result.now (made c);
+  room = c.edit.ensures.room;
+}
 
 pub returns-in_ok-follow-in-Fine-clause-reply : goal.returns-in_ok-follow-in-Fine-clause-reply
-returns-in_ok-follow-in-Fine-clause-reply c =
-    let d = draft_in c.self.inside.kept in
-    let next = drafted c.self.inside.kept.inst.now.tables c.edit.new.self in
-    let free = ap (barred (length d.rows)) (sym c.edit-edit.ensures) ∙ sym c.barred.ensures ∙ c.in_default.is in
-    let same : next ≡ edited d (edit_at c.args.edits.now c.args.i)
-    (row_of c.args.edits.now.width c.args.edits.now.requirements c.args.i) =
-    cc (c.edit.ensures.lists, c.edit-edit.ensures, c.requirements_of-asked.ensures.row) in
-    let found = rw c.in-Fine.is at (c.in_ok-cause.ensures next (next_edited next c.args.i
-    c.self.view_is c.self.invariant.kept.sound c.requires.fits c.requires.edit
-    c.edit-edit.ensures c.requirements_of-asked.ensures.row free same (cc
-    (c.requirements_of-asked.ensures.row, c.requirements_of-asked.ensures.one_each)))) in
-    rw c.self.view_is at (answered_done d c.args.edits.now c.args.i free same found.0 found.1)
+returns-in_ok-follow-in-Fine-clause-reply c = rw c.self.view_is at (done c).0
 
 pub returns-in_ok-follow-in-Fine-clause-after : goal.returns-in_ok-follow-in-Fine-clause-after
-returns-in_ok-follow-in-Fine-clause-after c =
-    let d = draft_in c.self.inside.kept in
-    let next = drafted c.self.inside.kept.inst.now.tables c.edit.new.self in
-    let free = ap (barred (length d.rows)) (sym c.edit-edit.ensures) ∙ sym c.barred.ensures ∙ c.in_default.is in
-    let same : next ≡ edited d (edit_at c.args.edits.now c.args.i)
-    (row_of c.args.edits.now.width c.args.edits.now.requirements c.args.i) =
-    cc (c.edit.ensures.lists, c.edit-edit.ensures, c.requirements_of-asked.ensures.row) in
-    let found = rw c.in-Fine.is at (c.in_ok-cause.ensures next (next_edited next c.args.i
-    c.self.view_is c.self.invariant.kept.sound c.requires.fits c.requires.edit
-    c.edit-edit.ensures c.requirements_of-asked.ensures.row free same (cc
-    (c.requirements_of-asked.ensures.row, c.requirements_of-asked.ensures.one_each)))) in
-    rw c.self.view_is at (kept_done d next c.args.edits.now c.args.i c.in-Fine.parts free same found.0 found.1)
+returns-in_ok-follow-in-Fine-clause-after c = rw c.self.view_is at (done c).1

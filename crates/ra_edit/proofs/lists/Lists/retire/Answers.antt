@@ -1,7 +1,7 @@
 use Rattle.std.proofs.Common.{◌≡◌, ◌*◌, ◌<◌, length, ◌∙◌, arith}
 use Rattle.ra_edit.specs.Editing.{process_of}
 use Rattle.ra_edit.specs.Keeping.{drafted}
-use Rattle.ra_edit.proofs.SoundLaws.{few_of}
+use Rattle.ra_edit.proofs.SoundLaws.{few_of, initial_read, current_read}
 use Rattle.ra_edit.proofs.ListLaws.{dropped_is, last_within, last_fits}
 use Rattle.ra_edit.proofs.ListsLaws.{retired_is}
 use Rattle.ra_edit.proofs.lists.Lists.retire.Goals as goal
@@ -17,12 +17,10 @@ swap_remove_part-requires c =
     }
 
 pub swap_remove-requires-2 : goal.swap_remove-requires-2
-swap_remove-requires-2 c =
-    omega (arith, (few_of c.requires.sound).initial, c.requires.process)
+swap_remove-requires-2 c = initial_read c.requires.sound c.requires.process
 
 pub swap_remove-requires-3 : goal.swap_remove-requires-3
-swap_remove-requires-3 c =
-    omega (arith, (few_of c.requires.sound).current, c.requires.process)
+swap_remove-requires-3 c = current_read c.requires.sound c.requires.process
 
 pub returns-clause-lists : goal.returns-clause-lists
 returns-clause-lists c =

@@ -1,18 +1,18 @@
 -- One process less, and the same one more, which requires something else.
-use Rattle.std.proofs.Common.{◌<◌, slice_index, arith}
+use Rattle.std.proofs.Common.{◌<◌, slice_index}
 use Rattle.ra_model.specs.Numbers.{machine_count}
 use Rattle.ra_edit.specs.Editing.{retired}
 use Rattle.ra_edit.specs.Keeping.{drafted}
-use Rattle.ra_edit.proofs.SoundLaws.{few_of}
+use Rattle.ra_edit.proofs.SoundLaws.{initial_read, current_read}
 use Rattle.ra_edit.proofs.LoadLaws.{loads_more, used_below_less, between_below_less, row_there}
-use Rattle.ra_edit.proofs.VerdictLaws.{has_gone, here_in, home_in}
+use Rattle.ra_edit.proofs.VerdictLaws.{has_gone, here_at, home_at}
 use Rattle.ra_edit.proofs.loads.Loads.resize.Goals as goal
 
 pub machine_of-home-requires : goal.machine_of-home-requires
-machine_of-home-requires c = omega (arith, (few_of c.requires.sound).initial, c.requires.process)
+machine_of-home-requires c = initial_read c.requires.sound c.requires.process
 
 pub machine_of-here-requires : goal.machine_of-here-requires
-machine_of-here-requires c = omega (arith, (few_of c.requires.sound).current, c.requires.process)
+machine_of-here-requires c = current_read c.requires.sound c.requires.process
 
 pub come-requires : goal.come-requires
 unfolding retired
@@ -22,9 +22,9 @@ come-requires c =
     let are = c.retire.ensures (retired (drafted i c.args.lists.now) c.args.p.0) gone in
     let well = c.requires.sound.well_formed in
     let home : c.machine_of-home.result.0 < machine_count i =
-    omega (arith, c.machine_of-home.ensures, home_in c.args.p.0 c.requires.sound c.requires.process) in
+    home_at c.requires.sound c.requires.process c.machine_of-home.ensures in
     let here : c.machine_of-here.result.0 < machine_count i =
-    omega (arith, c.machine_of-here.ensures, here_in c.args.p.0 c.requires.sound c.requires.process) in
+    here_at c.requires.sound c.requires.process c.machine_of-here.ensures in
     rw c.resources.ensures (record {
       width = c.requires.asked;
       used = row_there (machine_count i) _ _ are.used_grid here;

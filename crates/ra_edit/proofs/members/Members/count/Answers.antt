@@ -1,40 +1,21 @@
 -- The process is counted where it is.
 use Rattle.std.proofs.Common.{arith}
-use Rattle.ra_edit.proofs.SoundLaws.{few_of}
+use Rattle.ra_edit.proofs.SoundLaws.{few_of, current_read}
 use Rattle.ra_edit.proofs.MemberLaws.{members_few, members_next, members_stay}
-use Rattle.ra_edit.proofs.VerdictLaws.{here_in, service_there}
+use Rattle.ra_edit.proofs.VerdictLaws.{here_at, service_at}
 use Rattle.ra_edit.proofs.members.Members.count.Goals as goal
 
 pub machine_of-m-requires : goal.machine_of-m-requires
-machine_of-m-requires c =
-    omega (arith, (few_of c.requires.sound).current, c.requires.process)
+machine_of-m-requires c = current_read c.requires.sound c.requires.process
 
 pub admit-requires : goal.admit-requires
-admit-requires c =
-    omega (
-      arith,
-      c.machine_of-m.ensures,
-      here_in c.args.p.0
-          c.requires.sound c.requires.process,
-    )
+admit-requires c = here_at c.requires.sound c.requires.process c.machine_of-m.ensures
 
 pub come-requires-clause-machine : goal.come-requires-clause-machine
-come-requires-clause-machine c =
-    omega (
-      arith,
-      c.machine_of-m.ensures,
-      here_in c.args.p.0
-          c.requires.sound c.requires.process,
-    )
+come-requires-clause-machine c = here_at c.requires.sound c.requires.process c.machine_of-m.ensures
 
 pub come-requires-clause-service : goal.come-requires-clause-service
-come-requires-clause-service c =
-    omega (
-      arith,
-      c.service_of-s.ensures,
-      service_there c.args.p.0
-          c.requires.sound c.requires.process,
-    )
+come-requires-clause-service c = service_at c.requires.sound c.requires.process c.service_of-s.ensures
 
 pub come-requires-clause-numbered : goal.come-requires-clause-numbered
 come-requires-clause-numbered c =

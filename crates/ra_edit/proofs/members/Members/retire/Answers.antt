@@ -1,31 +1,17 @@
 -- One process less.
-use Rattle.std.proofs.Common.{arith}
-use Rattle.ra_edit.proofs.SoundLaws.{few_of}
+use Rattle.ra_edit.proofs.SoundLaws.{current_read}
 use Rattle.ra_edit.proofs.MemberLaws.{members_go, member_there}
-use Rattle.ra_edit.proofs.VerdictLaws.{has_gone, here_in, service_there}
+use Rattle.ra_edit.proofs.VerdictLaws.{has_gone, here_at, service_at}
 use Rattle.ra_edit.proofs.members.Members.retire.Goals as goal
 
 pub machine_of-m-requires : goal.machine_of-m-requires
-machine_of-m-requires c =
-    omega (arith, (few_of c.requires.sound).current, c.requires.process)
+machine_of-m-requires c = current_read c.requires.sound c.requires.process
 
 pub go-requires-clause-machine : goal.go-requires-clause-machine
-go-requires-clause-machine c =
-    omega (
-      arith,
-      c.machine_of-m.ensures,
-      here_in c.args.p.0
-          c.requires.sound c.requires.process,
-    )
+go-requires-clause-machine c = here_at c.requires.sound c.requires.process c.machine_of-m.ensures
 
 pub go-requires-clause-service : goal.go-requires-clause-service
-go-requires-clause-service c =
-    omega (
-      arith,
-      c.service_of-s.ensures,
-      service_there c.args.p.0
-          c.requires.sound c.requires.process,
-    )
+go-requires-clause-service c = service_at c.requires.sound c.requires.process c.service_of-s.ensures
 
 pub go-requires-clause-numbered : goal.go-requires-clause-numbered
 go-requires-clause-numbered c = c.requires.members.numbered
