@@ -52,8 +52,7 @@ added_conflict {d} {e} {p} {s} {m} more fine mine here s_in m_in =
         (first_none_at u (service_count (instance_of d)) _ (omega (arith, u_in, services_with d)) fine) in
         cause_free _ _ (le-ltb 1 (on_machine (instance_of e) e.current u k) (omega (
           arith,
-          ltb-false 1 (on_machine
-              (instance_of d) d.current u k) (cause_none _ _ before),
+          ltb-false 1 (on_machine (instance_of d) d.current u k) (cause_none _ _ before),
           rw none at (machine_more u k more),
         )))
 
@@ -192,8 +191,7 @@ location_small i m = (machine_row i m).small_location
 pub added_law : AddsAreLocal
 unfolding first_broken added_breaks
 added_law d e p s m more unbroken mine home here s_in m_in =
-    let fine =
-    fine_from_unbroken (instance_of d) d.initial d.current unbroken in
+    let fine = fine_from_unbroken (instance_of d) d.initial d.current unbroken in
     rw (
       capacity_only d e m more.origin fine.capacity m_in
           (λ k r column apart. omega (arith, use_elsewhere k r more column (λ same. apart (sym same ∙ here)))),
@@ -201,8 +199,7 @@ added_law d e p s m more unbroken mine home here s_in m_in =
           (λ k r column apart _.
           omega (
             arith,
-            transient_elsewhere k r more column (λ same. apart (sym same ∙ home))
-                (λ same. apart (sym same ∙ here)),
+            transient_elsewhere k r more column (λ same. apart (sym same ∙ home)) (λ same. apart (sym same ∙ here)),
           )),
       first_same_two m (row_transient (instance_of e) e.initial e.current),
       added_conflict more fine.conflict mine here s_in m_in,

@@ -6,6 +6,7 @@ use Rattle.ra_base.specs.Searches.{or_else, first}
 use Rattle.ra_base.specs.declared.ids.Machine.{Machine}
 use Rattle.ra_base.specs.declared.causes.Cause.{Cause}
 use Rattle.ra_base.proofs.Searches.{or_else_none, first_more, first_skip, first_none_from}
+use Rattle.ra_model.specs.declared.raw.ProcessRow.{ProcessRow}
 use Rattle.ra_model.specs.declared.raw.Tables.{Tables}
 use Rattle.ra_model.specs.Numbers.{resource_count, machine_count, service_count, process_count, resource_row}
 use Rattle.ra_model.specs.Numbers.{service_row, transient_at, capacity_of, spread_of, dependency_count}
@@ -127,14 +128,22 @@ pub with_both : (d e : Drafted) (f : Tables → ℕ) → e.origin ≡ d.origin �
     ((g : Drafted) → f (instance_of g) ≡ f g.origin) → f (instance_of e) ≡ f (instance_of d)
 with_both d e f origin same = cc (same e, same d)
 
+-- what only requirements could change of two drafts with the same processes and machines
+pub renamed : {X : Type 0} (f : Tables → List Machine → List Machine → X) (d e : Drafted) →
+    ((i : Tables) (rows : List ProcessRow) (t u : List ℕ) (a0 a : List Machine) →
+    f (with_process_rows i rows t) a0 a ≡ f (with_process_rows i rows u) a0 a) → e.origin ≡ d.origin → e.rows ≡ d.rows →
+    e.initial ≡ d.initial → e.current ≡ d.current → f (instance_of d) d.initial d.current ≡
+    f (instance_of e) e.initial e.current
+renamed f d e same origin rows initial current =
+    cc (same d.origin d.rows d.requirements e.requirements d.initial d.current)
+
 pub capacity_both : (d e : Drafted) (m r : ℕ) → e.origin ≡ d.origin →
     capacity_of (instance_of e) m r ≡ capacity_of (instance_of d) m r
 capacity_both d e m r origin = with_both d e (λ i. capacity_of i m r) origin (λ g. capacity_with g m r)
 
 pub transient_both : (d e : Drafted) (r : ℕ) → e.origin ≡ d.origin →
     transient_at (instance_of e) r ≡ transient_at (instance_of d) r
-transient_both d e r origin =
-    cc (transient_with e r, transient_with d r)
+transient_both d e r origin = cc (transient_with e r, transient_with d r)
 
 -- a process more uses its machine alone
 
@@ -142,19 +151,17 @@ pub use_elsewhere : {d e : Drafted} {p : ℕ} (m r : ℕ) → OneMore d e p → 
     machine_at e.current p ≢ m → use_of (instance_of e) e.current m r ≡ use_of (instance_of d) d.current m r
 use_elsewhere {e} {p} m r more column apart = omega (
   arith,
-  rw (ne_eqb (machine_at e.current p) m apart) at
-      (use_more m r more column),
+  rw (ne_eqb (machine_at e.current p) m apart) at (use_more m r more column),
 )
 
 pub transient_elsewhere : {d e : Drafted} {p : ℕ} (m r : ℕ) → OneMore d e p → r < resource_count d.origin →
     machine_at e.initial p ≢ m → machine_at e.current p ≢ m → transient_of (instance_of e) e.initial e.current m r ≡
     transient_of (instance_of d) d.initial d.current m r
-transient_elsewhere {e} {p} m r more column home here =
-    omega (
-      arith,
-      rw (ne_eqb (machine_at e.initial p) m home, ne_eqb (machine_at e.current p) m here) at
-          (transient_more m r more column),
-    )
+transient_elsewhere {e} {p} m r more column home here = omega (
+  arith,
+  rw (ne_eqb (machine_at e.initial p) m home, ne_eqb (machine_at e.current p) m here) at
+      (transient_more m r more column),
+)
 
 -- capacity and transient use of a draft before its edit, which share all processes but one with it
 
@@ -208,8 +215,7 @@ pub label_both : {d e : Drafted} {k q : ℕ} → e.origin ≡ d.origin → IsSam
     neighbourhood_of (instance_of d) (machine_at d.current k) ≡ neighbourhood_of (instance_of e)
     (machine_at e.current q)
 label_both {d} {e} {k} {q} origin same = cc (
-  neighbourhood_with d.origin d.rows d.requirements
-      (machine_at d.current k),
+  neighbourhood_with d.origin d.rows d.requirements (machine_at d.current k),
   same.here,
   neighbourhood_with e.origin e.rows e.requirements (machine_at e.current q),
 )

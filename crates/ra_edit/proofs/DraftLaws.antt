@@ -48,15 +48,13 @@ new_kept well fits0 fits unbroken cost = record {
 
 pub made_kept : {d : Drafted} {i : Tables} {a0 a : List Machine} {parts : Parts} → d ≡ draft_of i a0 a → WellFormed i →
     IsAssignment i a0 → IsAssignment i a → first_broken i a0 a ≡ None → parts ≡ parts_of i a0 a → IsKeptDraft d parts
-made_kept same well fits0 fits unbroken cost =
-    rw (← same) at (new_kept well fits0 fits unbroken cost)
+made_kept same well fits0 fits unbroken cost = rw (← same) at (new_kept well fits0 fits unbroken cost)
 
 -- whose lists are short
 pub few_at_first : {i : Tables} {a0 a : List Machine} → WellFormed i → IsAssignment i a0 → IsAssignment i a →
     AreFew (draft_of i a0 a)
 unfolding with_process_rows
-few_at_first well fits0 fits =
-    few_of (record { well_formed = well; initial = fits0; current = fits })
+few_at_first well fits0 fits = few_of (record { well_formed = well; initial = fits0; current = fits })
 
 -- what bars an edit isn't that it is done
 never_done : (count : ℕ) (e : Edit) (cost : ℕ) → barred count e ≡ Some (Done cost) → ⊥
@@ -95,12 +93,10 @@ answered_barred d e k reply h = rw h refl
 pub kept_barred : (d : Drafted) (e : EditLists) (k : ℕ) (reply : EditReply) → barred (length d.rows) (edit_at e k) ≡
     Some reply → d ≡ after_edit d e k
 unfolding after_edit
-kept_barred d e k reply h =
-    cc (
-      answered_barred d e k reply h,
-      barred_keeps (length d.rows) (edit_at e k) reply d (edited d (edit_at e k)
-          (row_of e.width e.requirements k)) h,
-    )
+kept_barred d e k reply h = cc (
+  answered_barred d e k reply h,
+  barred_keeps (length d.rows) (edit_at e k) reply d (edited d (edit_at e k) (row_of e.width e.requirements k)) h,
+)
 
 -- a broken constraint: what is answered, and what is left
 pub broken_edit : (d : Drafted) (e : EditLists) (k : ℕ) (cause : Cause) → barred (length d.rows) (edit_at e k) ≡ None →
@@ -166,11 +162,9 @@ next_edited {d} {e} {asked} next k same sound fits within is asked_is free width
 pub next_fits : {d old : Drafted} {e : EditLists} {edit : Edit} (k : ℕ) → d ≡ old → AreEditsFor old.origin e →
     k < length e.edits → edit ≡ edit_at e k → FitsInstance d.origin edit
 unfolding edit_at
-next_fits k same fits within is =
-    rw (← is) at ((rw (← same) at fits).each k within)
+next_fits k same fits within is = rw (← is) at ((rw (← same) at fits).each k within)
 
 -- and as many requirements are given as there are resources
 pub next_width : {d old : Drafted} {e : EditLists} (asked : List ℕ) → d ≡ old → AreEditsFor old.origin e →
     length asked ≡ e.width → length asked ≡ resource_count d.origin
-next_width asked same fits width =
-    width ∙ (rw (← same) at fits).width
+next_width asked same fits width = width ∙ (rw (← same) at fits).width

@@ -47,8 +47,7 @@ put_length w n p table row size within width =
     omega (
       arith,
       length-take-le (p * w) table (omega (arith, size, e)),
-      length-drop
-          (p * w + w) table,
+      length-drop (p * w + w) table,
       length-append row (drop (p * w + w) table),
       size,
       e,
@@ -66,8 +65,7 @@ last_row w n table size some =
     let e = row_within n w (n - 1) (omega arith) in
     sym (take_all w (drop ((n - 1) * w) table) (omega (
       arith,
-      length-drop
-          ((n - 1) * w) table,
+      length-drop ((n - 1) * w) table,
       size,
       all_rows n w some,
     )))
@@ -94,8 +92,7 @@ dropped_length w n p table size within =
     length-take-le ((n - 1) * w) (put_row w table p (row_of w table (n - 1)))
     (omega (
       arith,
-      put_length w n p table (row_of w table (n - 1)) size within
-          (row_length table n w (n - 1) size (omega arith)),
+      put_length w n p table (row_of w table (n - 1)) size within (row_length table n w (n - 1) size (omega arith)),
       row_within n w (n - 1) (omega arith),
     ))
 

@@ -162,9 +162,7 @@ shares_used : (i : Tables) (width p at : ℕ) (amount : ℕ → ℕ) (old new : 
     ((r : ℕ) → r < width → amount r ≡ requirement_of i p r) → HasMoreAt width at amount old new →
     AddsShare width (use_share i) p at old new
 unfolding use_share
-shares_used i width p at amount old new is more = record {
-  each = λ m r w. cc (more.each m r w, is r w);
-}
+shares_used i width p at amount old new is more = record { each = λ m r w. cc (more.each m r w, is r w) }
 
 shares_between : (i : Tables) (a0 : List Machine) (width p home at : ℕ) (amount : ℕ → ℕ) (old new : List ℕ) →
     home ≡ machine_at a0 p → ((r : ℕ) → r < width → amount r ≡ requirement_of i p r) →
@@ -317,13 +315,12 @@ loads_less {d} {e} {p} {at} amount are one home_is at_is is more = loads_from (s
 pub used_enough : {d e : Drafted} {p : ℕ} {loads : Loads} (r : ℕ) → AreLoadsOf e loads → OneMore d e p →
     r < resource_count e.origin → requirement_of (instance_of e) p r ≤ cell (resource_count e.origin) loads.used.items
     (machine_at e.current p) r
-used_enough {e} {p} r are one w =
-    omega (
-      arith,
-      use_kept (machine_at e.current p) r are w,
-      rw (eq-eqb (machine_at e.current p) (machine_at e.current p) refl) at (use_more (machine_at e.current p) r one
-          (rw one.origin at w)),
-    )
+used_enough {e} {p} r are one w = omega (
+  arith,
+  use_kept (machine_at e.current p) r are w,
+  rw (eq-eqb (machine_at e.current p) (machine_at e.current p) refl) at (use_more (machine_at e.current p) r one
+      (rw one.origin at w)),
+)
 
 pub between_enough : {d e : Drafted} {p : ℕ} {loads : Loads} (m r : ℕ) → AreLoadsOf e loads → OneMore d e p →
     r < resource_count e.origin → (eqb (machine_at e.initial p) m || eqb (machine_at e.current p) m) ≡ true →

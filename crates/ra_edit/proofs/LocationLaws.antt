@@ -45,8 +45,7 @@ labels_still low high s x small one some t = ⊎_elim
     (λ (here : t ≡ s). rw here (omega (
       arith,
       labels_change low high s x small one,
-      ap one_if (lt-ltb 0
-          (count_in low s x) some),
+      ap one_if (lt-ltb 0 (count_in low s x) some),
     )))
     (λ (apart : t ≢ s). labels_other low high s x t one apart)
     (cases_eq t s)
@@ -60,20 +59,12 @@ labels_same old new same s = count_same (2 ^ 32) (λ y. ltb 0 (count_in new s y)
 pub labels_few : (n size : ℕ) (f : ℕ → ℕ → ℕ) (at : ℕ → ℕ) → ((p : ℕ) → at p < size) →
     ((p x : ℕ) → x ≢ at p → f p x ≡ 0) → count size (λ x. ltb 0 (total n (λ p. f p x))) ≤ n
 labels_few zero size f at within none =
-    omega (
-      arith,
-      count_zero size (λ x. ltb 0 (total 0 (λ p. f p x))) (λ x x_in. ap (ltb 0) (total_none (λ p. f p x))),
-    )
+    omega (arith, count_zero size (λ x. ltb 0 (total 0 (λ p. f p x))) (λ x x_in. ap (ltb 0) (total_none (λ p. f p x))))
 labels_few (suc n) size f at within none =
     let changed = count_change size (at n) (λ x. ltb 0 (total (suc n) (λ p. f p x))) (λ x. ltb 0 (total n (λ p. f p x)))
     (within n)
     (λ x x_in apart. ap (ltb 0) (omega (arith, total_suc n (λ p. f p x), none n x apart))) in
-    omega (
-      arith,
-      changed,
-      labels_few n size f at within none,
-      one_most (ltb 0 (total (suc n) (λ p. f p (at n)))),
-    )
+    omega (arith, changed, labels_few n size f at within none, one_most (ltb 0 (total (suc n) (λ p. f p (at n)))))
   where
     one_most : (b : Bool) → one_if b ≤ 1
     one_most true = omega arith
@@ -92,10 +83,7 @@ numbered_none {services} {locations} zeros counts = record {
 pub numbered_kept : {services : ℕ} {old new : Locations} → AreNumbered services old →
     new.numbers.items ≡ old.numbers.items → ((t : ℕ) → labels_in new.counts t ≡ labels_in old.counts t) →
     AreNumbered services new
-numbered_kept has same labels = record {
-  one_each = cc (has.one_each);
-  each = λ t t_in. cc (has.each t t_in, labels t);
-}
+numbered_kept has same labels = record { one_each = cc (has.one_each); each = λ t t_in. cc (has.each t t_in, labels t) }
 
 pub numbered_written : {services : ℕ} {old new : Locations} (s value : ℕ) → AreNumbered services old → s < services →
     new.numbers.items ≡ set old.numbers.items s value → value ≡ labels_in new.counts s →

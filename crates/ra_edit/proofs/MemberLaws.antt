@@ -25,7 +25,7 @@ use Rattle.ra_edit.proofs.LocationLaws.{labels_few, labels_same, numbered_kept}
 use Rattle.ra_edit.proofs.ScanLaws.{location_told}
 use Rattle.ra_edit.proofs.AddedLaws.{location_small}
 use Rattle.ra_edit.proofs.ShareLaws.{members_more}
-use Rattle.ra_edit.proofs.VerdictLaws.{renamed}
+use Rattle.ra_edit.proofs.BrokenLaws.{renamed}
 
 -- whether a process is at a spot is a question of its machine alone
 
@@ -155,8 +155,7 @@ members_come {d} {e} has more s_is m_is one numbered =
     members_from (λ t spot. cc (
       one.each t spot,
       members_told t spot has,
-      there_as d.origin e.origin spot 0 0
-          more.origin (sym m_is),
+      there_as d.origin e.origin spot 0 0 more.origin (sym m_is),
       one_member t spot more,
     ))
     (rw (← more.origin) at numbered)
@@ -168,23 +167,20 @@ members_go {e} {new} has more s_is m_is one numbered = members_from (λ t spot.
     let both = one.each t spot
     ∙ ap (λ b. members_in new t spot + one_if b)
     (ap₂ (λ x b. eqb x t && b) s_is (ap (is_there e.origin spot 0) m_is)) in
-    omega (arith, both, members_told t spot has, one_member t spot more))
-    (rw more.origin at numbered)
+    omega (arith, both, members_told t spot has, one_member t spot more)) (rw more.origin at numbered)
 
 -- the process itself is counted where it is
 pub member_there : {d e : Drafted} {p s m : ℕ} {members : Members} (spot : Spot) → AreMembersOf e members →
     OneMore d e p → s ≡ service_of (instance_of e) p → m ≡ machine_at e.current p →
     is_there e.origin spot 0 m ≡ true → 0 < members_in members s spot
-member_there {e} {p} {s} spot has more s_is m_is there =
-    omega (
-      arith,
-      members_told s spot has,
-      rw (
-        eq-eqb (service_of (instance_of e) p) s (sym s_is),
-        (ap
-            (is_there e.origin spot 0) (sym m_is) ∙ there),
-      ) at (one_member s spot more),
-    )
+member_there {e} {p} {s} spot has more s_is m_is there = omega (
+  arith,
+  members_told s spot has,
+  rw (
+    eq-eqb (service_of (instance_of e) p) s (sym s_is),
+    (ap (is_there e.origin spot 0) (sym m_is) ∙ there),
+  ) at (one_member s spot more),
+)
 
 -- other requirements of a process
 

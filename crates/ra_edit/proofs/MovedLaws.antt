@@ -23,7 +23,8 @@ use Rattle.ra_edit.specs.Kinds.{HasCome, HasGone, HasOther}
 use Rattle.ra_edit.specs.Moved.{AreMovedOfDraft}
 use Rattle.ra_edit.proofs.ShareLaws.{moved_more}
 use Rattle.ra_edit.proofs.TestLaws.{service_weight_in, services_from}
-use Rattle.ra_edit.proofs.VerdictLaws.{moved_same, renamed}
+use Rattle.ra_edit.proofs.BrokenLaws.{renamed}
+use Rattle.ra_edit.proofs.VerdictLaws.{moved_same}
 
 -- at first
 
@@ -66,8 +67,7 @@ gone_counted {s} gone s_is moved = rw (eq-eqb s s refl, moved) at (gone_moved s 
 
 gone_apart : {d e : Drafted} {p s : ℕ} (t : ℕ) → HasGone d e p → s ≡ service_of (instance_of d) p → t ≢ s →
     moved_of (instance_of d) d.initial d.current t ≡ moved_of (instance_of e) e.initial e.current t
-gone_apart {s} t gone s_is apart =
-    omega (arith, rw (ne_eqb s t (λ same. apart (sym same))) at (gone_moved t gone s_is))
+gone_apart {s} t gone s_is apart = omega (arith, rw (ne_eqb s t (λ same. apart (sym same))) at (gone_moved t gone s_is))
 
 -- so its service has one less
 pub changed_one : {d e : Drafted} {p : ℕ} {moved : MovedCounts} (c : MovedCount) → AreMovedOfDraft d moved →

@@ -253,8 +253,7 @@ more_retired {d} {p} table few cells within =
         | inl last ↦ (
           p,
           omega (arith, less, last, apart),
-          subst (λ m. IsSame (retired d p) p h m) (sym last)
-              (renamed (omega (arith, last, apart))),
+          subst (λ m. IsSame (retired d p) p h m) (sym last) (renamed (omega (arith, last, apart))),
         )
         | inr before ↦ (q, omega (arith, less, before), same q (omega (arith, before)) apart)
       ];
@@ -263,14 +262,12 @@ more_retired {d} {p} table few cells within =
           ∙ total_more (n - 1) g in
           let start : total (n - 1) f + g p ≡ total n g = (elim (cases_eq p (n - 1)) [
             | inl here ↦
-                let front : total (n - 1) f ≡ total (n - 1) g =
-                total_same (n - 1) f g
+                let front : total (n - 1) f ≡ total (n - 1) g = total_same (n - 1) f g
                 (λ k left. each k k (omega (arith, less)) (omega arith)
                 (same k left (λ (e : k ≡ p). omega (arith, e, here)))) in
                 omega (arith, last, front, ap g here)
             | inr apart ↦ let left : p < n - 1 = omega arith in
-                let swapped =
-                total_change (n - 1) p f g left
+                let swapped = total_change (n - 1) p f g left
                 (λ k k_in other. each k k (omega (arith, less)) (omega arith) (same k k_in other)) in
                 omega (arith, last, swapped, each p (n - 1) (omega (arith, less)) (omega arith) (renamed left))
           ]) in

@@ -21,20 +21,19 @@ use Rattle.ra_model.proofs.BrokenLemmas.{fine_from_unbroken}
 use Rattle.ra_edit.specs.Drafts.{with_process_rows, instance_of}
 use Rattle.ra_edit.specs.Touched.{resized_breaks}
 use Rattle.ra_edit.specs.Locality.{ResizesAreLocal}
-use Rattle.ra_edit.proofs.BrokenLaws.{use_elsewhere, transient_elsewhere, capacity_only, transient_only}
+use Rattle.ra_edit.proofs.BrokenLaws.{use_elsewhere, transient_elsewhere, capacity_only, transient_only, renamed}
 
-conflict_with : (i : Tables) (rows : List ProcessRow) (t u : List ℕ) (a : List Machine) →
+conflict_with : (i : Tables) (rows : List ProcessRow) (t u : List ℕ) (a0 a : List Machine) →
     broken_conflict (with_process_rows i rows t) a ≡ broken_conflict (with_process_rows i rows u) a
 unfolding with_process_rows broken_conflict service_conflict conflict_test on_machine members_at tally of_service is_of
     service_of process_row process_count machine_count service_count
-conflict_with i rows t u a = refl
+conflict_with i rows t u a0 a = refl
 
-spreads_with : (i : Tables) (rows : List ProcessRow) (t u : List ℕ) (a : List Machine) →
+spreads_with : (i : Tables) (rows : List ProcessRow) (t u : List ℕ) (a0 a : List Machine) →
     broken_spread (with_process_rows i rows t) a ≡ broken_spread (with_process_rows i rows u) a
 unfolding with_process_rows broken_spread spread_test locations_of in_location members_at tally of_service is_of
-    service_of
-    process_row process_count machine_row location_of service_count spread_of service_row
-spreads_with i rows t u a = refl
+    service_of process_row process_count machine_row location_of service_count spread_of service_row
+spreads_with i rows t u a0 a = refl
 
 pairs_with : (i : Tables) (rows : List ProcessRow) (t u : List ℕ) (a : List Machine) (s k : ℕ) → s < service_count i →
     pair_dependency (with_process_rows i rows t) a s k ≡ pair_dependency (with_process_rows i rows u) a s k
@@ -46,8 +45,7 @@ pairs_with i rows t u a zero k s_in = refl
 pairs_with i rows t u a (suc s) k s_in = refl
 
 counts : (i : Tables) (rows : List ProcessRow) (t u : List ℕ) (s : ℕ) →
-    dependency_count (with_process_rows i rows t) s ≡
-    dependency_count (with_process_rows i rows u) s
+    dependency_count (with_process_rows i rows t) s ≡ dependency_count (with_process_rows i rows u) s
 unfolding with_process_rows dependency_count dependency_end dependency_start service_row
 counts i rows t u zero = refl
 counts i rows t u (suc s) = refl
@@ -57,10 +55,10 @@ there : (i : Tables) (rows : List ProcessRow) (t : List ℕ) (s : ℕ) → s < s
 unfolding with_process_rows service_count
 there i rows t s h = h
 
-depending_with : (i : Tables) (rows : List ProcessRow) (t u : List ℕ) (a : List Machine) →
+depending_with : (i : Tables) (rows : List ProcessRow) (t u : List ℕ) (a0 a : List Machine) →
     broken_dependency (with_process_rows i rows t) a ≡ broken_dependency (with_process_rows i rows u) a
 unfolding broken_dependency service_dependency with_process_rows service_count
-depending_with i rows t u a = first_same (service_count (with_process_rows i rows t)) _ _
+depending_with i rows t u a0 a = first_same (service_count (with_process_rows i rows t)) _ _
     (λ s s_in. ap (λ n. first n (pair_dependency (with_process_rows i rows t) a s)) (counts i rows t u s)
     ∙ first_same (dependency_count (with_process_rows i rows u) s) (pair_dependency (with_process_rows i rows t) a s)
     (pair_dependency (with_process_rows i rows u) a s) (λ k k_in. pairs_with i rows t u a s k (there i rows t s s_in)))
@@ -73,8 +71,7 @@ shut_with i rows t u a0 a = refl
 pub resized_law : ResizesAreLocal
 unfolding first_broken resized_breaks
 resized_law low d e p home here more_d more_e rows initial current unbroken home_is here_is home_in here_in =
-    let fine =
-    fine_from_unbroken (instance_of d) d.initial d.current unbroken in
+    let fine = fine_from_unbroken (instance_of d) d.initial d.current unbroken in
     let origin : e.origin ≡ d.origin = more_e.origin ∙ sym more_d.origin in
     let resources : resource_count d.origin ≡ resource_count low.origin = ap resource_count more_d.origin in
     let machines : machine_count d.origin ≡ machine_count low.origin = ap machine_count more_d.origin in
@@ -84,10 +81,8 @@ resized_law low d e p home here more_d more_e rows initial current unbroken home
     use_of (instance_of d) d.current k r = λ k r column apart.
     omega (
       arith,
-      use_elsewhere k r more_d (omega (arith, resources, column))
-          (λ same. apart (sym same ∙ here_is)),
-      use_elsewhere k r more_e (omega (arith, resources, column))
-          (λ same. apart (sym same ∙ here_e)),
+      use_elsewhere k r more_d (omega (arith, resources, column)) (λ same. apart (sym same ∙ here_is)),
+      use_elsewhere k r more_e (omega (arith, resources, column)) (λ same. apart (sym same ∙ here_e)),
     ) in
     let between : (k r : ℕ) → r < resource_count d.origin → k ≢ home → k ≢ here →
     transient_of (instance_of e) e.initial e.current k r ≤ transient_of (instance_of d) d.initial d.current k r =
@@ -99,33 +94,19 @@ resized_law low d e p home here more_d more_e rows initial current unbroken home
       transient_elsewhere k r more_e (omega (arith, resources, column))
           (λ same. first (sym same ∙ home_e)) (λ same. second (sym same ∙ here_e)),
     ) in
-    let to_e : (f : Tables → List ProcessRow → Option Cause) → f e.origin e.rows ≡ f d.origin d.rows =
-    λ f. cc in
-    let conflict : broken_conflict (instance_of e) e.current ≡ None =
-    to_e (λ i xs. broken_conflict (with_process_rows i xs e.requirements) e.current)
-    ∙ ap (broken_conflict (with_process_rows d.origin d.rows e.requirements)) current
-    ∙ conflict_with d.origin d.rows e.requirements d.requirements d.current ∙ fine.conflict in
-    let spread : broken_spread (instance_of e) e.current ≡ None =
-    to_e (λ i xs. broken_spread (with_process_rows i xs e.requirements) e.current)
-    ∙ ap (broken_spread (with_process_rows d.origin d.rows e.requirements)) current
-    ∙ spreads_with d.origin d.rows e.requirements d.requirements d.current ∙ fine.spread in
-    let dependency : broken_dependency (instance_of e) e.current ≡ None =
-    to_e (λ i xs. broken_dependency (with_process_rows i xs e.requirements) e.current)
-    ∙ ap (broken_dependency (with_process_rows d.origin d.rows e.requirements)) current
-    ∙ depending_with d.origin d.rows e.requirements d.requirements d.current ∙ fine.dependency in
-    let closed : broken_closed (instance_of e) e.initial e.current ≡ None =
-    to_e (λ i xs. broken_closed (with_process_rows i xs e.requirements) e.initial e.current)
-    ∙ ap (λ (a : List Machine). broken_closed (with_process_rows d.origin d.rows e.requirements) a e.current) initial
-    ∙ ap (broken_closed (with_process_rows d.origin d.rows e.requirements) d.initial) current
-    ∙ shut_with d.origin d.rows e.requirements d.requirements d.initial d.current ∙ fine.closed in
+    let same : (f : Tables → List Machine → List Machine → Option Cause) →
+    ((i : Tables) (rows : List ProcessRow) (t u : List ℕ) (a0 a : List Machine) →
+    f (with_process_rows i rows t) a0 a ≡ f (with_process_rows i rows u) a0 a) →
+    f (instance_of e) e.initial e.current ≡ f (instance_of d) d.initial d.current =
+    λ f with. sym (renamed f d e with origin rows initial current) in
     rw (
       capacity_only d e here origin fine.capacity (omega (arith, here_in, machines)) used,
       transient_only d e home here origin fine.transient (omega (arith, home_in, machines))
           (omega (arith, here_in, machines)) between,
-      conflict,
-      spread,
-      dependency,
-      closed,
+      same (λ i a0 a. broken_conflict i a) conflict_with ∙ fine.conflict,
+      same (λ i a0 a. broken_spread i a) spreads_with ∙ fine.spread,
+      same (λ i a0 a. broken_dependency i a) depending_with ∙ fine.dependency,
+      same broken_closed shut_with ∙ fine.closed,
       or_else_none,
       or_else_none,
       or_else_none,

@@ -43,8 +43,7 @@ retired_conflict {d} {e} more fine =
     cause_free _ _
     (le-ltb 1 (on_machine (instance_of d) d.current u k) (omega (
       arith,
-      ltb-false 1 (on_machine
-          (instance_of e) e.current u k) (cause_none _ _ before),
+      ltb-false 1 (on_machine (instance_of e) e.current u k) (cause_none _ _ before),
       machine_more u k more,
     )))))
 
@@ -231,8 +230,7 @@ left_pair {d} {e} {p} {s} u k more fine u_in k_in mine =
                       left_found u k label more fine u_in k_in mine refl needs gone some
                       ∙ sym (rw (
                         eq-eqb (need_of d.origin u k) s needs,
-                        eq-eqb (in_neighbourhood (instance_of d) d.current s label) 0
-                            gone,
+                        eq-eqb (in_neighbourhood (instance_of d) d.current s label) 0 gone,
                         lt-ltb 0 (in_neighbourhood (instance_of d) d.current u label) some,
                       )
                       (cause_is (Dependency (record { 0 = u }) (record { 0 = s }) label)))
@@ -249,8 +247,7 @@ left_pair {d} {e} {p} {s} u k more fine u_in k_in mine =
                       omega (arith, some, none))))
                       ∙ sym (rw (
                         eq-eqb (need_of d.origin u k) s needs,
-                        eq-eqb (in_neighbourhood (instance_of d) d.current s label) 0
-                            gone,
+                        eq-eqb (in_neighbourhood (instance_of d) d.current s label) 0 gone,
                         le-ltb 0 (in_neighbourhood (instance_of d) d.current u label) none,
                       ) (cause_free _ _ refl))
                 ]
@@ -259,8 +256,7 @@ left_pair {d} {e} {p} {s} u k more fine u_in k_in mine =
                 (λ a of there. omega (arith, near)))
                 ∙ sym (rw (
                   eq-eqb (need_of d.origin u k) s needs,
-                  ne_eqb (in_neighbourhood (instance_of d) d.current s label) 0
-                      near,
+                  ne_eqb (in_neighbourhood (instance_of d) d.current s label) 0 near,
                 ) (cause_free _ _ refl))
           ]
       | inr other ↦ first_none_from _ _
@@ -300,10 +296,8 @@ retired_closed {d} {e} more fine = closed_unbroken (instance_of d) d.initial d.c
 pub retired_law : RetiresAreLocal
 unfolding first_broken retired_breaks left_by
 retired_law d e p s label more unbroken mine s_in there =
-    let fine =
-    fine_from_unbroken (instance_of e) e.initial e.current unbroken in
-    let capacity : broken_capacity (instance_of d) d.current ≡ None =
-    capacity_unbroken (instance_of d) d.current
+    let fine = fine_from_unbroken (instance_of e) e.initial e.current unbroken in
+    let capacity : broken_capacity (instance_of d) d.current ≡ None = capacity_unbroken (instance_of d) d.current
     (λ k r k_in r_in. omega (
       arith,
       use_more k r more (omega (arith, r_in, resources_with d)),

@@ -1,6 +1,7 @@
 -- Instances with the same lists are alike: they have the same first broken constraint and the same parts.
-use Rattle.std.proofs.Common.{◌≡◌, ℕ, List, None, refl, sym, ap, ◌∙◌, subst}
-use Rattle.ra_base.specs.Searches.{first}
+use Rattle.std.proofs.Common.{◌≡◌, ℕ, List, Option, None, refl, sym, ap, ◌∙◌, subst}
+use Rattle.ra_base.specs.Searches.{or_else, first}
+use Rattle.ra_base.specs.declared.causes.Cause.{Cause}
 use Rattle.ra_base.proofs.Searches.{first_same}
 use Rattle.ra_base.specs.declared.ids.Machine.{Machine}
 use Rattle.ra_base.specs.declared.ids.Service.{Service}
@@ -105,31 +106,21 @@ processes_bare : (i : Tables) → process_count (bare i.raw) ≡ process_count i
 unfolding bare bare_from process_count
 processes_bare i = refl
 
-capacity_bare : (i : Tables) (a : List Machine) → broken_capacity (bare i.raw) a ≡ broken_capacity i a
-unfolding bare bare_from broken_capacity row_capacity capacity_test use_of use_share machine_count resource_count
-    process_count capacity_of requirement_of
-capacity_bare i a = refl
+-- the first broken constraint, where this is what closed machines break
+first_open : Tables → List Machine → List Machine → Option Cause → Option Cause
+first_open i a0 a shut = or_else (broken_capacity i a) (or_else (broken_transient i a0 a) (or_else (broken_conflict i a)
+    (or_else (broken_spread i a) (or_else (broken_dependency i a) shut))))
 
-transient_bare : (i : Tables) (a0 a : List Machine) → broken_transient (bare i.raw) a0 a ≡ broken_transient i a0 a
-unfolding bare bare_from broken_transient row_transient transient_test transient_of transient_share transient_at
-    resource_row machine_count resource_count process_count capacity_of requirement_of
-transient_bare i a0 a = refl
-
-conflict_bare : (i : Tables) (a : List Machine) → broken_conflict (bare i.raw) a ≡ broken_conflict i a
-unfolding bare bare_from broken_conflict service_conflict conflict_test on_machine members_at of_service is_of
-    service_of process_row machine_count service_count process_count
-conflict_bare i a = refl
-
-spread_bare : (i : Tables) (a : List Machine) → broken_spread (bare i.raw) a ≡ broken_spread i a
-unfolding bare bare_from broken_spread spread_test spread_of service_row locations_of in_location location_of
-    machine_row members_at of_service is_of service_of process_row service_count process_count
-spread_bare i a = refl
-
-dependency_bare : (i : Tables) (a : List Machine) → broken_dependency (bare i.raw) a ≡ broken_dependency i a
-unfolding bare bare_from broken_dependency service_dependency pair_dependency dependency_test far_test near_of
-    in_neighbourhood neighbourhood_of machine_row need_of need_at dependency_start dependency_end dependency_count
-    service_row members_at of_service is_of service_of process_row service_count process_count
-dependency_bare i a = refl
+open_bare : (i : Tables) (a0 a : List Machine) (shut : Option Cause) →
+    first_open (bare i.raw) a0 a shut ≡ first_open i a0 a shut
+unfolding first_open bare bare_from broken_capacity row_capacity capacity_test use_of use_share capacity_of
+    broken_transient row_transient transient_test transient_of transient_share transient_at resource_row resource_count
+    requirement_of broken_conflict service_conflict conflict_test on_machine members_at of_service is_of service_of
+    process_row broken_spread spread_test spread_of service_row locations_of in_location location_of machine_row
+    broken_dependency service_dependency pair_dependency dependency_test far_test near_of in_neighbourhood
+    neighbourhood_of need_of need_at dependency_start dependency_end dependency_count machine_count service_count
+    process_count
+open_bare i a0 a shut = refl
 
 parts_bare : (i : Tables) (a0 a : List Machine) → parts_of (bare i.raw) a0 a ≡ parts_of i a0 a
 unfolding bare bare_from parts_of objective load_cost load_part excess_on balance_cost balance_part shortfall available
@@ -183,13 +174,7 @@ same_closed i j a0 a h fits =
 
 pub same_broken : (i j : Tables) (a0 a : List Machine) → AreSameLists i j → IsAssignment i a →
     first_broken j a0 a ≡ first_broken i a0 a
-unfolding first_broken
+unfolding first_broken first_open
 same_broken i j a0 a h fits =
-    rw (
-      along (λ k. broken_capacity k a) i j (λ k. capacity_bare k a) h.lists,
-      along (λ k. broken_transient k a0 a) i j (λ k. transient_bare k a0 a) h.lists,
-      along (λ k. broken_conflict k a) i j (λ k. conflict_bare k a) h.lists,
-      along (λ k. broken_spread k a) i j (λ k. spread_bare k a) h.lists,
-      along (λ k. broken_dependency k a) i j (λ k. dependency_bare k a) h.lists,
-      same_closed i j a0 a h fits,
-    ) refl
+    along (λ k. first_open k a0 a (broken_closed j a0 a)) i j (λ k. open_bare k a0 a (broken_closed j a0 a)) h.lists
+    ∙ ap (first_open i a0 a) (same_closed i j a0 a h fits)

@@ -27,22 +27,19 @@ few i l sound = few_of sound
 pub service_told : (i : Tables) (l : Lists) (p : ℕ) (row : ProcessRow) → p < length l.rows.items →
     row ≡ get_or l.rows.items p row → row.service.0 ≡ service_of (tables_with i l) p
 unfolding service_of
-service_told i l p row p_in read =
-    cc (row_read i l.rows.items l.requirements.items p row p_in)
+service_told i l p row p_in read = cc (row_read i l.rows.items l.requirements.items p row p_in)
 
 pub cost_told : {row : ProcessRow} (i : Tables) (l : Lists) (p : ℕ) → p < length l.rows.items →
     row ≡ get_or l.rows.items p row → row.move_cost ≡ process_cost_of (tables_with i l) p
 unfolding process_cost_of
-cost_told {row} i l p p_in read =
-    cc (row_read i l.rows.items l.requirements.items p row p_in)
+cost_told {row} i l p p_in read = cc (row_read i l.rows.items l.requirements.items p row p_in)
 
 -- shares
 
 pub cost_moves : {w weight cost : ℕ} (i : Tables) (a0 : List Machine) (p at : ℕ) → at ≢ machine_at a0 p → weight ≡ w →
     cost ≡ process_cost_of i p → weight * cost ≡ w * process_share i a0 p at
 unfolding process_share
-cost_moves i a0 p at apart weight_is cost_is =
-    rw (ne_eqb at (machine_at a0 p) apart, weight_is, cost_is) refl
+cost_moves i a0 p at apart weight_is cost_is = rw (ne_eqb at (machine_at a0 p) apart, weight_is, cost_is) refl
 
 -- counts at a spot are those of the definitions
 

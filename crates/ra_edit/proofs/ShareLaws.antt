@@ -44,8 +44,7 @@ row_load_with i rows requirements m u = refl
 pub row_balance_with : (i : Tables) (rows : List ProcessRow) (requirements : List ℕ) (m : ℕ) (u : ℕ → ℕ) →
     row_balance (with_process_rows i rows requirements) m u ≡ row_balance i m u
 unfolding with_process_rows row_balance balance_share balance_weight_of target_of row_left first_of second_of
-    balance_row
-    capacity_of resource_count balance_count
+    balance_row capacity_of resource_count balance_count
 row_balance_with i rows requirements m u = refl
 
 -- use
@@ -86,8 +85,7 @@ pub machine_more : {d e : Drafted} {p : ℕ} (s m : ℕ) → OneMore d e p → o
     on_machine (instance_of d) d.current s m
     + one_if (eqb (service_of (instance_of e) p) s && eqb (machine_at e.current p) m)
 unfolding on_machine
-machine_more s m more =
-    members_more s (λ k at. eqb at m) (λ k at. eqb at m) more (λ k q same. cc (same.here))
+machine_more s m more = members_more s (λ k at. eqb at m) (λ k at. eqb at m) more (λ k q same. cc (same.here))
 
 place_more : {d e : Drafted} {p : ℕ} (label : Tables → ℕ → ℕ) →
     ((g : Drafted) (m : ℕ) → label (instance_of g) m ≡ label g.origin m) → (s x : ℕ) → OneMore d e p →
@@ -96,12 +94,7 @@ place_more : {d e : Drafted} {p : ℕ} (label : Tables → ℕ → ℕ) →
     + one_if (eqb (service_of (instance_of e) p) s && eqb (label d.origin (machine_at e.current p)) x)
 place_more {d} {e} {p} label same s x more = cc (
   members_more s (λ k at. eqb (label (instance_of d) at) x) (λ k at. eqb (label (instance_of e) at) x) more
-      (λ k q alike. cc (
-        same d (machine_at d.current k),
-        alike.here,
-        more.origin,
-        same e (machine_at e.current q),
-      )),
+      (λ k q alike. cc (same d (machine_at d.current k), alike.here, more.origin, same e (machine_at e.current q))),
   same e (machine_at e.current p),
   more.origin,
 )
@@ -124,8 +117,7 @@ pub moved_more : {d e : Drafted} {p : ℕ} (s : ℕ) → OneMore d e p → moved
     true)
 unfolding moved_of
 moved_more {d} {e} s more = members_more s (λ k at. cond (eqb (machine_at d.initial k) at) false true)
-    (λ q at. cond (eqb (machine_at e.initial q) at) false true) more
-    (λ k q same. cc (same.home, same.here))
+    (λ q at. cond (eqb (machine_at e.initial q) at) false true) more (λ k q same. cc (same.home, same.here))
 
 -- locations
 
@@ -154,8 +146,7 @@ locations_more {d} {e} {p} {s} {x} more mine is within =
     here : in_location (instance_of e) e.current s x ≡ in_location (instance_of d) d.current s x + 1
     here = (rw (
       eq-eqb (service_of (instance_of e) p) s mine,
-      eq-eqb (location_of d.origin
-          (machine_at e.current p)) x is,
+      eq-eqb (location_of d.origin (machine_at e.current p)) x is,
     ) at (location_more s x more))
 
     elsewhere : (y : ℕ) → y ≢ x → in_location (instance_of e) e.current s y ≡ in_location (instance_of d) d.current s y
@@ -163,8 +154,7 @@ locations_more {d} {e} {p} {s} {x} more mine is within =
       arith,
       rw (
         eq-eqb (service_of (instance_of e) p) s mine,
-        (ne_eqb (location_of d.origin
-            (machine_at e.current p)) y (λ same. apart (sym same ∙ is))),
+        (ne_eqb (location_of d.origin (machine_at e.current p)) y (λ same. apart (sym same ∙ is))),
       ) at (location_more s y more),
     )
 
@@ -250,21 +240,19 @@ way_more {d} {e} more =
 pub load_term : (d : Drafted) (m : ℕ) → m < machine_count d.origin →
     row_load d.origin m (use_of (instance_of d) d.current m) ≤ load_cost (instance_of d) d.current
 unfolding machine_count with_process_rows
-load_term d m within =
-    omega (
-      arith,
-      load_here d d.origin m refl,
-      load_by_machine (instance_of d) d.current,
-      total_term (machine_count d.origin) m (machine_load (instance_of d) d.current) within,
-    )
+load_term d m within = omega (
+  arith,
+  load_here d d.origin m refl,
+  load_by_machine (instance_of d) d.current,
+  total_term (machine_count d.origin) m (machine_load (instance_of d) d.current) within,
+)
 
 pub balance_term : (d : Drafted) (m : ℕ) → m < machine_count d.origin →
     row_balance d.origin m (use_of (instance_of d) d.current m) ≤ balance_cost (instance_of d) d.current
 unfolding machine_count with_process_rows
-balance_term d m within =
-    omega (
-      arith,
-      balance_here d d.origin m refl,
-      balance_by_machine (instance_of d) d.current,
-      total_term (machine_count d.origin) m (machine_balance (instance_of d) d.current) within,
-    )
+balance_term d m within = omega (
+  arith,
+  balance_here d d.origin m refl,
+  balance_by_machine (instance_of d) d.current,
+  total_term (machine_count d.origin) m (machine_balance (instance_of d) d.current) within,
+)

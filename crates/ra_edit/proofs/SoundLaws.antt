@@ -96,8 +96,7 @@ each_more : {X : Type 0} → (P : X → Type 0) (xs : List X) (x d : X) → ((p 
 each_more P xs x d each here p within = elim (cases_lt p (length xs)) [
   | inl below ↦
       subst P (sym (get_or_append_left xs (x ∷ []) d p below)) (each p below)
-  | inr last ↦ let e : p ≡ length xs =
-      omega (arith, length-append xs (x ∷ [])) in
+  | inr last ↦ let e : p ≡ length xs = omega (arith, length-append xs (x ∷ [])) in
       rw (← e) at (subst P (sym (get_or-append_seam xs x [] d)) here)
 ]
 
@@ -128,25 +127,13 @@ added_sound {d} s m c requirements sound few s_in m_in width =
           (process_of (record { 0 = 0 }) 0) old.services s_in;
     } in
     record {
-      well_formed =
-          well_with d.rows d.requirements sound.well_formed
-          rows;
+      well_formed = well_with d.rows d.requirements sound.well_formed rows;
       initial = fits_with i (d.rows ++ row ∷ []) (d.requirements ++ requirements)
-          (omega (
-            arith,
-            length-append d.initial (m ∷ []),
-            size,
-            fits_size i d.rows d.requirements sound.initial,
-          ))
+          (omega (arith, length-append d.initial (m ∷ []), size, fits_size i d.rows d.requirements sound.initial))
           (each_more (λ (x : Machine). x.0 < machine_count i) d.initial m (record { 0 = 0 })
           (fits_each i d.rows d.requirements sound.initial) m_in);
       current = fits_with i (d.rows ++ row ∷ []) (d.requirements ++ requirements)
-          (omega (
-            arith,
-            length-append d.current (m ∷ []),
-            size,
-            fits_size i d.rows d.requirements sound.current,
-          ))
+          (omega (arith, length-append d.current (m ∷ []), size, fits_size i d.rows d.requirements sound.current))
           (each_more (λ (x : Machine). x.0 < machine_count i) d.current m (record { 0 = 0 })
           (fits_each i d.rows d.requirements sound.current) m_in);
     }
@@ -219,8 +206,7 @@ unfolding barred
 free_retire count p free = ⊎_elim
     (λ (within : p < count). (
       within,
-      λ (one : count ≡ 1). let e : Some Last ≡ None = rw (lt-ltb p count within, eq-eqb count 1 one) at
-          free in cc,
+      λ (one : count ≡ 1). let e : Some Last ≡ None = rw (lt-ltb p count within, eq-eqb count 1 one) at free in cc,
     ))
     (λ (past : count ≤ p). absurd (let e : Some (NoProcess p) ≡ None = rw (le-ltb p count past) at free in cc))
     (cases_lt p count)

@@ -100,8 +100,7 @@ pub left_some : (e : Drafted) (s label u n : ℕ) → in_neighbourhood (instance
     Some (Dependency (record { 0 = u }) (record { 0 = s }) label)
     ≡ cause_if_left_alone (instance_of e) e.current s label u
 unfolding cause_if_left_alone
-left_some e s label u n gone count some =
-    rw (← count) (failed_if _ (and_from _ _ (eq-eqb _ 0 gone) (lt-ltb 0 n some)))
+left_some e s label u n gone count some = rw (← count) (failed_if _ (and_from _ _ (eq-eqb _ 0 gone) (lt-ltb 0 n some)))
 
 pub left_none : (e : Drafted) (s label u n : ℕ) → n ≡ in_neighbourhood (instance_of e) e.current u label → n ≤ 0 →
     None ≡ cause_if_left_alone (instance_of e) e.current s label u
@@ -132,12 +131,11 @@ listed_first : {X : Type 0} → (list : List Service) (f : ℕ → Option X) →
     first (length list) (λ k. f (service_at list k)) ≡
     first (length (numbers_of list)) (λ k. f (get_or (numbers_of list) k 0))
 unfolding service_at
-listed_first list f =
-    cc (
-      first_same (length list) (λ k. f (service_at list k)) (λ k. f (get_or (numbers_of list) k 0)) (λ k within. ap f
-          (sym (get_or-map (λ (u : Service). u.0) list k (record { 0 = 0 })))),
-      length-map list (λ (u : Service). u.0),
-    )
+listed_first list f = cc (
+  first_same (length list) (λ k. f (service_at list k)) (λ k. f (get_or (numbers_of list) k 0)) (λ k within. ap f
+      (sym (get_or-map (λ (u : Service). u.0) list k (record { 0 = 0 })))),
+  length-map list (λ (u : Service). u.0),
+)
 
 -- what is found among the dependants of a service is what is found among all services
 pub left_listed : {i : Tables} {s : ℕ} {list : List Service} (e : Drafted) (label : ℕ) → e.origin ≡ i →

@@ -37,8 +37,7 @@ pub gone_near : {d e : Drafted} {p s at label : ℕ} (u : ℕ) → HasGone d e p
     in_neighbourhood (instance_of d) d.current u label ≡ in_neighbourhood (instance_of e) e.current u label
     + one_if (eqb s u)
 gone_near {e} {s} {at} {label} u gone s_is at_is label_is =
-    let label_e : neighbourhood_of e.origin at ≡ label =
-    cc (gone.fewer.origin) in
+    let label_e : neighbourhood_of e.origin at ≡ label = cc (gone.fewer.origin) in
     let more = rw (← s_is, ← at_is, eq-eqb (neighbourhood_of e.origin at) label label_e) at
     (neighbourhood_more u label gone.fewer) in
     cc (both_true (eqb s u))
@@ -55,10 +54,8 @@ pub gone_last : {d e : Drafted} {p s at x : ℕ} → HasGone d e p → s ≡ ser
     at ≡ machine_at d.current p → x ≡ location_of d.origin at → x < 2 ^ 32 → in_location (instance_of d) d.current s x ≡
     1 → locations_of (instance_of d) d.current s ≡ locations_of (instance_of e) e.current s + 1
 gone_last {d} {e} {p} {s} {at} {x} gone s_is at_is x_is small one =
-    let x_e : location_of e.origin (machine_at d.current p) ≡ x =
-    cc (gone.fewer.origin) in
-    let none : in_location (instance_of e) e.current s x ≤ 0 =
-    omega (arith, gone_in gone s_is at_is x_is, one) in
+    let x_e : location_of e.origin (machine_at d.current p) ≡ x = cc (gone.fewer.origin) in
+    let none : in_location (instance_of e) e.current s x ≤ 0 = omega (arith, gone_in gone s_is at_is x_is, one) in
     let all = rw (le-ltb 0 (in_location (instance_of e) e.current s x) none) at
     (locations_more gone.fewer (sym s_is) x_e small) in
     omega (arith, all)
@@ -67,10 +64,8 @@ pub gone_other : {d e : Drafted} {p s at x : ℕ} → HasGone d e p → s ≡ se
     at ≡ machine_at d.current p → x ≡ location_of d.origin at → x < 2 ^ 32 → in_location (instance_of d) d.current s x ≢
     1 → locations_of (instance_of d) d.current s ≡ locations_of (instance_of e) e.current s
 gone_other {d} {e} {p} {s} {at} {x} gone s_is at_is x_is small more =
-    let x_e : location_of e.origin (machine_at d.current p) ≡ x =
-    cc (gone.fewer.origin) in
-    let some : 0 < in_location (instance_of e) e.current s x =
-    omega (arith, gone_in gone s_is at_is x_is, more) in
+    let x_e : location_of e.origin (machine_at d.current p) ≡ x = cc (gone.fewer.origin) in
+    let some : 0 < in_location (instance_of e) e.current s x = omega (arith, gone_in gone s_is at_is x_is, more) in
     let all = rw (lt-ltb 0 (in_location (instance_of e) e.current s x) some) at
     (locations_more gone.fewer (sym s_is) x_e small) in
     omega (arith, all)
@@ -79,8 +74,7 @@ gone_other {d} {e} {p} {s} {at} {x} gone s_is at_is x_is small more =
 
 pub come_near_mine : {d e : Drafted} {s m u label : ℕ} → HasCome d e s m → label ≡ neighbourhood_of d.origin m → u ≡ s →
     in_neighbourhood (instance_of e) e.current u label ≡ in_neighbourhood (instance_of d) d.current u label + 1
-come_near_mine {s} {u} come label_is same =
-    rw (eq-eqb s u (sym same)) at (come_near u come label_is)
+come_near_mine {s} {u} come label_is same = rw (eq-eqb s u (sym same)) at (come_near u come label_is)
 
 pub come_near_other : {d e : Drafted} {s m label : ℕ} (u : ℕ) → HasCome d e s m → label ≡ neighbourhood_of d.origin m →
     u ≢ s → in_neighbourhood (instance_of e) e.current u label ≡ in_neighbourhood (instance_of d) d.current u label

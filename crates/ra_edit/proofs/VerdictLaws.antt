@@ -37,7 +37,7 @@ use Rattle.ra_edit.specs.Replies.{barred, broken_in}
 use Rattle.ra_edit.specs.Keeping.{IsSoundDraft, IsKeptDraft}
 use Rattle.ra_edit.proofs.ShareLaws.{load_more, balance_more, process_more, way_more, moved_more, load_term}
 use Rattle.ra_edit.proofs.ShareLaws.{balance_term}
-use Rattle.ra_edit.proofs.BrokenLaws.{services_with, with_both}
+use Rattle.ra_edit.proofs.BrokenLaws.{services_with, with_both, renamed}
 use Rattle.ra_edit.proofs.TestLaws.{service_weight_in}
 use Rattle.ra_edit.proofs.AddedLaws.{added_law}
 use Rattle.ra_edit.proofs.RetiredLaws.{retired_law}
@@ -54,9 +54,7 @@ service_read i rows requirements row = ap (λ (x : ProcessRow). x.service.0) (ge
 
 machine_read : (a : List Machine) (n : ℕ) (m : Machine) → length a ≡ n → machine_at (a ++ m ∷ []) n ≡ m.0
 unfolding machine_at
-machine_read a n m size =
-    ap (λ (x : Machine). x.0)
-    (rw size at (get_or-append_seam a m [] (record { 0 = 0 })))
+machine_read a n m size = ap (λ (x : Machine). x.0) (rw size at (get_or-append_seam a m [] (record { 0 = 0 })))
 
 has_come : {d e : Drafted} (s : Service) (m : Machine) (c : ℕ) (requirements : List ℕ) → IsSoundDraft d →
     s.0 < service_count d.origin → m.0 < machine_count d.origin → e ≡ added d s m c requirements → HasCome d e s.0 m.0
@@ -75,10 +73,7 @@ has_come {d} s m c requirements sound s_in m_in same =
 pub has_gone : {d : Drafted} (p : ℕ) → IsSoundDraft d → p < length d.rows → HasGone d (retired d p) p
 has_gone {d} p sound within =
     let few = few_of sound in
-    record {
-      there = within;
-      fewer = more_retired d.requirements few (λ q r q_in apart column. refl) within;
-    }
+    record { there = within; fewer = more_retired d.requirements few (λ q r q_in apart column. refl) within }
 
 has_other : {d e : Drafted} (p : ℕ) (requirements : List ℕ) → IsSoundDraft d → p < length d.rows →
     length requirements ≡ resource_count d.origin → e ≡ resized d p requirements → HasOther d e p
@@ -101,18 +96,16 @@ has_other {d} p requirements sound within width same =
 come_asks : {d : Drafted} (s : Service) (m : Machine) (c : ℕ) (requirements : List ℕ) → IsSoundDraft d →
     length requirements ≡ resource_count d.origin → Asks (added d s m c requirements) (length d.rows) requirements
 unfolding added
-come_asks {d} s m c requirements sound width =
-    record {
-      one_each = width;
-      each = λ r column.
-          cc (
-            requirement_read d.origin (d.rows ++ process_of s c ∷ []) (d.requirements ++ requirements)
-                (length d.rows) r,
-            cell_is (resource_count d.origin) (d.requirements ++ requirements) (length d.rows) r,
-            (few_of sound).table,
-            get_or-append-add d.requirements requirements r 0,
-          );
-    }
+come_asks {d} s m c requirements sound width = record {
+  one_each = width;
+  each = λ r column.
+      cc (
+        requirement_read d.origin (d.rows ++ process_of s c ∷ []) (d.requirements ++ requirements) (length d.rows) r,
+        cell_is (resource_count d.origin) (d.requirements ++ requirements) (length d.rows) r,
+        (few_of sound).table,
+        get_or-append-add d.requirements requirements r 0,
+      );
+}
 
 other_asks : {d : Drafted} (p : ℕ) (requirements : List ℕ) → IsSoundDraft d → p < length d.rows →
     length requirements ≡ resource_count d.origin → Asks (resized d p requirements) p requirements
@@ -131,8 +124,7 @@ pub edited_is : {d e : Drafted} (edit : Edit) (requirements : List ℕ) → IsSo
 unfolding edited
 edited_is {d} (Add s m c) requirements sound free fits width same = (
   has_come s m c requirements sound fits.0 fits.1 same,
-  subst (λ (f : Drafted). Asks f (length d.rows) requirements) (sym same)
-      (come_asks s m c requirements sound width),
+  subst (λ (f : Drafted). Asks f (length d.rows) requirements) (sym same) (come_asks s m c requirements sound width),
 )
 edited_is {d} (Retire p) requirements sound free fits width same =
     rw same (has_gone p sound (free_retire (length d.rows) p free).0)
@@ -240,8 +232,7 @@ moved_same {e} {p} s more home =
     omega (
       arith,
       rw (eq-eqb (machine_at e.initial p) (machine_at e.current p) home) at (moved_more s more),
-      never (eqb
-          (service_of (instance_of e) p) s),
+      never (eqb (service_of (instance_of e) p) s),
     )
   where
     never : (b : Bool) → one_if (b && false) ≡ 0
@@ -358,14 +349,6 @@ way_with : (i : Tables) (rows : List ProcessRow) (t u : List ℕ) (a0 a : List M
 unfolding with_process_rows machine_cost tally way_share way_cost_of process_count machine_count machine_weight_of
 way_with i rows t u a0 a = refl
 
-pub renamed : (f : Tables → List Machine → List Machine → ℕ) (d e : Drafted) →
-    ((i : Tables) (rows : List ProcessRow) (t u : List ℕ) (a0 a : List Machine) →
-    f (with_process_rows i rows t) a0 a ≡ f (with_process_rows i rows u) a0 a) → e.origin ≡ d.origin → e.rows ≡ d.rows →
-    e.initial ≡ d.initial → e.current ≡ d.current → f (instance_of d) d.initial d.current ≡
-    f (instance_of e) e.initial e.current
-renamed f d e same origin rows initial current =
-    cc (same d.origin d.rows d.requirements e.requirements d.initial d.current)
-
 pub other_parts : {d e : Drafted} {cost : Parts} {p m : ℕ} {before after : MachineCosts} (l b : ℕ) →
     WellFormed d.origin →
     m < machine_count d.origin → m ≡ machine_at d.current p → HasParts d cost → HasOther d e p → AreCostsOn d m before →
@@ -381,11 +364,9 @@ other_parts {d} {e} {cost} {p} {m} l b well m_in here has other before_is after_
     let low_in = rw low_origin at m_in in
     let low_well = subst WellFormed low_origin well in
     let at_low : (f : Drafted) → f.origin ≡ low.origin → row_load f.origin m (use_of (instance_of f) f.current m) ≡
-    row_load low.origin m (use_of (instance_of f) f.current m) =
-    λ f same. cc in
+    row_load low.origin m (use_of (instance_of f) f.current m) = λ f same. cc in
     let on_low : (f : Drafted) → f.origin ≡ low.origin → row_balance f.origin m (use_of (instance_of f) f.current m) ≡
-    row_balance low.origin m (use_of (instance_of f) f.current m) =
-    λ f same. cc in
+    row_balance low.origin m (use_of (instance_of f) f.current m) = λ f same. cc in
     parts_from e l b cost.process cost.service cost.machine
     (omega (
       arith,

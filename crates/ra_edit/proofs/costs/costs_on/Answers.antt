@@ -15,8 +15,7 @@ returns-clause-costs c = λ e same has.
       load = cc (c.row_load.ensures.value, row_load_same e.origin m row used has.each);
       balance = cc (
         c.row_balance.ensures.value,
-        row_balance_same e.origin m row used (subst WellFormed
-            (sym same) c.args.inst.now.well_formed) has.each,
+        row_balance_same e.origin m row used (subst WellFormed (sym same) c.args.inst.now.well_formed) has.each,
       );
       load_small = c.row_load.ensures.bound;
       balance_small = c.row_balance.ensures.bound;

@@ -29,13 +29,12 @@ replaced-requires-2 c =
     let d = drafted c.args.inst.now.tables c.args.lists.now in
     let has = parts_told c.requires.kept c.small.ensures in
     record {
-      counted =
-          omega (
-            arith,
-            has.balance,
-            balance_counted c.requires.machine (c.costs_on-before.ensures.costs d refl
-                (c.use_row.ensures.row d refl c.requires.loads)),
-          );
+      counted = omega (
+        arith,
+        has.balance,
+        balance_counted c.requires.machine (c.costs_on-before.ensures.costs d refl
+            (c.use_row.ensures.row d refl c.requires.loads)),
+      );
       fits = omega (arith, has.balance_small, c.costs_on-after.ensures.balance_small);
     }
 
@@ -52,19 +51,17 @@ returns-clause-costs c = λ e same has.
     }
 
 pub returns-clause-load_small : goal.returns-clause-load_small
-returns-clause-load_small c =
-    omega (
-      arith,
-      (parts_told c.requires.kept c.small.ensures).load_small,
-      c.costs_on-after.ensures.load_small,
-      c.replaced.ensures,
-    )
+returns-clause-load_small c = omega (
+  arith,
+  (parts_told c.requires.kept c.small.ensures).load_small,
+  c.costs_on-after.ensures.load_small,
+  c.replaced.ensures,
+)
 
 pub returns-clause-balance_small : goal.returns-clause-balance_small
-returns-clause-balance_small c =
-    omega (
-      arith,
-      (parts_told c.requires.kept c.small.ensures).balance_small,
-      c.costs_on-after.ensures.balance_small,
-      c.replaced-2.ensures,
-    )
+returns-clause-balance_small c = omega (
+  arith,
+  (parts_told c.requires.kept c.small.ensures).balance_small,
+  c.costs_on-after.ensures.balance_small,
+  c.replaced-2.ensures,
+)

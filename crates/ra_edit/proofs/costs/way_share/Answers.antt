@@ -12,11 +12,10 @@ pub machine_of-requires-2 : goal.machine_of-requires-2
 machine_of-requires-2 c = current_read c.requires.sound c.requires.process
 
 pub move_cost-way-requires : goal.move_cost-way-requires
-move_cost-way-requires c =
-    record {
-      from = home_at c.requires.sound c.requires.process c.machine_of.ensures;
-      to = here_at c.requires.sound c.requires.process c.machine_of-2.ensures;
-    }
+move_cost-way-requires c = record {
+  from = home_at c.requires.sound c.requires.process c.machine_of.ensures;
+  to = here_at c.requires.sound c.requires.process c.machine_of-2.ensures;
+}
 
 pub returns : goal.returns
 returns c = ap₂ (λ x y. x * y) (c.from.ensures ∙ c.machine_weight.ensures) (c.from-2.ensures ∙ c.move_cost-way.ensures

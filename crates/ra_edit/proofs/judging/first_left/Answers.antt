@@ -38,8 +38,7 @@ pub returns-in-Some : goal.returns-in-Some
 unfolding service_at
 returns-in-Some c = λ e gone.
     let d = drafted c.args.inst.now.tables c.args.lists.now in
-    let left =
-    gone_left gone
+    let left = gone_left gone
     c.requires.mine c.requires.here c.neighbourhood-label.ensures
     (near_told d d.current c.args.s.0 c.neighbourhood-label.result
     (c.at.ensures d c.requires.members)) (omega (arith, c.if-at-gt1.false)) in
@@ -55,8 +54,7 @@ returns-in-Some c = λ e gone.
 pub returns : goal.returns
 returns c = λ e gone.
     let d = drafted c.args.inst.now.tables c.args.lists.now in
-    let left =
-    gone_left gone
+    let left = gone_left gone
     c.requires.mine c.requires.here c.neighbourhood-label.ensures
     (near_told d d.current c.args.s.0 c.neighbourhood-label.result
     (c.at.ensures d c.requires.members)) (omega (arith, c.if-at-gt1.false)) in

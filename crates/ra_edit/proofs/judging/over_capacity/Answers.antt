@@ -11,5 +11,4 @@ returns-then-from-used c = λ e same is. transient_over e c.args.m.0 c.args.r.0 
 
 pub returns-else-from-used : goal.returns-else-from-used
 returns-else-from-used c = λ e same is. transient_within e c.args.m.0 c.args.r.0 c.args.used c.capacity-cap.result is
-    (cc (c.capacity-cap.ensures))
-    (omega (arith, c.if-from-used.false, c.from.ensures))
+    (cc (c.capacity-cap.ensures)) (omega (arith, c.if-from-used.false, c.from.ensures))

@@ -10,5 +10,4 @@ returns-in-Some c = λ e gone. found_first _ c.in-Some.cause (sym (c.spread_test
 
 pub returns : goal.returns
 unfolding retired_breaks
-returns c = λ e gone. found_later (sym (c.spread_test.ensures e gone) ∙ c.in_default.is)
-    (c.first_left.ensures e gone)
+returns c = λ e gone. found_later (sym (c.spread_test.ensures e gone) ∙ c.in_default.is) (c.first_left.ensures e gone)

@@ -30,13 +30,12 @@ apart : (c : goal.After-count-before) → eqb (machine_at c.args.lists.now.initi
 apart c = rw (c.machine_of.ensures, c.machine_of-2.ensures) at (sym c.eq.ensures ∙ c.if-eq.false)
 
 pub overflow_sub-result : goal.overflow_sub-result
-overflow_sub-result c =
-    omega (
-      arith,
-      c.count-before.ensures.value,
-      c.requires.moved.each c.service_of-service.result.0,
-      gone_counted (has_gone c.args.p.0 c.requires.sound c.requires.process) c.service_of-service.ensures (apart c),
-    )
+overflow_sub-result c = omega (
+  arith,
+  c.count-before.ensures.value,
+  c.requires.moved.each c.service_of-service.result.0,
+  gone_counted (has_gone c.args.p.0 c.requires.sound c.requires.process) c.service_of-service.ensures (apart c),
+)
 
 pub returns-clause-change : goal.returns-clause-change
 returns-clause-change c = record {
@@ -51,5 +50,4 @@ returns-clause-change c = record {
 
 pub returns-clause-counts : goal.returns-clause-counts
 returns-clause-counts c = λ e gone.
-    changed_one _ c.requires.moved gone
-    c.service_of-service.ensures (apart c) c.count-before.ensures.value refl
+    changed_one _ c.requires.moved gone c.service_of-service.ensures (apart c) c.count-before.ensures.value refl

@@ -13,8 +13,7 @@ returns-in-Add c = λ e asked edited.
     (λ (added : (s : Service) × (m : Machine) × (x : ℕ) × (c.args.edit ≡ Add s m x)).
     followed_come c.requires.moved (rw added.3 at edited).0)
     (λ (resized : (p : ℕ) × (c.args.edit ≡ Resize p)).
-    followed_other c.requires.moved (rw resized.1 at edited).0)
-    c.in-Add.is
+    followed_other c.requires.moved (rw resized.1 at edited).0) c.in-Add.is
 
 pub follow_retired-requires : goal.follow_retired-requires
 follow_retired-requires c = record {

@@ -15,5 +15,4 @@ returns-in-Some c = λ e gone.
 
 pub returns-in_default : goal.returns-in_default
 returns-in_default c = λ e gone.
-    followed_none c.requires.moved gone
-    (rw c.in_default.is at (c.change_without.ensures.counts e gone))
+    followed_none c.requires.moved gone (rw c.in_default.is at (c.change_without.ensures.counts e gone))

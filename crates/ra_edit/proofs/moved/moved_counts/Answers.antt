@@ -27,8 +27,7 @@ count_moved-requires-clause-below c =
     c.loop-p.invariant.counted
 
 pub count_moved-requires-clause-few : goal.count_moved-requires-clause-few
-count_moved-requires-clause-few c =
-    omega (arith, c.loop-p.invariant.limit, c.args.inst.now.well_formed.few_processes)
+count_moved-requires-clause-few c = omega (arith, c.loop-p.invariant.limit, c.args.inst.now.well_formed.few_processes)
 
 pub loop-p-preserved : goal.loop-p-preserved
 loop-p-preserved c = record {

@@ -7,8 +7,7 @@ use Rattle.ra_edit.proofs.moved.moved_counts.Given as goal
 
 abbrev pub invariant-loop-p : goal.invariant-loop-p
 invariant-loop-p l = record {
-  counted :
-      HasMoved (tables_with l.inst.tables l.lists) l.lists.initial.items l.lists.current.items l.p l.moved.counts;
+  counted : HasMoved (tables_with l.inst.tables l.lists) l.lists.initial.items l.lists.current.items l.p l.moved.counts;
   slots : length l.moved.counts ≡ service_count l.inst.tables;
   limit : l.moved.limit ≡ process_count l.inst.tables;
 }

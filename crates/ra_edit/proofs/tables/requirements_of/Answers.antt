@@ -21,13 +21,12 @@ returns g c = requirement_whole c.args.inst.now.tables c.loop-k.k _ c.args.inst.
     ))
 
 pub push-requires : goal.push-requires
-push-requires g c =
-    omega (
-      arith,
-      c.loop-k.invariant.size,
-      c.loop-k.invariant.room,
-      rw (c.processes.ensures, c.resources-width.ensures) at c.loop-k-test.true,
-    )
+push-requires g c = omega (
+  arith,
+  c.loop-k.invariant.size,
+  c.loop-k.invariant.room,
+  rw (c.processes.ensures, c.resources-width.ensures) at c.loop-k-test.true,
+)
 
 pub requirement-requires-clause-process : goal.requirement-requires-clause-process
 requirement-requires-clause-process g c =

@@ -57,18 +57,15 @@ costs_with-costs-requires c = record {
 }
 
 pub overflow_add-kept : goal.overflow_add-kept
-overflow_add-kept c =
-    omega (
-      arith,
-      (parts_told c.requires.held.kept c.small.ensures).machine_small,
-      times_small c.from.result c.from-2.result (omega (arith, c.from.ensures))
-          (omega (arith, c.from-2.ensures)),
-    )
+overflow_add-kept c = omega (
+  arith,
+  (parts_told c.requires.held.kept c.small.ensures).machine_small,
+  times_small c.from.result c.from-2.result (omega (arith, c.from.ensures)) (omega (arith, c.from-2.ensures)),
+)
 
 pub summed-cost-requires : goal.summed-cost-requires
 summed-cost-requires c =
-    let has = parts_told c.requires.held.kept
-    c.small.ensures in
+    let has = parts_told c.requires.held.kept c.small.ensures in
     record {
       load_small = c.costs_with-costs.ensures.load_small;
       balance_small = c.costs_with-costs.ensures.balance_small;
@@ -77,8 +74,7 @@ summed-cost-requires c =
       machine_small = omega (
         arith,
         has.machine_small,
-        times_small c.from.result c.from-2.result (omega (arith, c.from.ensures))
-            (omega (arith, c.from-2.ensures)),
+        times_small c.from.result c.from-2.result (omega (arith, c.from.ensures)) (omega (arith, c.from-2.ensures)),
       );
     }
 

@@ -51,8 +51,7 @@ row_changed-requires-2 c =
       more = c.requires.asked ∙ sym c.transient_row.ensures.one_each;
       each = λ r w. (
         row_enough (transient_step _ (has_gone c.args.p.0 c.requires.held.kept.sound c.requires.process).fewer
-            (there_first
-            (draft_in c.args.kept.now) _ c.machine_of-home.ensures)) is c.requirements_of-was.ensures r w,
+            (there_first (draft_in c.args.kept.now) _ c.machine_of-home.ensures)) is c.requirements_of-was.ensures r w,
         row_small is (λ q. transient_under _ _ _ _ q c.requires.held.kept.sound.well_formed c.small.ensures) r w,
       );
     }
@@ -77,14 +76,13 @@ row_changed-requires-3 c =
     }
 
 pub resized_breaks-requires : goal.resized_breaks-requires
-resized_breaks-requires c =
-    record {
-      home = home_at c.requires.held.kept.sound c.requires.process c.machine_of-home.ensures;
-      here = here_at c.requires.held.kept.sound c.requires.process c.machine_of-here.ensures;
-      used = rw c.as_slice.ensures (c.in_ok-used.ensures.one_each ∙ c.use_row.ensures.one_each);
-      at_home = rw c.as_slice-2.ensures (c.in_ok-at_home.ensures.one_each ∙ c.transient_row.ensures.one_each);
-      at_here = rw c.as_slice-3.ensures (c.in_ok-at_here.ensures.one_each ∙ c.transient_row-2.ensures.one_each);
-    }
+resized_breaks-requires c = record {
+  home = home_at c.requires.held.kept.sound c.requires.process c.machine_of-home.ensures;
+  here = here_at c.requires.held.kept.sound c.requires.process c.machine_of-here.ensures;
+  used = rw c.as_slice.ensures (c.in_ok-used.ensures.one_each ∙ c.use_row.ensures.one_each);
+  at_home = rw c.as_slice-2.ensures (c.in_ok-at_home.ensures.one_each ∙ c.transient_row.ensures.one_each);
+  at_here = rw c.as_slice-3.ensures (c.in_ok-at_here.ensures.one_each ∙ c.transient_row-2.ensures.one_each);
+}
 
 -- the row of its machine after the edit, and what is broken then
 used_row : (c : After-resized_breaks) → (e : Drafted) → HasOther (draft_in c.args.kept.now) e c.args.p.0 →
@@ -120,18 +118,16 @@ returns-in-Some c = λ e other asks. broken_then (goal.at.returns-in-Some c).Aft
     ∙ c.in-Some.is
 
 pub costs_with-costs-requires : goal.costs_with-costs-requires
-costs_with-costs-requires c =
-    record {
-      kept = c.requires.held.kept;
-      loads = c.requires.held.loads_are;
-      machine = here_at c.requires.held.kept.sound c.requires.process c.machine_of-here.ensures;
-      one_each = rw c.as_slice-4.ensures (c.in_ok-used.ensures.one_each ∙ c.use_row.ensures.one_each);
-    }
+costs_with-costs-requires c = record {
+  kept = c.requires.held.kept;
+  loads = c.requires.held.loads_are;
+  machine = here_at c.requires.held.kept.sound c.requires.process c.machine_of-here.ensures;
+  one_each = rw c.as_slice-4.ensures (c.in_ok-used.ensures.one_each ∙ c.use_row.ensures.one_each);
+}
 
 pub summed-cost-requires : goal.summed-cost-requires
 summed-cost-requires c =
-    let has = parts_told c.requires.held.kept
-    c.small.ensures in
+    let has = parts_told c.requires.held.kept c.small.ensures in
     record {
       load_small = c.costs_with-costs.ensures.load_small;
       balance_small = c.costs_with-costs.ensures.balance_small;

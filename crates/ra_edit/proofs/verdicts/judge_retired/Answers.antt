@@ -9,17 +9,16 @@ pub machine_of-here-requires : goal.machine_of-here-requires
 machine_of-here-requires c = current_read c.requires.held.kept.sound c.requires.process
 
 pub retired_breaks-requires : goal.retired_breaks-requires
-retired_breaks-requires c =
-    record {
-      sound = c.requires.held.kept.sound;
-      members = c.requires.held.members_are;
-      topology = c.requires.held.topology_is;
-      service = service_at c.requires.held.kept.sound c.requires.process c.service_of-s.ensures;
-      process = c.requires.process;
-      machine = here_at c.requires.held.kept.sound c.requires.process c.machine_of-here.ensures;
-      mine = c.service_of-s.ensures;
-      here = c.machine_of-here.ensures;
-    }
+retired_breaks-requires c = record {
+  sound = c.requires.held.kept.sound;
+  members = c.requires.held.members_are;
+  topology = c.requires.held.topology_is;
+  service = service_at c.requires.held.kept.sound c.requires.process c.service_of-s.ensures;
+  process = c.requires.process;
+  machine = here_at c.requires.held.kept.sound c.requires.process c.machine_of-here.ensures;
+  mine = c.service_of-s.ensures;
+  here = c.machine_of-here.ensures;
+}
 
 pub returns-in-Some : goal.returns-in-Some
 returns-in-Some c = λ e gone. cc (

@@ -30,31 +30,24 @@ costs_with-costs-requires c = record {
 }
 
 pub overflow_sub-process : goal.overflow_sub-process
-overflow_sub-process c =
-    omega (
-      arith,
-      (parts_told c.requires.held.kept
-          c.small.ensures).process,
-      c.moved_share.ensures,
-      gone_process
-          (has_gone c.args.p.0 c.requires.held.kept.sound c.requires.process),
-    )
+overflow_sub-process c = omega (
+  arith,
+  (parts_told c.requires.held.kept c.small.ensures).process,
+  c.moved_share.ensures,
+  gone_process (has_gone c.args.p.0 c.requires.held.kept.sound c.requires.process),
+)
 
 pub overflow_sub-machine : goal.overflow_sub-machine
-overflow_sub-machine c =
-    omega (
-      arith,
-      (parts_told c.requires.held.kept
-          c.small.ensures).machine,
-      c.way_share.ensures,
-      gone_way
-          (has_gone c.args.p.0 c.requires.held.kept.sound c.requires.process),
-    )
+overflow_sub-machine c = omega (
+  arith,
+  (parts_told c.requires.held.kept c.small.ensures).machine,
+  c.way_share.ensures,
+  gone_way (has_gone c.args.p.0 c.requires.held.kept.sound c.requires.process),
+)
 
 pub summed-requires : goal.summed-requires
 summed-requires c =
-    let has = parts_told c.requires.held.kept
-    c.small.ensures in
+    let has = parts_told c.requires.held.kept c.small.ensures in
     record {
       load_small = c.costs_with-costs.ensures.load_small;
       balance_small = c.costs_with-costs.ensures.balance_small;

@@ -8,8 +8,7 @@ use Rattle.ra_edit.proofs.counts.Counts.go.Goals as goal
 
 pub returns-then-left-eq0 : goal.returns-then-left-eq0
 returns-then-left-eq0 c = count_lowered (get key_cmp c.args.self.now.map) (get key_cmp c.remove.new.self) c.args.s.0
-    c.args.label _ c.remove.ensures.updates.0
-    (omega (arith, c.at-left.ensures, c.requires, c.if-left-eq0.true))
+    c.args.label _ c.remove.ensures.updates.0 (omega (arith, c.at-left.ensures, c.requires, c.if-left-eq0.true))
 
 pub returns-in-Some : goal.returns-in-Some
 returns-in-Some c = count_lowered (get key_cmp c.args.self.now.map)

@@ -25,15 +25,13 @@ returns-in-Some-clause-after c =
     (c.edit-edit.ensures, c.barred.ensures, c.in-Some.is)))
 
 pub judge-requires : goal.judge-requires
-judge-requires c =
-    record {
-      held = c.self.invariant;
-      free = sym c.barred.ensures ∙ c.in_default.is;
-      fits = next_fits c.args.i c.self.view_is c.requires.fits
-          c.requires.edit c.edit-edit.ensures;
-      asked = next_width c.requirements_of-asked.result.now c.self.view_is
-          c.requires.fits c.requirements_of-asked.ensures.one_each;
-    }
+judge-requires c = record {
+  held = c.self.invariant;
+  free = sym c.barred.ensures ∙ c.in_default.is;
+  fits = next_fits c.args.i c.self.view_is c.requires.fits c.requires.edit c.edit-edit.ensures;
+  asked = next_width c.requirements_of-asked.result.now c.self.view_is
+      c.requires.fits c.requirements_of-asked.ensures.one_each;
+}
 
 -- the edit breaks a constraint: what is answered, and what is left
 refused : (c : In-Refused) → let d = draft_in c.self.inside.kept in
@@ -52,26 +50,22 @@ pub returns-in-Refused-clause-after : goal.returns-in-Refused-clause-after
 returns-in-Refused-clause-after c = rw c.self.view_is at (refused c).1
 
 pub follow-requires : goal.follow-requires
-follow-requires c =
-    record {
-      sound = c.self.invariant.kept.sound;
-      members = c.self.invariant.members_are;
-      free = sym c.barred.ensures ∙ c.in_default.is;
-      fits = next_fits c.args.i c.self.view_is c.requires.fits
-          c.requires.edit c.edit-edit.ensures;
-    }
+follow-requires c = record {
+  sound = c.self.invariant.kept.sound;
+  members = c.self.invariant.members_are;
+  free = sym c.barred.ensures ∙ c.in_default.is;
+  fits = next_fits c.args.i c.self.view_is c.requires.fits c.requires.edit c.edit-edit.ensures;
+}
 
 pub follow-requires-in-Fine : goal.follow-requires-in-Fine
-follow-requires-in-Fine c =
-    record {
-      sound = c.self.invariant.kept.sound;
-      loads = c.self.invariant.loads_are;
-      free = sym c.barred.ensures ∙ c.in_default.is;
-      fits = next_fits c.args.i c.self.view_is c.requires.fits
-          c.requires.edit c.edit-edit.ensures;
-      asked = next_width c.requirements_of-asked.result.now c.self.view_is
-          c.requires.fits c.requirements_of-asked.ensures.one_each;
-    }
+follow-requires-in-Fine c = record {
+  sound = c.self.invariant.kept.sound;
+  loads = c.self.invariant.loads_are;
+  free = sym c.barred.ensures ∙ c.in_default.is;
+  fits = next_fits c.args.i c.self.view_is c.requires.fits c.requires.edit c.edit-edit.ensures;
+  asked = next_width c.requirements_of-asked.result.now c.self.view_is
+      c.requires.fits c.requirements_of-asked.ensures.one_each;
+}
 
 pub follow_moved-requires : goal.follow_moved-requires
 follow_moved-requires c = record {
@@ -81,14 +75,13 @@ follow_moved-requires c = record {
 }
 
 pub edit-requires : goal.edit-requires
-edit-requires c =
-    record {
-      sound = c.self.invariant.kept.sound;
-      room = c.self.invariant.room;
-      free = sym c.barred.ensures ∙ c.in_default.is;
-      width = next_width c.requirements_of-asked.result.now c.self.view_is
-          c.requires.fits c.requirements_of-asked.ensures.one_each;
-    }
+edit-requires c = record {
+  sound = c.self.invariant.kept.sound;
+  room = c.self.invariant.room;
+  free = sym c.barred.ensures ∙ c.in_default.is;
+  width = next_width c.requirements_of-asked.result.now c.self.view_is
+      c.requires.fits c.requirements_of-asked.ensures.one_each;
+}
 
 -- no memory for what is counted: nothing is changed
 pub invariant_of-self : goal.invariant_of-self
@@ -110,8 +103,7 @@ free : (c : goal.After-parts-in-Fine-1) →
 free c = ap (barred _) (sym c.edit-edit.ensures) ∙ sym c.barred.ensures ∙ c.in_default.is
 
 next_is : (c : goal.After-parts-in-Fine-1) → next c ≡ edited (draft_in c.self.inside.kept)
-    (edit_at c.args.edits.now c.args.i)
-    (row_of c.args.edits.now.width c.args.edits.now.requirements c.args.i)
+    (edit_at c.args.edits.now c.args.i) (row_of c.args.edits.now.width c.args.edits.now.requirements c.args.i)
 next_is c = cc (c.edit.ensures.lists, c.edit-edit.ensures, c.requirements_of-asked.ensures.row)
 
 made : (c : goal.After-parts-in-Fine-1) →
@@ -126,8 +118,7 @@ found c = rw c.in-Fine.is at (c.in_ok-cause.ensures _ (made c))
 done : (c : goal.After-parts-in-Fine-1) → let d = draft_in c.self.inside.kept in
     (Done c.in-Fine.parts.total ≡ edit_answer d c.args.edits.now c.args.i)
     × (next c ≡ after_edit d c.args.edits.now c.args.i)
-done c =
-    done_edit (draft_in c.self.inside.kept) c.args.edits.now c.args.i (free c) (next_is c) (found c).0 (found c).1
+done c = done_edit (draft_in c.self.inside.kept) c.args.edits.now c.args.i (free c) (next_is c) (found c).0 (found c).1
 
 pub invariant_of-self-in-Fine : goal.invariant_of-self-in-Fine
 invariant_of-self-in-Fine c = record {

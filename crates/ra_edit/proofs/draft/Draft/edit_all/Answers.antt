@@ -12,8 +12,7 @@ loop-i-preserved c = record {
       c.in_ok-reply.ensures.after;
   size = cc (
     c.push.ensures.items,
-    length-append c.loop-i.replies.items
-        (c.in_ok-reply.reply ∷ []),
+    length-append c.loop-i.replies.items (c.in_ok-reply.reply ∷ []),
     c.loop-i.invariant.size,
   );
   room = c.push.ensures.room ∙ c.loop-i.invariant.room;

@@ -13,12 +13,10 @@ extend_from_slice-requires c =
     row_fits _ _ _ _ _ c.requires.few (few_of c.requires.sound).table c.requires.width c.requires.room.requirements
 
 pub push-requires-2 : goal.push-requires-2
-push-requires-2 c =
-    omega (arith, (few_of c.requires.sound).initial, c.requires.few, c.requires.room.initial)
+push-requires-2 c = omega (arith, (few_of c.requires.sound).initial, c.requires.few, c.requires.room.initial)
 
 pub push-requires-3 : goal.push-requires-3
-push-requires-3 c =
-    omega (arith, (few_of c.requires.sound).current, c.requires.few, c.requires.room.current)
+push-requires-3 c = omega (arith, (few_of c.requires.sound).current, c.requires.few, c.requires.room.current)
 
 pub returns-clause-lists : goal.returns-clause-lists
 returns-clause-lists c = added_is (drafted c.args.inst.now.tables c.args.self.now) c.args.row c.args.machine

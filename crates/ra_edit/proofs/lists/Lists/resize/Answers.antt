@@ -7,8 +7,7 @@ use Rattle.ra_edit.proofs.lists.Lists.resize.Goals as goal
 
 pub write-requires : goal.write-requires
 write-requires c = part_within _ _ c.args.process c.resources.result _ _ c.resources.ensures
-    (few_of c.requires.sound).table c.requires.process
-    c.requires.width
+    (few_of c.requires.sound).table c.requires.process c.requires.width
 
 pub returns-clause-lists : goal.returns-clause-lists
 returns-clause-lists c = resized_is (drafted c.args.inst.now.tables c.args.self.now) c.args.process

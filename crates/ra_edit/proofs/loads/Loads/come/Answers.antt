@@ -16,8 +16,7 @@ add_amounts-requires-then-ne c = record {
   width = c.requires.width;
   place = omega (arith, c.requires.here, c.add_amounts-2.ensures.same_length);
   below = below_twice c.args.home.0 (slice_index c.args.amounts.now)
-      c.requires.between_below (λ r. omega (arith, c.type_inv.amounts r))
-      c.add_amounts-2.ensures;
+      c.requires.between_below (λ r. omega (arith, c.type_inv.amounts r)) c.add_amounts-2.ensures;
 }
 
 pub returns-then-ne : goal.returns-then-ne
@@ -26,16 +25,11 @@ returns-then-ne c =
     λ d. eqb-false c.args.home.0 c.args.here.0 (not-true _ (sym c.ne.ensures ∙ c.if-ne.true)) d in
     record {
       used = c.add_amounts.ensures;
-      between = between_two c.args.here.0
-          _ apart c.add_amounts-2.ensures c.add_amounts-then-ne.ensures;
+      between = between_two c.args.here.0 _ apart c.add_amounts-2.ensures c.add_amounts-then-ne.ensures;
     }
 
 pub returns-else-ne : goal.returns-else-ne
 returns-else-ne c =
     let same : c.args.home.0 ≡ c.args.here.0 =
     eqb-true c.args.home.0 c.args.here.0 (not-false _ (sym c.ne.ensures ∙ c.if-ne.false)) in
-    record {
-      used = c.add_amounts.ensures;
-      between = between_one
-          same c.add_amounts-2.ensures;
-    }
+    record { used = c.add_amounts.ensures; between = between_one same c.add_amounts-2.ensures }

@@ -13,8 +13,7 @@ take_amounts-requires-then-ne c =
       place = omega (arith, c.requires.here, c.take_amounts-2.ensures.same_length);
       enough = λ r w. omega (
         arith,
-        rw (ne_eqb c.args.home.0 c.args.here.0 apart) at
-            (c.take_amounts-2.ensures.each c.args.here.0 r w),
+        rw (ne_eqb c.args.home.0 c.args.here.0 apart) at (c.take_amounts-2.ensures.each c.args.here.0 r w),
         (c.requires.here_enough r w),
       );
     }
@@ -25,16 +24,11 @@ returns-then-ne c =
     λ d. eqb-false c.args.home.0 c.args.here.0 (not-true _ (sym c.ne.ensures ∙ c.if-ne.true)) d in
     record {
       used = c.take_amounts.ensures;
-      between = between_back c.args.here.0 _
-          apart c.take_amounts-then-ne.ensures c.take_amounts-2.ensures;
+      between = between_back c.args.here.0 _ apart c.take_amounts-then-ne.ensures c.take_amounts-2.ensures;
     }
 
 pub returns-else-ne : goal.returns-else-ne
 returns-else-ne c =
     let same : c.args.home.0 ≡ c.args.here.0 =
     eqb-true c.args.home.0 c.args.here.0 (not-false _ (sym c.ne.ensures ∙ c.if-ne.false)) in
-    record {
-      used = c.take_amounts.ensures;
-      between = between_one
-          same c.take_amounts-2.ensures;
-    }
+    record { used = c.take_amounts.ensures; between = between_one same c.take_amounts-2.ensures }

@@ -5,13 +5,10 @@ use Rattle.ra_edit.proofs.MemberLaws.{members_come, members_few, members_stay}
 use Rattle.ra_edit.proofs.members.Members.add.Goals as goal
 
 pub come-requires-clause-few : goal.come-requires-clause-few
-come-requires-clause-few c =
-    members_few
-    (few_of c.requires.sound).rows c.requires.members c.admit.ensures.same
+come-requires-clause-few c = members_few (few_of c.requires.sound).rows c.requires.members c.admit.ensures.same
 
 pub come-requires-clause-numbered : goal.come-requires-clause-numbered
-come-requires-clause-numbered c =
-    (members_stay c.requires.members c.admit.ensures.same).numbered
+come-requires-clause-numbered c = (members_stay c.requires.members c.admit.ensures.same).numbered
 
 pub returns-clause-after : goal.returns-clause-after
 returns-clause-after c = λ e come.
@@ -21,6 +18,5 @@ returns-clause-after c = λ e come.
 
 pub returns-in_err-admit-clause-memory : goal.returns-in_err-admit-clause-memory
 returns-in_err-admit-clause-memory c =
-    let stays =
-    members_stay c.requires.members c.admit.ensures.same in
+    let stays = members_stay c.requires.members c.admit.ensures.same in
     search rules

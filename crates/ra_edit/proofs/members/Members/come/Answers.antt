@@ -7,10 +7,7 @@ pub come-requires-clause-below : goal.come-requires-clause-below
 come-requires-clause-below c = omega (arith, c.requires.few.each c.args.s.0 (OnMachine c.args.m))
 
 pub come-requires-2-clause-below : goal.come-requires-2-clause-below
-come-requires-2-clause-below c = omega (
-  arith,
-  c.requires.few.each c.args.s.0 (InNeighbourhood c.neighbourhood.result),
-)
+come-requires-2-clause-below c = omega (arith, c.requires.few.each c.args.s.0 (InNeighbourhood c.neighbourhood.result))
 
 pub come-requires-3-clause-below : goal.come-requires-3-clause-below
 come-requires-3-clause-below c = omega (arith, c.requires.few.each c.args.s.0 (InLocation c.location.result))

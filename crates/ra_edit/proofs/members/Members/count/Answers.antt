@@ -18,9 +18,7 @@ pub come-requires-clause-service : goal.come-requires-clause-service
 come-requires-clause-service c = service_at c.requires.sound c.requires.process c.service_of-s.ensures
 
 pub come-requires-clause-numbered : goal.come-requires-clause-numbered
-come-requires-clause-numbered c =
-    (members_stay
-    c.requires.counted c.admit.ensures.same).numbered
+come-requires-clause-numbered c = (members_stay c.requires.counted c.admit.ensures.same).numbered
 
 pub come-requires-clause-few : goal.come-requires-clause-few
 come-requires-clause-few c =

@@ -14,5 +14,4 @@ retire-requires-clause-process c = (free_retire _ _ (rw c.in-Retire.is at c.requ
 
 pub returns-in-Resize-clause-after : goal.returns-in-Resize-clause-after
 returns-in-Resize-clause-after c = rw c.in-Resize.is (λ e asked edited.
-    members_resized
-    c.requires.members edited.0)
+    members_resized c.requires.members edited.0)
