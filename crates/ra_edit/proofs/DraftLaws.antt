@@ -1,8 +1,8 @@
 -- What the answer to an edit is, and what is left after it.
-use Rattle.std.proofs.Common.{◌≡◌, ◌≢◌, ℕ, ◌<◌, ◌≤◌, List, length, Some, None, refl, sym, ◌∙◌, subst, ⊎_elim}
-use Rattle.std.proofs.Common.{ap, eq-eqb, ne_eqb}
+use Rattle.std.proofs.Common.{◌≡◌, ℕ, ◌<◌, ◌≤◌, List, length, Some, None, refl, sym, ◌∙◌, subst}
+use Rattle.std.proofs.Common.{ap, eqb, ltb, inl, inr}
 use Rattle.std.proofs.Math.Nat.{mod-eq_of_lt}
-use Rattle.std.proofs.lemmas.Bool.{cases_lt, cases_eq, lt-ltb, le-ltb}
+use Rattle.std.proofs.lemmas.Bool.{cases_Bool}
 use Rattle.ra_base.specs.declared.causes.Cause.{Cause}
 use Rattle.ra_base.specs.declared.costs.Parts.{Parts}
 use Rattle.ra_base.specs.declared.ids.Machine.{Machine}
@@ -59,21 +59,21 @@ few_at_first well fits0 fits = few_of (record { well_formed = well; initial = fi
 -- what bars an edit isn't that it is done
 never_done : (count : ℕ) (e : Edit) (cost : ℕ) → barred count e ≡ Some (Done cost) → ⊥
 unfolding barred
-never_done count (Add s m c) cost h = ⊎_elim
-    (λ (full : count ≡ 50000). let f = rw full at h in cc)
-    (λ (apart : count ≢ 50000). let f = rw (ne_eqb count 50000 apart) at h in cc)
-    (cases_eq count 50000)
-never_done count (Retire p) cost h = ⊎_elim
-    (λ (within : p < count). ⊎_elim
-    (λ (one : count ≡ 1). let f = rw (lt-ltb p count within, eq-eqb count 1 one) at h in cc)
-    (λ (apart : count ≢ 1). let f = rw (lt-ltb p count within, ne_eqb count 1 apart) at h in cc)
-    (cases_eq count 1))
-    (λ (past : count ≤ p). let f = rw (le-ltb p count past) at h in cc)
-    (cases_lt p count)
-never_done count (Resize p) cost h = ⊎_elim
-    (λ (within : p < count). let f = rw (lt-ltb p count within) at h in cc)
-    (λ (past : count ≤ p). let f = rw (le-ltb p count past) at h in cc)
-    (cases_lt p count)
+never_done count (Add s m c) cost h = elim (cases_Bool (eqb count 50000)) [
+  | inl full ↦ let f = rw full at h in cc
+  | inr room ↦ let f = rw room at h in cc
+]
+never_done count (Retire p) cost h = elim (cases_Bool (ltb p count)) [
+  | inl within ↦ elim (cases_Bool (eqb count 1)) [
+    | inl last ↦ let f = rw (within, last) at h in cc
+    | inr more ↦ let f = rw (within, more) at h in cc
+  ]
+  | inr past ↦ let f = rw past at h in cc
+]
+never_done count (Resize p) cost h = elim (cases_Bool (ltb p count)) [
+  | inl within ↦ let f = rw within at h in cc
+  | inr past ↦ let f = rw past at h in cc
+]
 
 -- a barred edit changes nothing
 barred_keeps : (count : ℕ) (e : Edit) (reply : EditReply) (before after : Drafted) → barred count e ≡ Some reply →

@@ -225,17 +225,6 @@ transient_kept {d} m r are column = are.between.each m r column ∙ sym (transie
 
 -- one process more, or one less
 
-used_share : {at : ℕ} (e : Drafted) (p m r : ℕ) (amount : ℕ → ℕ) → at ≡ machine_at e.current p →
-    amount r ≡ requirement_of (instance_of e) p r → cond (eqb at m) (amount r) 0 ≡ cond (eqb (machine_at e.current p) m)
-    (requirement_of (instance_of e) p r) 0
-used_share e p m r amount at_is is = cc
-
-between_share : {home at : ℕ} (e : Drafted) (p m r : ℕ) (amount : ℕ → ℕ) → home ≡ machine_at e.initial p →
-    at ≡ machine_at e.current p → amount r ≡ requirement_of (instance_of e) p r →
-    cond (eqb home m || eqb at m) (amount r) 0 ≡ cond (eqb (machine_at e.initial p) m || eqb (machine_at e.current p) m)
-    (requirement_of (instance_of e) p r) 0
-between_share e p m r amount home_is at_is is = cc
-
 loads_from : {e : Drafted} {i : Tables} {loads : Loads} → e.origin ≡ i →
     IsTally (resource_count i) (length e.rows) (use_share (instance_of e)) e.current loads.used.items →
     IsTally (resource_count i) (length e.rows) (transient_share (instance_of e) e.initial) e.current
@@ -251,28 +240,16 @@ pub loads_more : {d e : Drafted} {p home : ℕ} {low high : Loads} (at : ℕ) (a
     OneMore d e p → home ≡ machine_at e.initial p → at ≡ machine_at e.current p →
     ((r : ℕ) → r < resource_count d.origin → amount r ≡ requirement_of (instance_of e) p r) →
     HasMoreUse (resource_count d.origin) home at amount low high → AreLoadsOf e high
-loads_more {e} {p} at amount are one home_is at_is is more = loads_from one.origin
+loads_more {e} at amount are one home_is at_is is more = loads_from one.origin
     (record {
       each = λ m r w.
-          omega (
-            arith,
-            more.used.each m r w,
-            use_kept m r are w,
-            used_share e p m r amount at_is (is r w),
-            use_more m r one w,
-            use_is e m r,
-          );
+          let share = rw (← at_is, ← is r w) at (use_more m r one w) in
+          omega (arith, more.used.each m r w, use_kept m r are w, share, use_is e m r);
     })
     (record {
       each = λ m r w.
-          omega (
-            arith,
-            more.between.each m r w,
-            transient_kept m r are w,
-            between_share e p m r amount home_is at_is (is r w),
-            transient_more m r one w,
-            transient_is e m r,
-          );
+          let share = rw (← home_is, ← at_is, ← is r w) at (transient_more m r one w) in
+          omega (arith, more.between.each m r w, transient_kept m r are w, share, transient_is e m r);
     })
     (more.used.same_length ∙ are.used_grid)
     (more.between.same_length ∙ are.between_grid)
@@ -281,34 +258,19 @@ pub loads_less : {d e : Drafted} {p home at : ℕ} {low high : Loads} (amount : 
     OneMore d e p → home ≡ machine_at e.initial p → at ≡ machine_at e.current p →
     ((r : ℕ) → r < resource_count e.origin → amount r ≡ requirement_of (instance_of e) p r) →
     HasMoreUse (resource_count e.origin) home at amount low high → AreLoadsOf d low
-loads_less {d} {e} {p} {at} amount are one home_is at_is is more = loads_from (sym one.origin)
+loads_less {d} amount are one home_is at_is is more = loads_from (sym one.origin)
     (record {
       each = λ m r w.
-          omega (
-            arith,
-            more.used.each m r w,
-            use_kept m r are w,
-            used_share e p m r amount at_is (is r w),
-            use_more m r one (column r w),
-            use_is d m r,
-          );
+          let share = rw (← at_is, ← is r w) at (use_more m r one (rw one.origin at w)) in
+          omega (arith, more.used.each m r w, use_kept m r are w, share, use_is d m r);
     })
     (record {
       each = λ m r w.
-          omega (
-            arith,
-            more.between.each m r w,
-            transient_kept m r are w,
-            between_share e p m r amount home_is at_is (is r w),
-            transient_more m r one (column r w),
-            transient_is d m r,
-          );
+          let share = rw (← home_is, ← at_is, ← is r w) at (transient_more m r one (rw one.origin at w)) in
+          omega (arith, more.between.each m r w, transient_kept m r are w, share, transient_is d m r);
     })
     (sym more.used.same_length ∙ are.used_grid)
     (sym more.between.same_length ∙ are.between_grid)
-  where
-    column : (r : ℕ) → r < resource_count e.origin → r < resource_count d.origin
-    column r w = rw one.origin at w
 
 -- what a process requires is counted where it is, and where it was
 

@@ -126,16 +126,15 @@ added_sound {d} s m c requirements sound few s_in m_in width =
       services = each_more (λ (x : ProcessRow). x.service.0 < service_count i) d.rows row
           (process_of (record { 0 = 0 }) 0) old.services s_in;
     } in
+    let fits = λ (a : List Machine) (h : IsAssignment (with_process_rows i d.rows d.requirements) a).
+    fits_with i (d.rows ++ row ∷ []) (d.requirements ++ requirements)
+    (omega (arith, length-append a (m ∷ []), size, fits_size i d.rows d.requirements h))
+    (each_more (λ (x : Machine). x.0 < machine_count i) a m (record { 0 = 0 })
+    (fits_each i d.rows d.requirements h) m_in) in
     record {
       well_formed = well_with d.rows d.requirements sound.well_formed rows;
-      initial = fits_with i (d.rows ++ row ∷ []) (d.requirements ++ requirements)
-          (omega (arith, length-append d.initial (m ∷ []), size, fits_size i d.rows d.requirements sound.initial))
-          (each_more (λ (x : Machine). x.0 < machine_count i) d.initial m (record { 0 = 0 })
-          (fits_each i d.rows d.requirements sound.initial) m_in);
-      current = fits_with i (d.rows ++ row ∷ []) (d.requirements ++ requirements)
-          (omega (arith, length-append d.current (m ∷ []), size, fits_size i d.rows d.requirements sound.current))
-          (each_more (λ (x : Machine). x.0 < machine_count i) d.current m (record { 0 = 0 })
-          (fits_each i d.rows d.requirements sound.current) m_in);
+      initial = fits d.initial sound.initial;
+      current = fits d.current sound.current;
     }
   where
     more_rows : (a b n w after : ℕ) → a ≡ n * w → b ≡ w → after ≡ n + 1 → a + b ≡ after * w
@@ -153,24 +152,21 @@ retired_sound {d} p sound within more =
     let after = swap_remove d.rows p none in
     let next = drop_row w d.requirements (length d.rows) p in
     let size = removed_length d.rows p none in
-    let initial_size = fits_size i d.rows d.requirements sound.initial in
-    let current_size = fits_size i d.rows d.requirements sound.current in
     let rows : AreRows i after next = record {
       some = omega (arith, size);
       few = omega (arith, size, old.few);
       table = cc (dropped_length w (length d.rows) p d.requirements old.table within);
       services = each_less (λ (x : ProcessRow). x.service.0 < service_count i) d.rows p none none within old.services;
     } in
+    let fits = λ (a : List Machine) (h : IsAssignment (with_process_rows i d.rows d.requirements) a).
+    let all : length a ≡ length d.rows = fits_size i d.rows d.requirements h in
+    fits_with i after next (omega (arith, removed_length a p first, size, all))
+    (each_less (λ (x : Machine). x.0 < machine_count i) a p first first (omega (arith, all))
+    (fits_each i d.rows d.requirements h)) in
     record {
       well_formed = well_with d.rows d.requirements sound.well_formed rows;
-      initial = fits_with i after next
-          (omega (arith, removed_length d.initial p first, size, initial_size))
-          (each_less (λ (x : Machine). x.0 < machine_count i) d.initial p first first (omega (arith, initial_size))
-          (fits_each i d.rows d.requirements sound.initial));
-      current = fits_with i after next
-          (omega (arith, removed_length d.current p first, size, current_size))
-          (each_less (λ (x : Machine). x.0 < machine_count i) d.current p first first (omega (arith, current_size))
-          (fits_each i d.rows d.requirements sound.current));
+      initial = fits d.initial sound.initial;
+      current = fits d.current sound.current;
     }
 
 pub resized_sound : {d : Drafted} (p : ℕ) (requirements : List ℕ) → IsSoundDraft d → p < length d.rows →
@@ -203,20 +199,20 @@ free_add count s m c free full = let e : Some Full ≡ None = rw (eq-eqb count 5
 
 pub free_retire : (count p : ℕ) → barred count (Retire p) ≡ None → (p < count) × (count ≢ 1)
 unfolding barred
-free_retire count p free = ⊎_elim
-    (λ (within : p < count). (
-      within,
-      λ (one : count ≡ 1). let e : Some Last ≡ None = rw (lt-ltb p count within, eq-eqb count 1 one) at free in cc,
-    ))
-    (λ (past : count ≤ p). absurd (let e : Some (NoProcess p) ≡ None = rw (le-ltb p count past) at free in cc))
-    (cases_lt p count)
+free_retire count p free = elim (cases_lt p count) [
+  | inl within ↦ (
+    within,
+    λ one. let e : Some Last ≡ None = rw (lt-ltb p count within, eq-eqb count 1 one) at free in cc,
+  )
+  | inr past ↦ absurd (let e : Some (NoProcess p) ≡ None = rw (le-ltb p count past) at free in cc)
+]
 
 pub free_resize : (count p : ℕ) → barred count (Resize p) ≡ None → p < count
 unfolding barred
-free_resize count p free = ⊎_elim
-    (λ (within : p < count). within)
-    (λ (past : count ≤ p). absurd (let e : Some (NoProcess p) ≡ None = rw (le-ltb p count past) at free in cc))
-    (cases_lt p count)
+free_resize count p free = elim (cases_lt p count) [
+  | inl within ↦ within
+  | inr past ↦ absurd (let e : Some (NoProcess p) ≡ None = rw (le-ltb p count past) at free in cc)
+]
 
 pub edited_sound : {d : Drafted} (e : Edit) (requirements : List ℕ) → IsSoundDraft d → barred (length d.rows) e ≡ None →
     FitsInstance d.origin e → length requirements ≡ resource_count d.origin → IsSoundDraft (edited d e requirements)

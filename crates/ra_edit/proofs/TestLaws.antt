@@ -31,29 +31,29 @@ pub capacity_over : (e : Drafted) (m r used cap : ℕ) → used ≡ use_of (inst
     cap ≡ capacity_of e.origin m r → cap < used → Some (Capacity (record { 0 = m }) (record { 0 = r }) used cap) ≡
     capacity_test (instance_of e) e.current m r
 unfolding capacity_test
-capacity_over e m r used cap use_is cap_is over = let c : cap ≡ capacity_of (instance_of e) m r = cap_is
-    ∙ sym (capacity_with e m r) in rw (← use_is, ← c) (failed_if _ (lt-ltb cap used over))
+capacity_over e m r used cap use_is cap_is over =
+    rw (← use_is, capacity_with e m r, ← cap_is) (failed_if _ (lt-ltb cap used over))
 
 pub capacity_within : (e : Drafted) (m r used cap : ℕ) → used ≡ use_of (instance_of e) e.current m r →
     cap ≡ capacity_of e.origin m r → used ≤ cap → None ≡ capacity_test (instance_of e) e.current m r
 unfolding capacity_test
-capacity_within e m r used cap use_is cap_is within = let c : cap ≡ capacity_of (instance_of e) m r = cap_is
-    ∙ sym (capacity_with e m r) in rw (← use_is, ← c) (held_if _ (le-ltb cap used within))
+capacity_within e m r used cap use_is cap_is within =
+    rw (← use_is, capacity_with e m r, ← cap_is) (held_if _ (le-ltb cap used within))
 
 pub transient_over : (e : Drafted) (m r used cap : ℕ) → used ≡ transient_of (instance_of e) e.initial e.current m r →
     cap ≡ capacity_of e.origin m r → transient_at e.origin r ≡ true → cap < used →
     Some (Transient (record { 0 = m }) (record { 0 = r }) used cap) ≡ transient_test (instance_of e) e.initial e.current
     m r
 unfolding transient_test
-transient_over e m r used cap use_is cap_is twice over = let c : cap ≡ capacity_of (instance_of e) m r = cap_is
-    ∙ sym (capacity_with e m r) in
-    rw (← use_is, ← c) (failed_if _ (and_from _ _ (transient_with e r ∙ twice) (lt-ltb cap used over)))
+transient_over e m r used cap use_is cap_is twice over =
+    rw (← use_is, capacity_with e m r, ← cap_is)
+    (failed_if _ (and_from _ _ (transient_with e r ∙ twice) (lt-ltb cap used over)))
 
 pub transient_within : (e : Drafted) (m r used cap : ℕ) → used ≡ transient_of (instance_of e) e.initial e.current m r →
     cap ≡ capacity_of e.origin m r → used ≤ cap → None ≡ transient_test (instance_of e) e.initial e.current m r
 unfolding transient_test
-transient_within e m r used cap use_is cap_is within = let c : cap ≡ capacity_of (instance_of e) m r = cap_is
-    ∙ sym (capacity_with e m r) in rw (← use_is, ← c) (held_if _ (and_right _ _ (le-ltb cap used within)))
+transient_within e m r used cap use_is cap_is within =
+    rw (← use_is, capacity_with e m r, ← cap_is) (held_if _ (and_right _ _ (le-ltb cap used within)))
 
 pub transient_once : (e : Drafted) (m r : ℕ) → transient_at e.origin r ≡ false →
     None ≡ transient_test (instance_of e) e.initial e.current m r
@@ -74,14 +74,14 @@ pub spread_few : (e : Drafted) (s has wants : ℕ) → has ≡ locations_of (ins
     wants ≡ spread_of e.origin s → has < wants → Some (Spread (record { 0 = s }) has wants) ≡
     spread_test (instance_of e) e.current s
 unfolding spread_test
-spread_few e s has wants has_is wants_is fewer = let c : wants ≡ spread_of (instance_of e) s = wants_is
-    ∙ sym (spread_with e s) in rw (← has_is, ← c) (failed_if _ (lt-ltb has wants fewer))
+spread_few e s has wants has_is wants_is fewer =
+    rw (← has_is, spread_with e s, ← wants_is) (failed_if _ (lt-ltb has wants fewer))
 
 pub spread_enough : (e : Drafted) (s has wants : ℕ) → has ≡ locations_of (instance_of e) e.current s →
     wants ≡ spread_of e.origin s → wants ≤ has → None ≡ spread_test (instance_of e) e.current s
 unfolding spread_test
-spread_enough e s has wants has_is wants_is enough = let c : wants ≡ spread_of (instance_of e) s = wants_is
-    ∙ sym (spread_with e s) in rw (← has_is, ← c) (held_if _ (le-ltb has wants enough))
+spread_enough e s has wants has_is wants_is enough =
+    rw (← has_is, spread_with e s, ← wants_is) (held_if _ (le-ltb has wants enough))
 
 pub need_far : (e : Drafted) (s label k need n : ℕ) → need ≡ need_of (instance_of e) s k →
     n ≡ in_neighbourhood (instance_of e) e.current need label → n ≡ 0 →

@@ -22,9 +22,7 @@ count_moved-requires-clause-below c =
       c.requires.few,
       c.loop-p.invariant.limit,
     ) in
-    moved_under
-    under
-    c.loop-p.invariant.counted
+    moved_under under c.loop-p.invariant.counted
 
 pub count_moved-requires-clause-few : goal.count_moved-requires-clause-few
 count_moved-requires-clause-few c = omega (arith, c.loop-p.invariant.limit, c.args.inst.now.well_formed.few_processes)

@@ -33,7 +33,6 @@ come-requires c =
 
 pub returns : goal.returns
 returns c =
-    counted_more
-    (slice_index c.requirements_of.result.now) c.requires.counted c.machine_of-home.ensures
+    counted_more (slice_index c.requirements_of.result.now) c.requires.counted c.machine_of-home.ensures
     c.machine_of-here.ensures c.requirements_of.ensures.each
     (rw c.resources.ensures at c.come.ensures)

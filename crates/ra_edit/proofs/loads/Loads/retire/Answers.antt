@@ -50,7 +50,6 @@ go-requires c =
 
 pub returns : goal.returns
 returns c = λ e gone.
-    loads_less
-    (slice_index c.requirements_of.result.now) c.requires.loads gone.fewer
+    loads_less (slice_index c.requirements_of.result.now) c.requires.loads gone.fewer
     c.machine_of-home.ensures c.machine_of-here.ensures c.requirements_of.ensures.each
     (rw c.resources.ensures at c.go.ensures)

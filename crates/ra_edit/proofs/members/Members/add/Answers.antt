@@ -12,8 +12,7 @@ come-requires-clause-numbered c = (members_stay c.requires.members c.admit.ensur
 
 pub returns-clause-after : goal.returns-clause-after
 returns-clause-after c = λ e come.
-    members_come
-    (members_stay c.requires.members c.admit.ensures.same)
+    members_come (members_stay c.requires.members c.admit.ensures.same)
     come.more come.service come.here c.come.ensures.member c.come.ensures.numbered
 
 pub returns-in_err-admit-clause-memory : goal.returns-in_err-admit-clause-memory

@@ -27,6 +27,5 @@ come-requires-clause-few c =
 
 pub returns : goal.returns
 returns c =
-    members_next
-    (members_stay c.requires.counted c.admit.ensures.same)
+    members_next (members_stay c.requires.counted c.admit.ensures.same)
     c.service_of-s.ensures c.machine_of-m.ensures c.come.ensures.member c.come.ensures.numbered

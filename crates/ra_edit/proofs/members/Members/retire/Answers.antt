@@ -18,8 +18,7 @@ go-requires-clause-numbered c = c.requires.members.numbered
 
 pub go-requires-clause-there : goal.go-requires-clause-there
 go-requires-clause-there c = λ spot there.
-    member_there spot
-    c.requires.members
+    member_there spot c.requires.members
     (has_gone c.args.p.0 c.requires.sound c.requires.process).fewer c.service_of-s.ensures c.machine_of-m.ensures there
 
 pub returns : goal.returns
