@@ -19,6 +19,7 @@ use Rattle.ra_edit.specs.Drafts.{Drafted, instance_of}
 use Rattle.ra_edit.specs.OneMore.{OneMore}
 use Rattle.ra_edit.specs.Touched.{far_from, added_breaks}
 use Rattle.ra_edit.specs.Locality.{AddsAreLocal}
+use Rattle.ra_edit.proofs.LocationLaws.{one_most}
 use Rattle.ra_edit.proofs.ShareLaws.{machine_more, neighbourhood_more, locations_other, locations_more}
 use Rattle.ra_edit.proofs.BrokenLaws.{first_only, machines_with, services_with, processes_with, spread_with}
 use Rattle.ra_edit.proofs.BrokenLaws.{dependencies_with, need_with, closed_with, with_both, use_elsewhere}
@@ -60,13 +61,9 @@ locations_up : {d e : Drafted} {p x : ℕ} (s : ℕ) → OneMore d e p → locat
     x < 2 ^ 32 → locations_of (instance_of d) d.current s ≤ locations_of (instance_of e) e.current s
 locations_up {d} {e} {p} {x} s more is small = elim (cases_eq (service_of (instance_of e) p) s) [
   | inl mine ↦
-      omega (arith, locations_more more mine is small, one_bound (ltb 0 (in_location (instance_of d) d.current s x)))
+      omega (arith, locations_more more mine is small, one_most (ltb 0 (in_location (instance_of d) d.current s x)))
   | inr other ↦ omega (arith, locations_other s more other)
 ]
-  where
-    one_bound : (b : Bool) → one_if b ≤ 1
-    one_bound true = omega arith
-    one_bound false = omega arith
 
 added_spread : {d e : Drafted} {p : ℕ} (x : ℕ) → OneMore d e p → location_of d.origin (machine_at e.current p) ≡ x →
     x < 2 ^ 32 → broken_spread (instance_of d) d.current ≡ None → broken_spread (instance_of e) e.current ≡ None

@@ -7,7 +7,7 @@ use Rattle.std.specs.Option.{unwrap_or}
 use Rattle.std.specs.Ordering.{nat_cmp, is_eq, ordering_then}
 use Rattle.std.specs.declared.cmp.Ordering.{Ordering}
 use Rattle.std.specs.declared.cmp.Ordering.TheVariants.{Less, Equal, Greater}
-use Rattle.std.proofs.lemmas.Bool.{cases_eq}
+use Rattle.std.proofs.lemmas.Bool.{cases_eq, and_left, and_right}
 use Rattle.std.proofs.lemmas.Bool.Decides.{nat_tests}
 use Rattle.ra_edit.specs.Counts.{key_cmp}
 
@@ -41,16 +41,10 @@ by_key P s x here other t y = ⊎_elim
     (λ (same : s ≡ t). ⊎_elim
     (λ (alike : x ≡ y). subst (λ u. P u y (eqb s u && eqb x y)) same (subst (λ z. P s z (eqb s s && eqb x z)) alike
     (subst (P s x) (sym (ap₂ (λ a b. a && b) (eq-eqb s s refl) (eq-eqb x x refl))) here)))
-    (λ (apart : x ≢ y). subst (P t y) (sym (ap (λ b. eqb s t && b) (ne_eqb x y apart) ∙ and_false (eqb s t)))
-    (other t y))
+    (λ (apart : x ≢ y). subst (P t y) (sym (and_right (eqb s t) _ (ne_eqb x y apart))) (other t y))
     (cases_eq x y))
-    (λ (apart : s ≢ t). subst (P t y) (sym (ap (λ b. b && eqb x y) (ne_eqb s t apart))) (other t y))
+    (λ (apart : s ≢ t). subst (P t y) (sym (and_left _ (eqb x y) (ne_eqb s t apart))) (other t y))
     (cases_eq s t)
-  where
-    and_false : (b : Bool) → (b && false) ≡ false
-    and_false true = refl
-    and_false false = refl
-
 -- a count that is written as it was
 pub count_stays : (f g : ℕ × ℕ → Option ℕ) (s x : ℕ) (w : Option ℕ) →
     ((q : ℕ × ℕ) → g q ≡ cond (is_at (key_cmp (s, x)) q) w (f q)) → unwrap_or w 0 ≡ count_at f (s, x) → (t y : ℕ) →

@@ -55,6 +55,10 @@ pub labels_same : (old new : Counts) → ((s x : ℕ) → count_in new s x ≡ c
 labels_same old new same s = count_same (2 ^ 32) (λ y. ltb 0 (count_in new s y)) (λ y. ltb 0 (count_in old s y))
     (λ y within. ap (ltb 0) (same s y))
 
+pub one_most : (b : Bool) → one_if b ≤ 1
+one_most true = omega arith
+one_most false = omega arith
+
 -- of n processes, which are at one label each, at most n labels have one
 pub labels_few : (n size : ℕ) (f : ℕ → ℕ → ℕ) (at : ℕ → ℕ) → ((p : ℕ) → at p < size) →
     ((p x : ℕ) → x ≢ at p → f p x ≡ 0) → count size (λ x. ltb 0 (total n (λ p. f p x))) ≤ n
@@ -65,11 +69,6 @@ labels_few (suc n) size f at within none =
     (within n)
     (λ x x_in apart. ap (ltb 0) (omega (arith, total_suc n (λ p. f p x), none n x apart))) in
     omega (arith, changed, labels_few n size f at within none, one_most (ltb 0 (total (suc n) (λ p. f p (at n)))))
-  where
-    one_most : (b : Bool) → one_if b ≤ 1
-    one_most true = omega arith
-    one_most false = omega arith
-
 -- the numbers kept
 
 pub numbered_none : {services : ℕ} {locations : Locations} → locations.numbers.items ≡ replicate services 0 →

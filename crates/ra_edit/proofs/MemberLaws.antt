@@ -21,7 +21,8 @@ use Rattle.ra_edit.specs.Kinds.{HasOther}
 use Rattle.ra_edit.specs.Members.{members_in, HasMembers, AreMembersOf, HasMember, AreSameIn, AreFewIn}
 use Rattle.ra_edit.specs.OneMore.{OneMore}
 use Rattle.ra_edit.specs.Spots.{is_there}
-use Rattle.ra_edit.proofs.LocationLaws.{labels_few, labels_same, numbered_kept}
+use Rattle.ra_edit.proofs.LocationLaws.{one_most, labels_few, labels_same, numbered_kept}
+use Rattle.std.proofs.lemmas.Bool.{and_right}
 use Rattle.ra_edit.proofs.ScanLaws.{location_told}
 use Rattle.ra_edit.proofs.AddedLaws.{location_small}
 use Rattle.ra_edit.proofs.ShareLaws.{members_more}
@@ -118,22 +119,13 @@ members_few {d} {n} {new} few has same = record {
         (λ x within. cc (same.each s (InLocation x), has.each s (InLocation x))),
     labels_few n (2 ^ 32) (share s) (λ p. location_of d.origin (machine_at d.current p))
         (λ p. location_small d.origin (machine_at d.current p))
-        (λ p x apart. away (eqb (service_of (instance_of d) p) s)
-        (eqb (location_of d.origin (machine_at d.current p)) x)
-        (ne_eqb (location_of d.origin (machine_at d.current p)) x (λ is. apart (sym is)))),
+        (λ p x apart. ap one_if (and_right _ _
+        (ne_eqb (location_of d.origin (machine_at d.current p)) x (λ is. apart (sym is))))),
   );
 }
   where
     share : ℕ → ℕ → ℕ → ℕ
     share s p x = one_if (eqb (service_of (instance_of d) p) s && eqb (location_of d.origin (machine_at d.current p)) x)
-
-    away : (a b : Bool) → b ≡ false → one_if (a && b) ≡ 0
-    away true b none = ap one_if none
-    away false b none = refl
-
-    one_most : (b : Bool) → one_if b ≤ 1
-    one_most true = omega arith
-    one_most false = omega arith
 
 -- one process more
 

@@ -62,32 +62,21 @@ well_with {i} {after} {next} rows requirements h fits =
 
 -- assignments
 
-machines_with : (i : Tables) (rows : List ProcessRow) (requirements : List ℕ) →
-    machine_count (with_process_rows i rows requirements) ≡ machine_count i
-unfolding with_process_rows machine_count
-machines_with i rows requirements = refl
-
-processes_with : (i : Tables) (rows : List ProcessRow) (requirements : List ℕ) →
-    process_count (with_process_rows i rows requirements) ≡ length rows
-unfolding with_process_rows process_count
-processes_with i rows requirements = refl
-
 fits_with : {a : List Machine} (i : Tables) (rows : List ProcessRow) (requirements : List ℕ) → length a ≡ length rows →
     ((p : ℕ) → p < length a → machine_at a p < machine_count i) → IsAssignment (with_process_rows i rows requirements) a
-fits_with i rows requirements size each = record {
-  one_each = size ∙ sym (processes_with i rows requirements);
-  in_range = λ p within. rw (← (machines_with i rows requirements)) at (each p (omega
-      (arith, size, processes_with i rows requirements)));
-}
+unfolding with_process_rows machine_count process_count
+fits_with i rows requirements size each =
+    record { one_each = size; in_range = λ p within. each p (omega (arith, size)) }
 
 fits_size : {a : List Machine} (i : Tables) (rows : List ProcessRow) (requirements : List ℕ) →
     IsAssignment (with_process_rows i rows requirements) a → length a ≡ length rows
-fits_size i rows requirements h = h.one_each ∙ processes_with i rows requirements
+unfolding with_process_rows process_count
+fits_size i rows requirements h = h.one_each
 
 fits_each : {a : List Machine} (i : Tables) (rows : List ProcessRow) (requirements : List ℕ) →
     IsAssignment (with_process_rows i rows requirements) a → (p : ℕ) → p < length a → machine_at a p < machine_count i
-fits_each i rows requirements h p within = rw (machines_with i rows requirements) at (h.in_range p
-    (rw h.one_each at within))
+unfolding with_process_rows machine_count
+fits_each i rows requirements h p within = h.in_range p (rw h.one_each at within)
 
 -- one more
 

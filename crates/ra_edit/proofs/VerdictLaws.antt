@@ -1,6 +1,7 @@
 -- What is found after an edit is what the edited draft breaks, or what it costs.
 use Rattle.std.proofs.Common.{◌≡◌, ℕ, ◌+◌, ◌-◌, ◌*◌, ◌^◌, ◌<◌, ◌≤◌, Bool, true, false, eqb, ◌&&◌, List, [], ◌∷◌}
 use Rattle.std.proofs.Common.{◌++◌, length, None, refl, sym, ap, ◌∙◌, subst, arith, eq-eqb}
+use Rattle.std.proofs.lemmas.Bool.{and_right}
 use Rattle.std.proofs.lemmas.Nat.{mul-lt}
 use Rattle.ra_base.specs.Sums.{greatest, one_if}
 use Rattle.ra_base.proofs.Tables.{cell_is}
@@ -228,16 +229,11 @@ parts_told {d} {parts} kept small =
 
 pub moved_same : {d e : Drafted} {p : ℕ} (s : ℕ) → OneMore d e p → machine_at e.initial p ≡ machine_at e.current p →
     moved_of (instance_of e) e.initial e.current s ≡ moved_of (instance_of d) d.initial d.current s
-moved_same {e} {p} s more home =
-    omega (
-      arith,
-      rw (eq-eqb (machine_at e.initial p) (machine_at e.current p) home) at (moved_more s more),
-      never (eqb (service_of (instance_of e) p) s),
-    )
-  where
-    never : (b : Bool) → one_if (b && false) ≡ 0
-    never true = refl
-    never false = refl
+moved_same {e} {p} s more home = omega (
+  arith,
+  rw (eq-eqb (machine_at e.initial p) (machine_at e.current p) home) at (moved_more s more),
+  ap one_if (and_right (eqb (service_of (instance_of e) p) s) false refl),
+)
 
 service_same : {d e : Drafted} {p : ℕ} → OneMore d e p → machine_at e.initial p ≡ machine_at e.current p →
     service_cost (instance_of e) e.initial e.current ≡ service_cost (instance_of d) d.initial d.current
