@@ -1,9 +1,8 @@
 -- A process more breaks what it touches, or nothing.
-use Rattle.std.proofs.Common.{inl, inr, ◌≡◌, ◌≢◌, ℕ, ◌^◌, ◌<◌, ◌≤◌, Bool, true, false, eqb, ltb, ◌&&◌, length, None}
+use Rattle.std.proofs.Common.{inl, inr, ◌≡◌, ◌≢◌, ℕ, ◌^◌, ◌<◌, ◌≤◌, false, eqb, ltb, ◌&&◌, length, None}
 use Rattle.std.proofs.Common.{refl, sym, ap, ◌∙◌, ⊎_elim, arith, eq-eqb, ne_eqb}
 use Rattle.std.proofs.lemmas.Bool.{cases_eq, cases_Bool, cond-true, cond-false, le-ltb, ltb-false, eqb-true}
 use Rattle.ra_base.specs.Searches.{first}
-use Rattle.ra_base.specs.Sums.{one_if}
 use Rattle.ra_base.proofs.Searches.{or_else_none, or_else_none_right, first_none_from, first_same, first_none_at}
 use Rattle.ra_model.specs.declared.raw.Tables.{Tables}
 use Rattle.ra_model.specs.Numbers.{machine_count, service_count, process_count, machine_row, spread_of}

@@ -1,7 +1,8 @@
 -- What an edit leaves alone of the constraints: searches with one answer, and numbers that stay.
-use Rattle.std.proofs.Common.{inl, inr, ◌≡◌, ◌≢◌, ℕ, zero, suc, ◌+◌, ◌<◌, ◌≤◌, ltb, List, length, Option, Some, None}
+use Rattle.std.proofs.lemmas.Grind.{common_steps}
+use Rattle.std.proofs.Common.{◌≡◌, ◌≢◌, ℕ, zero, suc, ◌+◌, ◌<◌, ◌≤◌, ltb, List, length, Option, Some, None}
 use Rattle.std.proofs.Common.{IsTrue, refl, sym, ap, ◌∙◌, ⊎_elim, arith, ne_eqb}
-use Rattle.std.proofs.lemmas.Bool.{cases_lt, cases_eq, cases_Bool, cond-true, cond-false, lt-ltb, le-ltb}
+use Rattle.std.proofs.lemmas.Bool.{cases_lt, cases_eq, cond-true, cond-false, lt-ltb, le-ltb}
 use Rattle.ra_base.specs.Searches.{or_else, first}
 use Rattle.ra_base.specs.declared.ids.Machine.{Machine}
 use Rattle.ra_base.specs.declared.causes.Cause.{Cause}
@@ -74,10 +75,7 @@ pub transient_free : (i : Tables) (a0 a : List Machine) (m : ℕ) →
     ((r : ℕ) → r < resource_count i → IsTrue (transient_at i r) → transient_of i a0 a m r ≤ capacity_of i m r) →
     row_transient i a0 a m ≡ None
 unfolding row_transient transient_test
-transient_free i a0 a m met = first_none_from _ _ (λ r r_in. cause_free _ _ (elim (cases_Bool (transient_at i r)) [
-  | inl twice ↦ rw twice (le-ltb _ _ (met r r_in twice))
-  | inr once ↦ rw once refl
-]))
+transient_free i a0 a m met = grind (arith, common_steps, first_none_from, cause_free, le-ltb)
 
 -- numbers that edits leave alone
 
@@ -192,19 +190,17 @@ pub transient_only : (d e : Drafted) (m n : ℕ) → e.origin ≡ d.origin →
     transient_of (instance_of d) d.initial d.current k r) → broken_transient (instance_of e) e.initial e.current ≡
     first_of_two m n (row_transient (instance_of e) e.initial e.current)
 unfolding broken_transient
-transient_only d e m n origin fine m_in n_in less =
-    let count : machine_count (instance_of e) ≡ machine_count d.origin = cc (machines_with e) in
-    first_two (machine_count (instance_of e)) m n (row_transient (instance_of e) e.initial e.current)
-    (omega (arith, count, m_in)) (omega (arith, count, n_in)) (λ k k_in first second.
-    transient_free (instance_of e) e.initial e.current k (λ r column twice.
-    let r_in : r < resource_count d.origin = omega (arith, column, resources_with e, ap resource_count origin) in
-    omega (
-      arith,
-      less k r r_in first second,
-      capacity_both d e k r origin,
-      transient_met (instance_of d) d.initial d.current fine k r (omega (arith, k_in, count, machines_with d))
-          (omega (arith, r_in, resources_with d)) (sym (transient_both d e r origin) ∙ twice),
-    )))
+transient_only d e m n origin fine m_in n_in less = grind (
+  arith,
+  common_steps,
+  machines_with,
+  first_two,
+  transient_free,
+  resources_with,
+  capacity_both,
+  transient_met,
+  transient_both,
+)
 
 pub first_same_two : (m : ℕ) (f : ℕ → Option Cause) → first_of_two m m f ≡ f m
 unfolding first_of_two
@@ -214,8 +210,4 @@ first_same_two m f =
 pub label_both : {d e : Drafted} {k q : ℕ} → e.origin ≡ d.origin → IsSame d k e q →
     neighbourhood_of (instance_of d) (machine_at d.current k) ≡ neighbourhood_of (instance_of e)
     (machine_at e.current q)
-label_both {d} {e} {k} {q} origin same = cc (
-  neighbourhood_with d.origin d.rows d.requirements (machine_at d.current k),
-  same.here,
-  neighbourhood_with e.origin e.rows e.requirements (machine_at e.current q),
-)
+label_both {d} {e} {k} {q} origin same = grind (arith, common_steps, neighbourhood_with)

@@ -1,13 +1,13 @@
 -- What a map counts after one count is written.
-use Rattle.std.proofs.Common.{◌≡◌, ◌≢◌, ℕ, ◌+◌, Bool, true, false, cond, eqb, ◌&&◌, Option, refl, sym, ap, ◌∙◌}
-use Rattle.std.proofs.Common.{⊎_elim, arith, eq-eqb, ne_eqb, subst, ap₂}
+use Rattle.std.proofs.lemmas.Grind.{common_steps}
+use Rattle.std.proofs.Common.{◌≡◌, ℕ, ◌+◌, Bool, true, false, cond, eqb, ◌&&◌, Option, refl, ◌∙◌}
+use Rattle.std.proofs.Common.{arith, eq-eqb, ne_eqb}
 use Rattle.std.specs.BTreeMap.{is_at}
 use Rattle.std.specs.Map.{count_at}
 use Rattle.std.specs.Option.{unwrap_or}
 use Rattle.std.specs.Ordering.{nat_cmp, is_eq, ordering_then}
 use Rattle.std.specs.declared.cmp.Ordering.{Ordering}
 use Rattle.std.specs.declared.cmp.Ordering.TheVariants.{Less, Equal, Greater}
-use Rattle.std.proofs.lemmas.Bool.{cases_eq, and_left, and_right}
 use Rattle.std.proofs.lemmas.Bool.Decides.{nat_tests}
 use Rattle.ra_edit.specs.Counts.{key_cmp}
 
@@ -37,14 +37,8 @@ count_written f g s x w writes t y = cc (writes (t, y), key_test s x t y, cond_a
 -- what holds of each key if it holds of this one, and of the others, where nothing is written
 by_key : (P : ℕ → ℕ → Bool → Type 0) (s x : ℕ) → P s x true → ((t y : ℕ) → P t y false) → (t y : ℕ) →
     P t y (eqb s t && eqb x y)
-by_key P s x here other t y = ⊎_elim
-    (λ (same : s ≡ t). ⊎_elim
-    (λ (alike : x ≡ y). subst (λ u. P u y (eqb s u && eqb x y)) same (subst (λ z. P s z (eqb s s && eqb x z)) alike
-    (subst (P s x) (sym (ap₂ (λ a b. a && b) (eq-eqb s s refl) (eq-eqb x x refl))) here)))
-    (λ (apart : x ≢ y). subst (P t y) (sym (and_right (eqb s t) _ (ne_eqb x y apart))) (other t y))
-    (cases_eq x y))
-    (λ (apart : s ≢ t). subst (P t y) (sym (and_left _ (eqb x y) (ne_eqb s t apart))) (other t y))
-    (cases_eq s t)
+by_key P s x here other t y = grind (arith, common_steps, eq-eqb, ne_eqb)
+
 -- a count that is written as it was
 pub count_stays : (f g : ℕ × ℕ → Option ℕ) (s x : ℕ) (w : Option ℕ) →
     ((q : ℕ × ℕ) → g q ≡ cond (is_at (key_cmp (s, x)) q) w (f q)) → unwrap_or w 0 ≡ count_at f (s, x) → (t y : ℕ) →
@@ -64,7 +58,4 @@ count_raised f g s x w writes more t y = count_written f g s x w writes t y
 pub count_lowered : (f g : ℕ × ℕ → Option ℕ) (s x : ℕ) (w : Option ℕ) →
     ((q : ℕ × ℕ) → g q ≡ cond (is_at (key_cmp (s, x)) q) w (f q)) → count_at f (s, x) ≡ unwrap_or w 0 + 1 →
     (t y : ℕ) → count_at f (t, y) ≡ count_at g (t, y) + cond (eqb s t && eqb x y) 1 0
-count_lowered f g s x w writes less t y =
-    by_key (λ u z b. count_at f (u, z) ≡ cond b (unwrap_or w 0) (count_at f (u, z)) + cond b 1 0) s x less
-    (λ u z. omega arith) t y
-    ∙ ap (λ n. n + cond (eqb s t && eqb x y) 1 0) (sym (count_written f g s x w writes t y))
+count_lowered f g s x w writes less t y = grind (arith, common_steps, by_key, count_written)

@@ -1,5 +1,7 @@
 -- What the answer to an edit is, and what is left after it.
-use Rattle.std.proofs.Common.{◌≡◌, ℕ, ◌<◌, ◌≤◌, List, length, Some, None, refl, sym, ◌∙◌, subst}
+use Rattle.std.proofs.Common.{arith}
+use Rattle.std.proofs.lemmas.Grind.{common_steps}
+use Rattle.std.proofs.Common.{◌≡◌, ℕ, ◌<◌, List, length, Some, None, refl, sym, ◌∙◌, subst}
 use Rattle.std.proofs.Common.{ap, eqb, ltb, inl, inr}
 use Rattle.std.proofs.Math.Nat.{mod-eq_of_lt}
 use Rattle.std.proofs.lemmas.Bool.{cases_Bool}
@@ -93,10 +95,7 @@ answered_barred d e k reply h = rw h refl
 pub kept_barred : (d : Drafted) (e : EditLists) (k : ℕ) (reply : EditReply) → barred (length d.rows) (edit_at e k) ≡
     Some reply → d ≡ after_edit d e k
 unfolding after_edit
-kept_barred d e k reply h = cc (
-  answered_barred d e k reply h,
-  barred_keeps (length d.rows) (edit_at e k) reply d (edited d (edit_at e k) (row_of e.width e.requirements k)) h,
-)
+kept_barred d e k reply h = grind (arith, common_steps, answered_barred, barred_keeps)
 
 -- a broken constraint: what is answered, and what is left
 pub broken_edit : (d : Drafted) (e : EditLists) (k : ℕ) (cause : Cause) → barred (length d.rows) (edit_at e k) ≡ None →
@@ -129,10 +128,7 @@ kept_feasible {d} h =
 pub same_feasible : {d : Drafted} {j : Tables} → IsSoundDraft d → Feasible (instance_of d) d.initial d.current →
     AreSameLists (instance_of d) j → Feasible j d.initial d.current
 same_feasible {d} {j} sound feasible same =
-    feasible_from_unbroken j d.initial d.current (same_well (instance_of d) j same.lists sound.well_formed)
-    (same_fits j same.lists sound.current)
-    (same_broken (instance_of d) j d.initial d.current same sound.current
-    ∙ unbroken_from_feasible (instance_of d) d.initial d.current feasible)
+    grind (arith, common_steps, feasible_from_unbroken, same_well, same_fits, same_broken, unbroken_from_feasible)
 
 -- what an edit makes of a draft is sound
 pub next_sound : {d old next : Drafted} {e : EditLists} {asked : List ℕ} (k : ℕ) → d ≡ old → IsSoundDraft d →
@@ -153,10 +149,7 @@ pub next_edited : {d old : Drafted} {e : EditLists} {edit : Edit} {asked : List 
     IsEdited d edit asked next
 unfolding edit_at
 next_edited {d} {e} {asked} next k same sound fits within is asked_is free width made =
-    let fits_d = rw (← same) at fits in
-    subst (λ (x : Edit). IsEdited d x asked next) (sym is)
-    (rw (← asked_is) at (edited_is (edit_at e k) (row_of e.width e.requirements k) sound free (fits_d.each k within)
-    (ap length (sym asked_is) ∙ width ∙ fits_d.width) made))
+    grind (arith, common_steps, edited_is)
 
 -- its service and its machine exist
 pub next_fits : {d old : Drafted} {e : EditLists} {edit : Edit} (k : ℕ) → d ≡ old → AreEditsFor old.origin e →

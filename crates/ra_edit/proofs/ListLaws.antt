@@ -1,4 +1,5 @@
 -- Lists without an item, and tables without a row.
+use Rattle.std.proofs.lemmas.Grind.{common_steps}
 use Rattle.std.proofs.Common.{◌≡◌, ◌≢◌, ℕ, ◌+◌, ◌-◌, ◌*◌, ◌<◌, ◌≤◌, List, ◌++◌, length, take, drop, set, get_or, refl}
 use Rattle.std.proofs.Common.{sym, ap, ◌∙◌, ⊎_elim, arith, length-append, length-drop, length-set}
 use Rattle.std.proofs.Common.{get_or-set_same, get_or-set_other}
@@ -42,18 +43,7 @@ pub put_length : (w n p : ℕ) (table row : List ℕ) → length table ≡ n * w
     length (put_row w table p row) ≡ n * w
 unfolding put_row
 put_length w n p table row size within width =
-    let e = row_within n w p within in
-    let all : length (take (p * w) table) + length (row ++ drop (p * w + w) table) ≡ n * w =
-    omega (
-      arith,
-      length-take-le (p * w) table (omega (arith, size, e)),
-      length-drop (p * w + w) table,
-      length-append row (drop (p * w + w) table),
-      size,
-      e,
-      width,
-    ) in
-    length-append (take (p * w) table) (row ++ drop (p * w + w) table) ∙ all
+    grind (arith, common_steps, row_within, length-take-le, length-drop, length-append)
 
 all_rows : (n w : ℕ) → 0 < n → n * w ≡ (n - 1) * w + w
 all_rows n w some =
@@ -61,14 +51,7 @@ all_rows n w some =
 
 last_row : (w n : ℕ) (table : List ℕ) → length table ≡ n * w → 0 < n → drop ((n - 1) * w) table ≡ row_of w table (n - 1)
 unfolding row_of
-last_row w n table size some =
-    let e = row_within n w (n - 1) (omega arith) in
-    sym (take_all w (drop ((n - 1) * w) table) (omega (
-      arith,
-      length-drop ((n - 1) * w) table,
-      size,
-      all_rows n w some,
-    )))
+last_row w n table size some = grind (arith, common_steps, row_within, take_all, length-drop, all_rows)
 
 -- the last row is cut off, and takes the place of another one
 pub last_within : (w n p size : ℕ) → size ≡ n * w → p < n → (n - 1) * w ≤ size
@@ -88,13 +71,7 @@ dropped_is w n p table after size within is =
 pub dropped_length : (w n p : ℕ) (table : List ℕ) → length table ≡ n * w → p < n →
     length (drop_row w table n p) ≡ (n - 1) * w
 unfolding drop_row
-dropped_length w n p table size within =
-    length-take-le ((n - 1) * w) (put_row w table p (row_of w table (n - 1)))
-    (omega (
-      arith,
-      put_length w n p table (row_of w table (n - 1)) size within (row_length table n w (n - 1) size (omega arith)),
-      row_within n w (n - 1) (omega arith),
-    ))
+dropped_length w n p table size within = grind (arith, common_steps, length-take-le, put_length, row_length, row_within)
 
 -- a part of a row's length is within the table
 pub part_within : (n w p s m size : ℕ) → s ≡ w → size ≡ n * w → p < n → m ≡ w → p * s + m ≤ size
@@ -102,10 +79,7 @@ part_within n w p s m size same all within width = rw (same, width, all) (row_wi
 
 -- rows of fewer processes than there is room for
 pub rows_fit : {w size s : ℕ} (n : ℕ) → n ≤ 50000 → size ≡ n * w → s ≡ w → size ≤ 50000 * s
-rows_fit {w} n few same width = rw (width, same) (fewer n w few)
-  where
-    fewer : (a b : ℕ) → a ≤ 50000 → a * b ≤ 50000 * b
-    fewer a b x = grind arith
+rows_fit {w} n few same width = grind (arith, common_steps)
 
 pub row_fits : (n w size m room : ℕ) → n < 50000 → size ≡ n * w → m ≡ w → room ≡ 50000 * w → size + m ≤ room
 row_fits n w size m room few same width all = rw (same, width, all) (row_within 50000 w n few)

@@ -1,8 +1,9 @@
 -- Laws of the use that is kept.
-use Rattle.std.proofs.Common.{◌≡◌, ◌≢◌, ◌⊎◌, ℕ, ◌+◌, ◌*◌, ◌^◌, ◌<◌, ◌≤◌, Bool, true, false, cond, eqb, ◌||◌, inl, inr}
-use Rattle.std.proofs.Common.{⊎_elim, List, [], ◌∷◌, ◌++◌, length, get_or, set, slice_index, replicate, refl, sym, ap}
-use Rattle.std.proofs.Common.{◌∙◌, subst, arith, eq-eqb, ne_eqb, length-set}
-use Rattle.std.proofs.lemmas.Bool.{cases_eq, cases_lt, or_left, or_right}
+use Rattle.std.proofs.lemmas.Grind.{common_steps}
+use Rattle.std.proofs.Common.{◌≡◌, ◌≢◌, ◌⊎◌, ℕ, ◌+◌, ◌*◌, ◌^◌, ◌<◌, ◌≤◌, Bool, true, false, cond, eqb, ◌||◌}
+use Rattle.std.proofs.Common.{List, [], ◌∷◌, ◌++◌, length, get_or, set, slice_index, replicate, refl, sym, ap}
+use Rattle.std.proofs.Common.{◌∙◌, arith, eq-eqb, ne_eqb, length-set}
+use Rattle.std.proofs.lemmas.Bool.{or_left, or_right}
 use Rattle.std.proofs.lemmas.List.{length-replicate, get_or_append_left}
 use Rattle.std.proofs.Math.Seq.{get_or-append_seam}
 use Rattle.ra_base.specs.Tables.{cell}
@@ -32,18 +33,11 @@ pub record Part (width n at : ℕ) (amount : ℕ → ℕ) (low high : List ℕ) 
   pub same_length : length high ≡ length low
 
 pub part_none : (width at : ℕ) (amount : ℕ → ℕ) (table : List ℕ) → Part width 0 at amount table table
-part_none width at amount table = record {
-  done = λ m r w h. absurd (omega arith);
-  rest = λ m r w h. refl;
-  same_length = refl;
-}
+part_none width at amount table = grind (arith, common_steps)
 
 pub part_all : (width n at : ℕ) (amount : ℕ → ℕ) (low high : List ℕ) → width ≤ n → Part width n at amount low high →
     HasMoreAt width at amount low high
-part_all width n at amount low high all part = record {
-  each = λ m r w. part.done m r w (omega arith);
-  same_length = part.same_length;
-}
+part_all width n at amount low high all part = grind (arith, common_steps)
 
 -- one cell is written, and differs by its amount then
 part_next : {width n at : ℕ} {amount : ℕ → ℕ} {low high old new : List ℕ} → n < width →
@@ -51,29 +45,7 @@ part_next : {width n at : ℕ} {amount : ℕ → ℕ} {low high old new : List �
     ((m r : ℕ) → r < width → (m ≢ at) ⊎ (r ≢ n) → cell width old m r ≡ cell width low m r) →
     cell width new at n ≡ cell width old at n + amount n → length new ≡ length old →
     Part width n at amount low high → Part width (n + 1) at amount old new
-part_next {n} {at} column high_same low_same here size part = record {
-  done = λ m r w h. ⊎_elim
-      (λ (before : r < n). omega (
-        arith,
-        high_same m r w (inr (omega arith)),
-        low_same m r w (inr (omega arith)),
-        part.done m r w before,
-      ))
-      (λ (late : n ≤ r). let e : r ≡ n = omega arith in rw e (⊎_elim
-      (λ (same : at ≡ m). rw (eq-eqb at m same, ← same) here)
-      (λ (apart : at ≢ m). let other : (m ≢ at) ⊎ (n ≢ n) = inl (λ (d : m ≡ at). apart (sym d)) in
-      rw (ne_eqb at m apart) (omega (
-        arith,
-        high_same m n column other,
-        low_same m n column other,
-        part.rest m n column (omega arith),
-      )))
-      (cases_eq at m)))
-      (cases_lt r n);
-  rest = λ m r w h. high_same m r w (inr (omega arith)) ∙ part.rest m r w (omega arith)
-      ∙ sym (low_same m r w (inr (omega arith)));
-  same_length = size;
-}
+part_next {n} {at} column high_same low_same here size part = grind (arith, common_steps, eq-eqb, ne_eqb)
 
 -- one column more has grown
 pub part_raised : (width n at value : ℕ) (amount : ℕ → ℕ) (old mid new : List ℕ) → n < width →
@@ -106,57 +78,33 @@ either_same false x = refl
 
 either_apart : (home at m x : ℕ) → home ≢ at → cond (eqb home m || eqb at m) x 0 ≡ cond (eqb home m) x 0
     + cond (eqb at m) x 0
-either_apart home at m x apart = ⊎_elim
-    (λ (here : home ≡ m). rw (eq-eqb home m here, (ne_eqb at m (λ e. apart (here ∙ sym e)))) (omega arith))
-    (λ (away : home ≢ m). rw (ne_eqb home m away) (omega arith))
-    (cases_eq home m)
+either_apart home at m x apart = grind (arith, common_steps, eq-eqb, ne_eqb)
 
 pub between_one : {width home at : ℕ} {amount : ℕ → ℕ} {low high : List ℕ} → home ≡ at →
     HasMoreAt width home amount low high → HasMoreBetween width home at amount low high
-between_one {home} {amount} same more = rw (← same) (record {
-  each = λ m r w. cc (more.each m r w, either_same (eqb home m) (amount r));
-  same_length = more.same_length;
-})
+between_one {home} {amount} same more = grind (arith, common_steps, either_same)
 
 pub between_two : {width home : ℕ} {amount : ℕ → ℕ} {low mid : List ℕ} (at : ℕ) (high : List ℕ) → home ≢ at →
     HasMoreAt width home amount low mid → HasMoreAt width at amount mid high →
     HasMoreBetween width home at amount low high
-between_two {home} {amount} at high apart first second = record {
-  each = λ m r w. omega (arith, first.each m r w, second.each m r w, either_apart home at m (amount r) apart);
-  same_length = second.same_length ∙ first.same_length;
-}
+between_two {home} {amount} at high apart first second = grind (arith, common_steps, either_apart)
 
 pub between_back : {width home : ℕ} {amount : ℕ → ℕ} {mid high : List ℕ} (at : ℕ) (low : List ℕ) → home ≢ at →
     HasMoreAt width at amount low mid → HasMoreAt width home amount mid high →
     HasMoreBetween width home at amount low high
-between_back {home} {amount} at low apart first second = record {
-  each = λ m r w. omega (arith, first.each m r w, second.each m r w, either_apart home at m (amount r) apart);
-  same_length = second.same_length ∙ first.same_length;
-}
+between_back {home} {amount} at low apart first second = grind (arith, common_steps, either_apart)
 
 -- a row more leaves a table below twice its bound
 pub below_twice : {width : ℕ} {low high : List ℕ} (at : ℕ) (amount : ℕ → ℕ) → IsBelow width (2 ^ 62) low →
     ((r : ℕ) → amount r < 2 ^ 32) → HasMoreAt width at amount low high → IsBelow width (2 ^ 63) high
-below_twice at amount below small more = record {
-  each = λ m r w. omega (arith, below.each m r w, more.each m r w, small_if (eqb at m) (amount r) (small r));
-}
-  where
-    small_if : (b : Bool) (x : ℕ) → x < 2 ^ 32 → cond b x 0 < 2 ^ 32
-    small_if true x h = h
-    small_if false x h = omega arith
+below_twice at amount below small more = grind (arith, common_steps)
 
 -- the first process, and one more
 
 pub counted_none : {d : Drafted} {cells : ℕ} {loads : Loads} → loads.used.items ≡ replicate cells 0 →
     loads.between.items ≡ replicate cells 0 → cells ≡ machine_count d.origin * resource_count d.origin →
     HasCounted d 0 loads
-counted_none {d} {cells} {loads} used between grid = record {
-  used = tally_start (resource_count d.origin) cells (use_share (instance_of d)) d.current loads.used.items used;
-  between = tally_start (resource_count d.origin) cells (transient_share (instance_of d) d.initial) d.current
-      loads.between.items between;
-  used_grid = cc (length-replicate {A = ℕ} cells 0);
-  between_grid = cc (length-replicate {A = ℕ} cells 0);
-}
+counted_none {d} {cells} {loads} used between grid = grind (arith, common_steps, tally_start, length-replicate)
 
 shares_used : (i : Tables) (width p at : ℕ) (amount : ℕ → ℕ) (old new : List ℕ) →
     ((r : ℕ) → r < width → amount r ≡ requirement_of i p r) → HasMoreAt width at amount old new →
@@ -229,12 +177,7 @@ loads_from : {e : Drafted} {i : Tables} {loads : Loads} → e.origin ≡ i →
     IsTally (resource_count i) (length e.rows) (use_share (instance_of e)) e.current loads.used.items →
     IsTally (resource_count i) (length e.rows) (transient_share (instance_of e) e.initial) e.current
     loads.between.items → IsGrid i loads.used.items → IsGrid i loads.between.items → AreLoadsOf e loads
-loads_from same used between used_grid between_grid = record {
-  used = rw (← same) at used;
-  between = rw (← same) at between;
-  used_grid = rw (← same) at used_grid;
-  between_grid = rw (← same) at between_grid;
-}
+loads_from same used between used_grid between_grid = grind (arith, common_steps)
 
 pub loads_more : {d e : Drafted} {p home : ℕ} {low high : Loads} (at : ℕ) (amount : ℕ → ℕ) → AreLoadsOf d low →
     OneMore d e p → home ≡ machine_at e.initial p → at ≡ machine_at e.current p →
@@ -296,19 +239,13 @@ pub use_row_kept : {d : Drafted} {i : Tables} {loads : Loads} {row : List ℕ} (
     AreLoadsOf d loads → length row ≡ resource_count i →
     ((r : ℕ) → r < resource_count i → slice_index row r ≡ cell (resource_count i) loads.used.items m r) →
     IsUseRow d m row
-use_row_kept m same are wide each = record {
-  one_each = cc;
-  each = λ r w. cc (each r (rw same at w), use_kept m r are w);
-}
+use_row_kept m same are wide each = grind (arith, common_steps, use_kept)
 
 pub transient_row_kept : {d : Drafted} {i : Tables} {loads : Loads} {row : List ℕ} (m : ℕ) → d.origin ≡ i →
     AreLoadsOf d loads → length row ≡ resource_count i →
     ((r : ℕ) → r < resource_count i → slice_index row r ≡ cell (resource_count i) loads.between.items m r) →
     IsTransientRowOfDraft d m row
-transient_row_kept m same are wide each = record {
-  one_each = cc;
-  each = λ r w. cc (each r (rw same at w), transient_kept m r are w);
-}
+transient_row_kept m same are wide each = grind (arith, common_steps, transient_kept)
 
 pub row_small : {d : Drafted} {f : ℕ → ℕ} {row : List ℕ} → IsRowOf d f row → ((r : ℕ) → f r < 2 ^ 48) →
     (r : ℕ) → r < length row → slice_index row r < 2 ^ 63
@@ -342,42 +279,18 @@ there_now {m} d p here = or_right _ _ (eq-eqb (machine_at d.current p) m (sym he
 pub row_more : {d e : Drafted} {p : ℕ} {f g : ℕ → ℕ} {row sums amounts : List ℕ} → HasStep d e p f g →
     IsRowOf d f row → Asks e p amounts → length sums ≡ length row →
     ((r : ℕ) → r < length row → slice_index sums r ≡ slice_index row r + slice_index amounts r) → IsRowOf e g sums
-row_more step is asks wide sums_are = record {
-  one_each = cc (is.one_each, step.one.origin);
-  each = λ r w.
-      let c = rw step.one.origin at w in
-      omega (arith, sums_are r (omega (arith, c, is.one_each)), is.each r c, asks.each r w, step.each r c);
-}
+row_more step is asks wide sums_are = grind (arith, common_steps)
 
 pub row_less : {d e : Drafted} {p : ℕ} {f g : ℕ → ℕ} {row rests amounts : List ℕ} → HasStep d e p f g →
     IsRowOf e g row → Asks e p amounts → length rests ≡ length row →
     ((r : ℕ) → r < length row → slice_index rests r + slice_index amounts r ≡ slice_index row r) → IsRowOf d f rests
-row_less step is asks wide rests_are = record {
-  one_each = cc (is.one_each, step.one.origin);
-  each = λ r w.
-      let c = rw (← step.one.origin) at w in
-      omega (arith, rests_are r (omega (arith, c, is.one_each)), is.each r c, asks.each r c, step.each r w);
-}
+row_less step is asks wide rests_are = grind (arith, common_steps)
 
 pub row_other : {low d e : Drafted} {p : ℕ} {f g h : ℕ → ℕ} {row sums was asked : List ℕ} → HasStep low d p f g →
     HasStep low e p f h → IsRowOf d g row → Asks d p was → Asks e p asked → length sums ≡ length row →
     ((r : ℕ) → r < length row → slice_index sums r + slice_index was r ≡ slice_index row r + slice_index asked r) →
     IsRowOf e h sums
-row_other before after is was_asks asks wide sums_are = record {
-  one_each = cc (is.one_each, before.one.origin, after.one.origin);
-  each = λ r w.
-      let low = rw after.one.origin at w in
-      let c = rw (← before.one.origin) at low in
-      omega (
-        arith,
-        sums_are r (omega (arith, c, is.one_each)),
-        is.each r c,
-        was_asks.each r c,
-        asks.each r w,
-        before.each r low,
-        after.each r low,
-      );
-}
+row_other before after is was_asks asks wide sums_are = grind (arith, common_steps)
 
 -- the row of a machine of a process has what it requires
 pub row_enough : {d e : Drafted} {p : ℕ} {f g : ℕ → ℕ} {row amounts : List ℕ} → HasStep d e p f g →
@@ -409,9 +322,5 @@ between_below_less {e} are one well small = record {
 -- one number more at the end of a row
 pub each_pushed : (P : ℕ → ℕ → Type 0) (xs next : List ℕ) (x r : ℕ) → length xs ≡ r → next ≡ xs ++ x ∷ [] →
     ((k : ℕ) → k < r → P k (slice_index xs k)) → P r x → (k : ℕ) → k < r + 1 → P k (slice_index next k)
-each_pushed P xs next x r size is each here k below = rw is (⊎_elim
-    (λ (before : k < r). subst (P k) (sym (get_or_append_left xs (x ∷ []) 0 k (omega (arith, size, before))))
-    (each k before))
-    (λ (last : r ≤ k). let e : k ≡ length xs = omega (arith, size, last, below) in
-    rw (← e) at (subst (P (length xs)) (sym (get_or-append_seam xs x [] 0)) (rw size here)))
-    (cases_lt k r))
+each_pushed P xs next x r size is each here k below =
+    grind (arith, common_steps, get_or_append_left, get_or-append_seam)

@@ -1,6 +1,7 @@
 -- At how many labels a service is counted, as processes come and go.
+use Rattle.std.proofs.lemmas.Grind.{common_steps}
 use Rattle.std.proofs.Common.{◌≡◌, ◌≢◌, ℕ, zero, suc, ◌+◌, ◌^◌, ◌<◌, ◌≤◌, Bool, true, false, ltb}
-use Rattle.std.proofs.Common.{slice_index, set, refl, sym, ap, ◌∙◌, ⊎_elim, arith, eq-eqb, ne_eqb}
+use Rattle.std.proofs.Common.{set, refl, sym, ap, ⊎_elim, arith, eq-eqb, ne_eqb}
 use Rattle.std.proofs.Common.{get_or-set_same, get_or-set_other, length-set, replicate}
 use Rattle.std.proofs.lemmas.Bool.{cases_eq, lt-ltb, le-ltb}
 use Rattle.std.proofs.lemmas.List.{length-replicate, get_or-replicate}
@@ -73,11 +74,8 @@ labels_few (suc n) size f at within none =
 
 pub numbered_none : {services : ℕ} {locations : Locations} → locations.numbers.items ≡ replicate services 0 →
     ((s x : ℕ) → count_in locations.counts s x ≡ 0) → AreNumbered services locations
-numbered_none {services} {locations} zeros counts = record {
-  one_each = cc (length-replicate {A = ℕ} services 0);
-  each = λ s s_in. ap (λ xs. slice_index xs s) zeros ∙ get_or-replicate services s 0 0 s_in
-      ∙ sym (count_zero (2 ^ 32) (λ y. ltb 0 (count_in locations.counts s y)) (λ y within. ap (ltb 0) (counts s y)));
-}
+numbered_none {services} {locations} zeros counts =
+    grind (arith, common_steps, length-replicate, get_or-replicate, count_zero)
 
 pub numbered_kept : {services : ℕ} {old new : Locations} → AreNumbered services old →
     new.numbers.items ≡ old.numbers.items → ((t : ℕ) → labels_in new.counts t ≡ labels_in old.counts t) →
@@ -87,11 +85,5 @@ numbered_kept has same labels = record { one_each = cc (has.one_each); each = λ
 pub numbered_written : {services : ℕ} {old new : Locations} (s value : ℕ) → AreNumbered services old → s < services →
     new.numbers.items ≡ set old.numbers.items s value → value ≡ labels_in new.counts s →
     ((t : ℕ) → t ≢ s → labels_in new.counts t ≡ labels_in old.counts t) → AreNumbered services new
-numbered_written {old} s value has s_in written value_is others = record {
-  one_each = cc (length-set old.numbers.items s value, has.one_each);
-  each = λ t t_in. ap (λ xs. slice_index xs t) written ∙ ⊎_elim
-      (λ (here : t ≡ s). rw here
-      (get_or-set_same old.numbers.items s value 0 (omega (arith, s_in, has.one_each)) ∙ value_is))
-      (λ (apart : t ≢ s). get_or-set_other old.numbers.items s t value 0 apart ∙ has.each t t_in ∙ sym (others t apart))
-      (cases_eq t s);
-}
+numbered_written {old} s value has s_in written value_is others =
+    grind (arith, common_steps, length-set, get_or-set_same, get_or-set_other)

@@ -1,5 +1,6 @@
 -- What is kept of the members of the services, as processes come and go.
-use Rattle.std.proofs.Common.{◌≡◌, ℕ, ◌+◌, ◌^◌, ◌<◌, ◌≤◌, Bool, true, false, eqb, ltb, ◌&&◌, List, slice_index}
+use Rattle.std.proofs.lemmas.Grind.{common_steps}
+use Rattle.std.proofs.Common.{◌≡◌, ℕ, ◌+◌, ◌^◌, ◌<◌, ◌≤◌, Bool, true, eqb, ltb, ◌&&◌, List, slice_index}
 use Rattle.std.proofs.Common.{refl, sym, ap, ap₂, ◌∙◌, arith, eq-eqb, ne_eqb}
 use Rattle.ra_base.specs.Sums.{one_if, total}
 use Rattle.ra_base.specs.declared.ids.Machine.{Machine}
@@ -45,28 +46,13 @@ pub members_none : {d : Drafted} {members : Members} → ((s x : ℕ) → count_
     ((s x : ℕ) → count_in members.neighbourhoods s x ≡ 0) → ((s x : ℕ) → count_in members.locations.counts s x ≡ 0) →
     AreNumbered (service_count d.origin) members.locations → HasMembers d 0 members
 unfolding tally
-members_none {d} {members} machines near locations numbered = record {
-  each = λ s spot. nothing s spot
-      ∙ sym (total_none (λ p. of_service (instance_of d) s (is_there d.origin spot) p (machine_at d.current p)));
-  numbered = numbered;
-}
-  where
-    nothing : (s : ℕ) (spot : Spot) → members_in members s spot ≡ 0
-    nothing s (OnMachine m) = machines s m.0
-    nothing s (InNeighbourhood label) = near s label
-    nothing s (InLocation label) = locations s label
+members_none {d} {members} machines near locations numbered = grind (arith, common_steps, total_none)
 
 pub members_next : {d : Drafted} {p s m : ℕ} {old new : Members} → HasMembers d p old →
     s ≡ service_of (instance_of d) p → m ≡ machine_at d.current p → HasMember d.origin s m old new →
     AreNumbered (service_count d.origin) new.locations → HasMembers d (p + 1) new
 unfolding of_service is_of
-members_next {d} {p} has s_is m_is one numbered = record {
-  each = λ t spot. one.each t spot
-      ∙ ap₂ (λ x b. x + one_if b) (has.each t spot)
-      (ap₂ (λ x b. eqb x t && b) s_is (there_as d.origin d.origin spot 0 p refl m_is))
-      ∙ sym (tally_more p (of_service (instance_of d) t (is_there d.origin spot)) d.current);
-  numbered = numbered;
-}
+members_next {d} {p} has s_is m_is one numbered = grind (arith, common_steps, there_as, tally_more)
 
 -- what is counted of a draft is what the definitions give
 

@@ -1,9 +1,10 @@
 -- What an edit makes of the moved counts.
+use Rattle.std.proofs.lemmas.Grind.{common_steps}
 use Rattle.std.proofs.Common.{◌≡◌, ◌≢◌, ℕ, ◌+◌, ◌-◌, ◌*◌, ◌<◌, ◌≤◌, true, false, cond, eqb, ◌&&◌, List, Option}
 use Rattle.std.proofs.Common.{Some, None, length, get_or, set, refl, sym, ap, ◌∙◌, ⊎_elim, arith, eq-eqb}
 use Rattle.std.proofs.Common.{ne_eqb, length-set, get_or-set_same, get_or-set_other}
 use Rattle.std.proofs.lemmas.Bool.{cases_eq}
-use Rattle.ra_base.specs.Sums.{one_if, greatest}
+use Rattle.ra_base.specs.Sums.{one_if}
 use Rattle.ra_base.specs.declared.costs.MovedCount.{MovedCount}
 use Rattle.ra_base.specs.declared.ids.Machine.{Machine}
 use Rattle.ra_base.proofs.Greatest.{greatest_same}
@@ -94,13 +95,7 @@ changed_none are gone stays t = are.each t ∙ (moved_same t gone.fewer stays)
 replaced : (counts : List ℕ) (c : MovedCount) (s : ℕ) → c.service.0 < length counts →
     get_or (set counts c.service.0 c.after) s 0 ≡ counted_after (Some c) (λ k. get_or counts k 0) s
 unfolding counted_after
-replaced counts c s there = ⊎_elim
-    (λ (here : s ≡ c.service.0).
-    rw (eq-eqb s c.service.0 here) (ap (λ k. get_or (set counts c.service.0 c.after) k 0) here
-    ∙ get_or-set_same counts c.service.0 c.after 0 there))
-    (λ (apart : s ≢ c.service.0).
-    rw (ne_eqb s c.service.0 apart) (get_or-set_other counts c.service.0 s c.after 0 apart))
-    (cases_eq s c.service.0)
+replaced counts c s there = grind (arith, common_steps, eq-eqb, get_or-set_same, ne_eqb, get_or-set_other)
 
 slots_gone : {d e : Drafted} {p : ℕ} {moved : MovedCounts} → AreMovedOfDraft d moved → HasGone d e p →
     length moved.counts ≡ service_count e.origin
@@ -110,10 +105,7 @@ pub followed_one : {d e : Drafted} {p : ℕ} {moved new : MovedCounts} (c : Move
     HasGone d e p → c.service.0 < length moved.counts → new.counts ≡ set moved.counts c.service.0 c.after →
     ((t : ℕ) → counted_after (Some c) (λ s. get_or moved.counts s 0) t ≡
     moved_of (instance_of e) e.initial e.current t) → AreMovedOfDraft e new
-followed_one {moved} c are gone there made each = record {
-  one_each = cc (length-set moved.counts c.service.0 c.after, slots_gone are gone);
-  each = λ s. cc (replaced moved.counts c s there, each s);
-}
+followed_one {moved} c are gone there made each = grind (arith, common_steps, length-set, slots_gone, replaced)
 
 pub followed_none : {d e : Drafted} {p : ℕ} {moved : MovedCounts} → AreMovedOfDraft d moved → HasGone d e p →
     ((t : ℕ) → counted_after None (λ s. get_or moved.counts s 0) t ≡
@@ -129,21 +121,12 @@ pub cost_without : (d e : Drafted) (p : ℕ) (moved : MovedCounts) (change : Opt
     service_cost (instance_of e) e.initial e.current
 unfolding service_cost greatest_with counted_after
 cost_without d e p moved change weight most are gone each heavy most_is =
-    let same : most ≡ greatest (service_count (instance_of e)) (moved_of (instance_of e) e.initial e.current) = most_is
-    ∙ greatest_same (length moved.counts) (counted_after change (λ s. get_or moved.counts s 0))
-    (moved_of (instance_of e) e.initial e.current) (λ t h. each t)
-    ∙ ap (λ n. greatest n (moved_of (instance_of e) e.initial e.current))
-    (slots_gone are gone ∙ sym (services_from e e.origin refl)) in
-    let heavy_e : weight ≡ service_weight_of (instance_of e) = cc (gone.fewer.origin, service_weight_in e) in
-    rw (heavy_e, same) refl
+    grind (arith, common_steps, greatest_same, slots_gone, services_from, service_weight_in)
 
 -- a process that has come hasn't moved
 pub followed_come : {d e : Drafted} {s m : ℕ} {moved : MovedCounts} → AreMovedOfDraft d moved → HasCome d e s m →
     AreMovedOfDraft e moved
-followed_come are come = record {
-  one_each = cc (are.one_each, come.more.origin);
-  each = λ t. are.each t ∙ sym (moved_same t come.more (come.home ∙ sym come.here));
-}
+followed_come are come = grind (arith, common_steps, moved_same)
 
 -- one that requires something else is where it was
 moved_with : (t : ℕ) (i : Tables) (rows : List ProcessRow) (u v : List ℕ) (a0 a : List Machine) →
@@ -153,10 +136,4 @@ moved_with t i rows u v a0 a = refl
 
 pub followed_other : {d e : Drafted} {p : ℕ} {moved : MovedCounts} → AreMovedOfDraft d moved → HasOther d e p →
     AreMovedOfDraft e moved
-followed_other {d} {e} are other =
-    let origin : e.origin ≡ d.origin = other.after.origin ∙ sym other.before.origin in
-    record {
-      one_each = cc (are.one_each);
-      each = λ t. are.each t ∙ renamed (λ i a0 a. moved_of i a0 a t) d e (moved_with t) origin other.rows other.initial
-          other.current;
-    }
+followed_other {d} {e} are other = grind (arith, common_steps, renamed, moved_with)

@@ -1,4 +1,5 @@
 -- A draft and the same draft with one process more.
+use Rattle.std.proofs.lemmas.Grind.{common_steps}
 use Rattle.std.proofs.Common.{inl, inr, ◌≡◌, ◌≢◌, ℕ, ◌+◌, ◌-◌, ◌*◌, ◌<◌, ◌≤◌, List, [], ◌∷◌, ◌++◌, length, take, drop}
 use Rattle.std.proofs.Common.{set, get_or, refl, sym, ap, ◌∙◌, subst, ⊎_elim, arith, length-append, length-take-le}
 use Rattle.std.proofs.Common.{get_or-set_same, get_or-set_other}
@@ -16,7 +17,7 @@ use Rattle.ra_model.specs.declared.raw.Tables.{Tables}
 use Rattle.ra_model.specs.Numbers.{resource_count, process_row, service_of, process_cost_of, requirement_of}
 use Rattle.ra_model.specs.Assignments.{machine_at}
 use Rattle.ra_edit_read.specs.EditLists.{row_of}
-use Rattle.ra_edit.specs.Drafts.{Drafted, with_process_rows, instance_of}
+use Rattle.ra_edit.specs.Drafts.{Drafted, with_process_rows}
 use Rattle.ra_edit.specs.Editing.{process_of, put_row, drop_row, retired}
 use Rattle.ra_edit.specs.OneMore.{IsSame, OneMore}
 use Rattle.ra_edit_read.proofs.ListLaws.{row_within, row_length, row_cell}
@@ -43,20 +44,7 @@ pub same_from : {low high : Drafted} {k q : ℕ} (d : ProcessRow) → k < length
     machine_at low.current k ≡ machine_at high.current q → IsSame low k high q
 unfolding service_of process_cost_of
 same_from {low} {high} {k} {q} d k_in q_in same origin cells home here =
-    let rows : process_row (instance_of low) k ≡ process_row (instance_of high) q =
-    row_read low.origin low.rows low.requirements k d k_in ∙ same
-    ∙ sym (row_read high.origin high.rows high.requirements q d q_in) in
-    record {
-      service = cc;
-      cost = cc;
-      requirement = λ r r_in. cc (
-        requirement_read low.origin low.rows low.requirements k r,
-        cells r r_in,
-        requirement_read high.origin high.rows high.requirements q r,
-      );
-      home = home;
-      here = here;
-    }
+    grind (arith, common_steps, row_read, requirement_read)
 
 -- lists with an item more, or less
 
@@ -119,11 +107,7 @@ put_cell_other w n p k r table row size within width apart column = ⊎_elim
 drop_cell : (w n p k r : ℕ) (table : List ℕ) → length table ≡ n * w → p < n → k < n - 1 → r < w →
     cell w (drop_row w table n p) k r ≡ cell w (put_row w table p (row_of w table (n - 1))) k r
 unfolding drop_row
-drop_cell w n p k r table size within left column =
-    cell_is w (take ((n - 1) * w) (put_row w table p (row_of w table (n - 1)))) k r
-    ∙ get_or-take ((n - 1) * w) (put_row w table p (row_of w table (n - 1))) (k * w + r) 0 (place_within k r
-    (n - 1) w left column)
-    ∙ sym (cell_is w (put_row w table p (row_of w table (n - 1))) k r)
+drop_cell w n p k r table size within left column = grind (arith, common_steps, cell_is, get_or-take, place_within)
 
 -- one process at the end
 

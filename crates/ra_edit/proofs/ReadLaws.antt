@@ -1,4 +1,5 @@
 -- The row of a process is within the table, and has what the process requires.
+use Rattle.std.proofs.lemmas.Grind.{common_steps}
 use Rattle.std.proofs.Common.{◌≡◌, ℕ, ◌+◌, ◌*◌, ◌<◌, ◌≤◌, List, length, arith}
 use Rattle.std.specs.List.{slice_range}
 use Rattle.ra_base.proofs.Tables.{row_length, row_cell}
@@ -18,9 +19,4 @@ row_of_process {d} p sound within =
 pub asks_read : {d : Drafted} {p : ℕ} {amounts : List ℕ} → IsSoundDraft d → p < length d.rows →
     amounts ≡ slice_range d.requirements (p * resource_count d.origin)
     (p * resource_count d.origin + resource_count d.origin) → Asks d p amounts
-asks_read {d} {p} sound within is =
-    let w = resource_count d.origin in
-    record {
-      one_each = cc (row_length w p d.requirements (row_of_process p sound within));
-      each = λ r column. cc (row_cell w p d.requirements r column, requirement_read d.origin d.rows d.requirements p r);
-    }
+asks_read {d} {p} sound within is = grind (arith, common_steps, row_length, row_of_process, row_cell, requirement_read)

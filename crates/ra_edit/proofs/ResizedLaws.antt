@@ -1,6 +1,6 @@
 -- Other requirements of a process break what they touch, or nothing.
-use Rattle.std.proofs.Common.{◌≡◌, ◌≢◌, ℕ, zero, suc, ◌<◌, ◌≤◌, List, Option, None, refl, sym, ap, ◌∙◌, arith}
-use Rattle.ra_base.specs.Searches.{first}
+use Rattle.std.proofs.lemmas.Grind.{common_steps}
+use Rattle.std.proofs.Common.{◌≡◌, ◌≢◌, ℕ, zero, suc, ◌<◌, ◌≤◌, List, Option, refl, sym, ap, ◌∙◌, arith}
 use Rattle.ra_base.specs.declared.ids.Machine.{Machine}
 use Rattle.ra_base.specs.declared.causes.Cause.{Cause}
 use Rattle.ra_base.proofs.Searches.{or_else_none, or_else_none_right, first_same}
@@ -58,10 +58,7 @@ there i rows t s h = h
 depending_with : (i : Tables) (rows : List ProcessRow) (t u : List ℕ) (a0 a : List Machine) →
     broken_dependency (with_process_rows i rows t) a ≡ broken_dependency (with_process_rows i rows u) a
 unfolding broken_dependency service_dependency with_process_rows service_count
-depending_with i rows t u a0 a = first_same (service_count (with_process_rows i rows t)) _ _
-    (λ s s_in. ap (λ n. first n (pair_dependency (with_process_rows i rows t) a s)) (counts i rows t u s)
-    ∙ first_same (dependency_count (with_process_rows i rows u) s) (pair_dependency (with_process_rows i rows t) a s)
-    (pair_dependency (with_process_rows i rows u) a s) (λ k k_in. pairs_with i rows t u a s k (there i rows t s s_in)))
+depending_with i rows t u a = grind (arith, common_steps, first_same, counts, pairs_with, there)
 
 shut_with : (i : Tables) (rows : List ProcessRow) (t u : List ℕ) (a0 a : List Machine) →
     broken_closed (with_process_rows i rows t) a0 a ≡ broken_closed (with_process_rows i rows u) a0 a

@@ -1,4 +1,5 @@
 -- A process less breaks what it touches, or nothing.
+use Rattle.std.proofs.lemmas.Grind.{common_steps}
 use Rattle.std.proofs.Common.{◌≡◌, ◌≢◌, ◌⊎◌, inl, inr, ℕ, zero, suc, ◌<◌, Bool, true, false, cond, eqb, ◌&&◌}
 use Rattle.std.proofs.Common.{length, Option, Some, None, refl, sym, ap, ◌∙◌, arith, eq-eqb, ne_eqb}
 use Rattle.std.proofs.lemmas.Bool.{cases_lt, cases_eq, cases_Bool, cond-true, cond-false, lt-ltb, le-ltb, ltb-false}
@@ -111,30 +112,19 @@ left_test : {d e : Drafted} {p s : ℕ} (u k q : ℕ) → OneMore d e p → brok
     0 < in_neighbourhood (instance_of d) d.current s (neighbourhood_of d.origin (machine_at e.current p))) →
     dependency_test (instance_of d) d.current u k q ≡ None
 unfolding dependency_test far_test near_of is_of
-left_test {d} {e} {p} {s} u k q more fine u_in k_in q_in mine near_enough =
-    elim (cases_Bool (eqb (service_of (instance_of d) q) u)) [
-      | inl member ↦ let of = eqb-true _ _ member in
-          let some : 0 < in_neighbourhood (instance_of d) d.current (need_of d.origin u k)
-          (neighbourhood_of d.origin (machine_at d.current q)) = (elim (cases_eq (need_of d.origin u k) s) [
-            | inl needs ↦
-                elim (cases_eq (neighbourhood_of d.origin (machine_at d.current q))
-                (neighbourhood_of d.origin (machine_at e.current p))) [
-                  | inl there ↦ rw (needs, there) (near_enough needs of there)
-                  | inr away ↦ retired_near k q more fine u_in k_in q_in of mine (λ a b. away b)
-                ]
-            | inr other ↦
-                retired_near k q more fine u_in k_in q_in of mine (λ a b. other a)
-          ]) in
-          let here : 0 < in_neighbourhood (instance_of d) d.current (need_of (instance_of d) u k)
-          (neighbourhood_of (instance_of d) (machine_at d.current q)) =
-          rw (need_with d u k, neighbourhood_with d.origin d.rows d.requirements (machine_at d.current q)) some in
-          cond-true _ _ _ member
-          ∙ cause_free _ _
-          (ne_eqb (in_neighbourhood (instance_of d) d.current (need_of (instance_of d) u k)
-          (neighbourhood_of (instance_of d) (machine_at d.current q))) 0 (λ none. omega (arith, none, here)))
-      | inr other ↦
-          cond-false _ _ _ other
-    ]
+left_test {d} {e} {p} {s} u k q more fine u_in k_in q_in mine near_enough = grind (
+  arith,
+  common_steps,
+  eqb,
+  eqb-true,
+  retired_near,
+  need_with,
+  neighbourhood_with,
+  cond-true,
+  cause_free,
+  ne_eqb,
+  cond-false,
+)
 
 -- a search that can have one answer alone
 no_other : {X : Type 0} → (n : ℕ) (f : ℕ → Option X) (x : X) → ((k : ℕ) → k < n → (f k ≡ None) ⊎ (f k ≡ Some x)) →

@@ -1,6 +1,8 @@
 -- Instances with the same lists are alike: they have the same first broken constraint and the same parts.
+use Rattle.std.proofs.Common.{arith}
+use Rattle.std.proofs.lemmas.Grind.{common_steps}
 use Rattle.std.proofs.Common.{◌≡◌, ℕ, List, Option, None, refl, sym, ap, ◌∙◌, subst}
-use Rattle.ra_base.specs.Searches.{or_else, first}
+use Rattle.ra_base.specs.Searches.{or_else}
 use Rattle.ra_base.specs.declared.causes.Cause.{Cause}
 use Rattle.ra_base.proofs.Searches.{first_same}
 use Rattle.ra_base.specs.declared.ids.Machine.{Machine}
@@ -19,7 +21,7 @@ use Rattle.ra_model.specs.Numbers.{load_weight_of, neighbourhood_of, location_of
 use Rattle.ra_model.specs.Numbers.{spread_of, dependency_end, dependency_start, dependency_count, need_at, need_of}
 use Rattle.ra_model.specs.Numbers.{service_of, requirement_of, process_cost_of, first_of, second_of, target_of}
 use Rattle.ra_model.specs.Numbers.{balance_weight_of, process_weight_of, service_weight_of, machine_weight_of}
-use Rattle.ra_model.specs.Assignments.{IsAssignment, machine_at, tally}
+use Rattle.ra_model.specs.Assignments.{IsAssignment, tally}
 use Rattle.ra_model.specs.Usage.{use_share, use_of, transient_share, transient_of}
 use Rattle.ra_model.specs.Services.{is_of, of_service, members_at, on_machine, in_neighbourhood, in_location}
 use Rattle.ra_model.specs.Services.{locations_of, moved_of}
@@ -79,22 +81,7 @@ weights_same x y e = small_same (weight_of x) (weight_of y) e
 
 bare_same : {x y : RawInstance} → HasLists x y → bare x ≡ bare y
 unfolding bare service_weight_from machine_weight_from
-bare_same {x} {y} h =
-    rw (
-      weights_same x y h.process_weight,
-      (small_same (service_weight_from x) (service_weight_from y) h.service_weight),
-      (small_same (machine_weight_from x) (machine_weight_from y) h.machine_weight),
-      h.resources,
-      h.machines,
-      h.capacities,
-      h.safeties,
-      h.move_costs,
-      h.services,
-      h.dependencies,
-      h.processes,
-      h.requirements,
-      h.balances,
-    ) refl
+bare_same {x} {y} h = grind (arith, common_steps, weights_same, small_same, service_weight_from, machine_weight_from)
 
 -- no definition but that of closed machines looks at rooms and flags
 
@@ -159,18 +146,12 @@ same_parts i j a0 a h = along (λ k. parts_of k a0 a) i j (λ k. parts_bare k a0
 
 pub same_fits : {i : Tables} {a : List Machine} (j : Tables) → HasLists j.raw i.raw → IsAssignment i a →
     IsAssignment j a
-same_fits {i} j h fits = record {
-  one_each = fits.one_each ∙ sym (same_processes i j h);
-  in_range = λ p within. rw (← (same_machines i j h)) at (fits.in_range p (rw (same_processes i j h) at within));
-}
+same_fits {i} j h fits = grind (arith, common_steps, same_processes, same_machines)
 
 same_closed : (i j : Tables) (a0 a : List Machine) → AreSameLists i j → IsAssignment i a →
     broken_closed j a0 a ≡ broken_closed i a0 a
 unfolding broken_closed closed_test
-same_closed i j a0 a h fits =
-    ap (λ n. first n (closed_test j a0 a)) (same_processes i j h.lists)
-    ∙ first_same (process_count i) (closed_test j a0 a) (closed_test i a0 a)
-    (λ p within. rw (h.closed (machine_at a p) (fits.in_range p within)) refl)
+same_closed i j a0 a h fits = grind (arith, common_steps, same_processes, first_same)
 
 pub same_broken : (i j : Tables) (a0 a : List Machine) → AreSameLists i j → IsAssignment i a →
     first_broken j a0 a ≡ first_broken i a0 a

@@ -1,5 +1,7 @@
 -- What is read of the lists of a draft.
-use Rattle.std.proofs.Common.{◌≡◌, ◌≢◌, ℕ, ◌+◌, ◌*◌, ◌^◌, ◌<◌, lit<, List, length, get_or, refl, ne_eqb}
+use Rattle.std.proofs.Common.{arith}
+use Rattle.std.proofs.lemmas.Grind.{common_steps}
+use Rattle.std.proofs.Common.{◌≡◌, ◌≢◌, ℕ, ◌*◌, ◌^◌, ◌<◌, List, length, get_or, refl, ne_eqb}
 use Rattle.ra_base.specs.Tables.{cell}
 use Rattle.ra_base.specs.declared.ids.Machine.{Machine}
 use Rattle.ra_model.specs.declared.raw.ProcessRow.{ProcessRow}
@@ -70,20 +72,4 @@ unfolding with_process_rows load_weight_of resource_row neighbourhood_of locatio
     way_cost_of spread_of service_row dependency_end requirement_of process_cost_of process_row target_of
     balance_weight_of balance_row process_weight_of service_weight_of machine_weight_of resource_count machine_count
     cell
-small_with {i} rows requirements small each = record {
-  load_weights = small.load_weights;
-  neighbourhoods = small.neighbourhoods;
-  locations = small.locations;
-  capacities = small.capacities;
-  safeties = small.safeties;
-  way_costs = small.way_costs;
-  spreads = small.spreads;
-  dependency_ends = small.dependency_ends;
-  requirements = λ p r. each (p * length i.raw.resources.items + r);
-  process_costs = λ p. (get_or rows p (record { service = record { 0 = 0 }; move_cost = 0; small = lit< tt })).small;
-  targets = small.targets;
-  balance_weights = small.balance_weights;
-  process_weight = small.process_weight;
-  service_weight = small.service_weight;
-  machine_weight = small.machine_weight;
-}
+small_with {i} rows requirements small each = grind (arith, common_steps)

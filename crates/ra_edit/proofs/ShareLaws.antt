@@ -1,4 +1,5 @@
 -- What one process more adds to each sum over the processes.
+use Rattle.std.proofs.lemmas.Grind.{common_steps}
 use Rattle.std.proofs.Common.{◌≡◌, ◌≢◌, ℕ, ◌+◌, ◌*◌, ◌^◌, ◌<◌, ◌≤◌, Bool, true, false, cond, eqb, ltb, ◌&&◌, ◌||◌, List}
 use Rattle.std.proofs.Common.{refl, sym, ap, ◌∙◌, arith, eq-eqb, ne_eqb}
 use Rattle.std.proofs.lemmas.Bool.{lt-ltb}
@@ -53,21 +54,13 @@ pub use_more : {d e : Drafted} {p : ℕ} (m r : ℕ) → OneMore d e p → r < r
     use_of (instance_of e) e.current m r ≡ use_of (instance_of d) d.current m r + cond (eqb (machine_at e.current p) m)
     (requirement_of (instance_of e) p r) 0
 unfolding use_of tally use_share process_count with_process_rows
-use_more {d} {e} m r more column = more.sums
-    (λ k. cond (eqb (machine_at d.current k) m) (requirement_of (instance_of d) k r) 0)
-    (λ q. cond (eqb (machine_at e.current q) m) (requirement_of (instance_of e) q r) 0)
-    (λ k q k_in q_in same. cc (same.here, same.requirement r column))
+use_more {d} {e} m r more column = grind (arith, common_steps)
 
 pub transient_more : {d e : Drafted} {p : ℕ} (m r : ℕ) → OneMore d e p → r < resource_count d.origin →
     transient_of (instance_of e) e.initial e.current m r ≡ transient_of (instance_of d) d.initial d.current m r
     + cond (eqb (machine_at e.initial p) m || eqb (machine_at e.current p) m) (requirement_of (instance_of e) p r) 0
 unfolding transient_of tally transient_share process_count with_process_rows
-transient_more {d} {e} m r more column = more.sums
-    (λ k. cond (eqb (machine_at d.initial k) m || eqb (machine_at d.current k) m) (requirement_of (instance_of d) k r)
-    0)
-    (λ q. cond (eqb (machine_at e.initial q) m || eqb (machine_at e.current q) m) (requirement_of (instance_of e) q r)
-    0)
-    (λ k q k_in q_in same. cc (same.here, same.home, same.requirement r column))
+transient_more {d} {e} m r more column = grind (arith, common_steps)
 
 -- members
 
@@ -76,10 +69,7 @@ pub members_more : {d e : Drafted} {p : ℕ} (s : ℕ) (f g : ℕ → ℕ → Bo
     members_at (instance_of e) e.current s g ≡ members_at (instance_of d) d.current s f
     + one_if (eqb (service_of (instance_of e) p) s && g p (machine_at e.current p))
 unfolding members_at tally of_service is_of process_count with_process_rows
-members_more {d} {e} s f g more tests = more.sums
-    (λ k. one_if (eqb (service_of (instance_of d) k) s && f k (machine_at d.current k)))
-    (λ q. one_if (eqb (service_of (instance_of e) q) s && g q (machine_at e.current q)))
-    (λ k q k_in q_in same. cc (same.service, tests k q same))
+members_more {d} {e} s f g more tests = grind (arith, common_steps)
 
 pub machine_more : {d e : Drafted} {p : ℕ} (s m : ℕ) → OneMore d e p → on_machine (instance_of e) e.current s m ≡
     on_machine (instance_of d) d.current s m
@@ -218,24 +208,13 @@ pub process_more : {d e : Drafted} {p : ℕ} → OneMore d e p → process_cost 
     process_cost (instance_of d) d.initial d.current + process_weight_of d.origin
     * cond (eqb (machine_at e.current p) (machine_at e.initial p)) 0 (process_cost_of (instance_of e) p)
 unfolding process_cost tally process_share process_count with_process_rows process_weight_of
-process_more {d} {e} more =
-    let sums = more.sums
-    (λ k. cond (eqb (machine_at d.current k) (machine_at d.initial k)) 0 (process_cost_of (instance_of d) k))
-    (λ q. cond (eqb (machine_at e.current q) (machine_at e.initial q)) 0 (process_cost_of (instance_of e) q))
-    (λ k q k_in q_in same. cc (same.here, same.home, same.cost)) in
-    weighted (process_weight_of e.origin) (process_weight_of d.origin) _ _ _ (ap process_weight_of more.origin) sums
+process_more {d} {e} more = grind (arith, common_steps, weighted)
 
 pub way_more : {d e : Drafted} {p : ℕ} → OneMore d e p → machine_cost (instance_of e) e.initial e.current ≡
     machine_cost (instance_of d) d.initial d.current + machine_weight_of d.origin * way_cost_of d.origin
     (machine_at e.initial p) (machine_at e.current p)
 unfolding machine_cost tally way_share process_count with_process_rows machine_weight_of way_cost_of machine_count
-way_more {d} {e} more =
-    let sums = more.sums
-    (λ k. way_cost_of d.origin (machine_at d.initial k) (machine_at d.current k))
-    (λ q. way_cost_of e.origin (machine_at e.initial q) (machine_at e.current q))
-    (λ k q k_in q_in same. cc (same.home, same.here, more.origin)) in
-    weighted (machine_weight_of e.origin) (machine_weight_of d.origin) _ _ _ (ap machine_weight_of more.origin)
-    (cc (more.origin))
+way_more {d} {e} more = grind (arith, common_steps, weighted)
 
 pub load_term : (d : Drafted) (m : ℕ) → m < machine_count d.origin →
     row_load d.origin m (use_of (instance_of d) d.current m) ≤ load_cost (instance_of d) d.current

@@ -1,9 +1,10 @@
 -- An edit leaves an instance within the limits, and two lists that fit it.
-use Rattle.std.proofs.Common.{inl, inr, ◌≡◌, ◌≢◌, ℕ, ◌+◌, ◌-◌, ◌*◌, ◌<◌, ◌≤◌, List, [], ◌∷◌, ◌++◌, length, get_or, Some}
-use Rattle.std.proofs.Common.{None, refl, sym, ap, ◌∙◌, subst, ⊎_elim, arith, length-append, eq-eqb}
+use Rattle.std.proofs.lemmas.Grind.{common_steps}
+use Rattle.std.proofs.Common.{◌≡◌, ◌≢◌, ℕ, ◌+◌, ◌-◌, ◌*◌, ◌<◌, ◌≤◌, List, [], ◌∷◌, ◌++◌, length, get_or, Some}
+use Rattle.std.proofs.Common.{None, sym, ap, ◌∙◌, subst, arith, length-append, eq-eqb}
 use Rattle.std.specs.List.{swap_remove}
 use Rattle.std.proofs.Math.Seq.{get_or-append_seam}
-use Rattle.std.proofs.lemmas.Bool.{cases_lt, lt-ltb, le-ltb}
+use Rattle.std.proofs.lemmas.Bool.{lt-ltb, le-ltb}
 use Rattle.std.proofs.lemmas.List.{get_or_append_left, get_or_default}
 use Rattle.ra_base.specs.declared.costs.Parts.{Parts}
 use Rattle.ra_base.specs.declared.ids.Machine.{Machine}
@@ -17,7 +18,7 @@ use Rattle.ra_model.proofs.InstanceLemmas.{well_formed_with}
 use Rattle.ra_edit_read.specs.declared.edits.Edit.{Edit}
 use Rattle.ra_edit_read.specs.declared.edits.Edit.TheVariants.{Add, Retire, Resize}
 use Rattle.ra_edit_read.specs.EditLists.{FitsInstance}
-use Rattle.ra_edit.specs.declared.replies.EditReply.TheVariants.{NoProcess, Full, Last}
+use Rattle.ra_edit.specs.declared.replies.EditReply.TheVariants.{Full}
 use Rattle.ra_edit.specs.Drafts.{Drafted, with_process_rows}
 use Rattle.ra_edit.specs.Editing.{process_of, put_row, drop_row, added, retired, resized, edited}
 use Rattle.ra_edit.specs.Replies.{barred}
@@ -82,12 +83,8 @@ fits_each i rows requirements h p within = h.in_range p (rw h.one_each at within
 
 each_more : {X : Type 0} → (P : X → Type 0) (xs : List X) (x d : X) → ((p : ℕ) → p < length xs → P (get_or xs p d)) →
     P x → (p : ℕ) → p < length (xs ++ x ∷ []) → P (get_or (xs ++ x ∷ []) p d)
-each_more P xs x d each here p within = elim (cases_lt p (length xs)) [
-  | inl below ↦
-      subst P (sym (get_or_append_left xs (x ∷ []) d p below)) (each p below)
-  | inr last ↦ let e : p ≡ length xs = omega (arith, length-append xs (x ∷ [])) in
-      rw (← e) at (subst P (sym (get_or-append_seam xs x [] d)) here)
-]
+each_more P xs x d each here p within =
+    grind (arith, common_steps, get_or_append_left, length-append, get_or-append_seam)
 
 -- one less
 each_less : {X : Type 0} → (P : X → Type 0) (xs : List X) (q : ℕ) (d e : X) → q < length xs →
@@ -188,20 +185,11 @@ free_add count s m c free full = let e : Some Full ≡ None = rw (eq-eqb count 5
 
 pub free_retire : (count p : ℕ) → barred count (Retire p) ≡ None → (p < count) × (count ≢ 1)
 unfolding barred
-free_retire count p free = elim (cases_lt p count) [
-  | inl within ↦ (
-    within,
-    λ one. let e : Some Last ≡ None = rw (lt-ltb p count within, eq-eqb count 1 one) at free in cc,
-  )
-  | inr past ↦ absurd (let e : Some (NoProcess p) ≡ None = rw (le-ltb p count past) at free in cc)
-]
+free_retire count p free = grind (arith, common_steps, lt-ltb, eq-eqb, le-ltb)
 
 pub free_resize : (count p : ℕ) → barred count (Resize p) ≡ None → p < count
 unfolding barred
-free_resize count p free = elim (cases_lt p count) [
-  | inl within ↦ within
-  | inr past ↦ absurd (let e : Some (NoProcess p) ≡ None = rw (le-ltb p count past) at free in cc)
-]
+free_resize count p free = grind (arith, common_steps, le-ltb)
 
 pub edited_sound : {d : Drafted} (e : Edit) (requirements : List ℕ) → IsSoundDraft d → barred (length d.rows) e ≡ None →
     FitsInstance d.origin e → length requirements ≡ resource_count d.origin → IsSoundDraft (edited d e requirements)
@@ -226,26 +214,11 @@ pub record AreFew (d : Drafted) : Type 0 where
   pub current : length d.current ≡ length d.rows
 
 few_cells : (n w t : ℕ) → n ≤ 50000 → w ≤ 20 → t ≡ n * w → t ≤ 1000000
-few_cells n w t few narrow same = omega (arith, same, mul_le n w few narrow)
-  where
-    mul_le : (a b : ℕ) → a ≤ 50000 → b ≤ 20 → a * b ≤ 50000 * 20
-    mul_le a b x y = grind arith
+few_cells n w t few narrow same = grind (arith, common_steps)
 
 pub few_of : {d : Drafted} → IsSoundDraft d → AreFew d
 unfolding with_process_rows resource_count
-few_of {d} sound =
-    let old = rows_of d.origin d.rows d.requirements sound.well_formed in
-    let narrow = sound.well_formed.few_resources in
-    record {
-      some = old.some;
-      rows = old.few;
-      narrow = narrow;
-      table = old.table;
-      requirements =
-          few_cells (length d.rows) (resource_count d.origin) (length d.requirements) old.few narrow old.table;
-      initial = fits_size d.origin d.rows d.requirements sound.initial;
-      current = fits_size d.origin d.rows d.requirements sound.current;
-    }
+few_of {d} sound = grind (arith, common_steps, rows_of, few_cells, fits_size)
 
 pub few_rows : {d : Drafted} {parts : Parts} → IsKeptDraft d parts → length d.rows ≤ 50000
 few_rows h = (few_of h.sound).rows

@@ -1,4 +1,5 @@
 -- What the numbers that were found say of each test.
+use Rattle.std.proofs.lemmas.Grind.{common_steps}
 use Rattle.std.proofs.Common.{◌≡◌, ◌≢◌, ℕ, zero, suc, ◌<◌, ◌≤◌, Bool, true, false, cond, List, length, get_or, Option}
 use Rattle.std.proofs.Common.{Some, None, refl, sym, ap, ◌∙◌, arith, lt-ltb, le-ltb, ne_eqb, eq-eqb}
 use Rattle.std.proofs.lemmas.Bool.{and_from, and_left, and_right}
@@ -131,11 +132,7 @@ listed_first : {X : Type 0} → (list : List Service) (f : ℕ → Option X) →
     first (length list) (λ k. f (service_at list k)) ≡
     first (length (numbers_of list)) (λ k. f (get_or (numbers_of list) k 0))
 unfolding service_at
-listed_first list f = cc (
-  first_same (length list) (λ k. f (service_at list k)) (λ k. f (get_or (numbers_of list) k 0)) (λ k within. ap f
-      (sym (get_or-map (λ (u : Service). u.0) list k (record { 0 = 0 })))),
-  length-map list (λ (u : Service). u.0),
-)
+listed_first list f = grind (arith, common_steps, first_same, get_or-map, length-map)
 
 -- what is found among the dependants of a service is what is found among all services
 pub left_listed : {i : Tables} {s : ℕ} {list : List Service} (e : Drafted) (label : ℕ) → e.origin ≡ i →
@@ -160,10 +157,7 @@ either_none false none = refl
 pub none_left : (e : Drafted) (s label n : ℕ) → 0 < in_neighbourhood (instance_of e) e.current s label →
     None ≡ first n (left_by (instance_of e) e.current s label)
 unfolding left_by cause_if_left_alone
-none_left e s label n some =
-    sym (first_none_from n _
-    (λ u within. either_none (depends (instance_of e) u s) (sym (held_if _ (and_left _ _
-    (ne_eqb (in_neighbourhood (instance_of e) e.current s label) 0 (λ none. omega (arith, none, some))))))))
+none_left e s label n some = grind (arith, common_steps, first_none_from, either_none, held_if, and_left, ne_eqb)
 
 -- two machines in the order of their numbers
 

@@ -1,9 +1,10 @@
 -- What is found after an edit is what the edited draft breaks, or what it costs.
-use Rattle.std.proofs.Common.{◌≡◌, ℕ, ◌+◌, ◌-◌, ◌*◌, ◌^◌, ◌<◌, ◌≤◌, Bool, true, false, eqb, ◌&&◌, List, [], ◌∷◌}
+use Rattle.std.proofs.lemmas.Grind.{common_steps}
+use Rattle.std.proofs.Common.{◌≡◌, ℕ, ◌+◌, ◌-◌, ◌*◌, ◌^◌, ◌<◌, ◌≤◌, false, eqb, List, [], ◌∷◌}
 use Rattle.std.proofs.Common.{◌++◌, length, None, refl, sym, ap, ◌∙◌, subst, arith, eq-eqb}
 use Rattle.std.proofs.lemmas.Bool.{and_right}
 use Rattle.std.proofs.lemmas.Nat.{mul-lt}
-use Rattle.ra_base.specs.Sums.{greatest, one_if}
+use Rattle.ra_base.specs.Sums.{one_if}
 use Rattle.ra_base.proofs.Tables.{cell_is}
 use Rattle.std.proofs.lemmas.List.{get_or-append-add}
 use Rattle.ra_base.specs.declared.costs.Parts.{Parts}
@@ -97,16 +98,8 @@ has_other {d} p requirements sound within width same =
 come_asks : {d : Drafted} (s : Service) (m : Machine) (c : ℕ) (requirements : List ℕ) → IsSoundDraft d →
     length requirements ≡ resource_count d.origin → Asks (added d s m c requirements) (length d.rows) requirements
 unfolding added
-come_asks {d} s m c requirements sound width = record {
-  one_each = width;
-  each = λ r column.
-      cc (
-        requirement_read d.origin (d.rows ++ process_of s c ∷ []) (d.requirements ++ requirements) (length d.rows) r,
-        cell_is (resource_count d.origin) (d.requirements ++ requirements) (length d.rows) r,
-        (few_of sound).table,
-        get_or-append-add d.requirements requirements r 0,
-      );
-}
+come_asks {d} s m c requirements sound width =
+    grind (arith, common_steps, requirement_read, cell_is, few_of, get_or-append-add)
 
 other_asks : {d : Drafted} (p : ℕ) (requirements : List ℕ) → IsSoundDraft d → p < length d.rows →
     length requirements ≡ resource_count d.origin → Asks (resized d p requirements) p requirements
@@ -152,10 +145,7 @@ pub gone_broken : {d e : Drafted} {parts : Parts} {p s : ℕ} (label : ℕ) → 
     s ≡ service_of (instance_of d) p → label ≡ neighbourhood_of d.origin (machine_at d.current p) →
     broken_in e ≡ retired_breaks (instance_of e) e.current s label
 unfolding broken_in
-gone_broken {d} {e} {p} {s} label kept gone s_is label_is =
-    retired_law e d p s label gone.fewer kept.unbroken (sym s_is)
-    (rw gone.fewer.origin at (service_at kept.sound gone.there s_is))
-    (cc)
+gone_broken {d} {e} {p} {s} label kept gone s_is label_is = grind (arith, common_steps, retired_law, service_at)
 
 machines_less : (d : Drafted) (p : ℕ) → machine_count (retired d p).origin ≡ machine_count d.origin
 unfolding retired
@@ -172,10 +162,7 @@ pub other_broken : {d e : Drafted} {parts : Parts} {p home here : ℕ} → IsKep
     broken_in e ≡ resized_breaks (instance_of e) e.initial e.current home here
 unfolding broken_in
 other_broken {d} {e} {p} {home} {here} kept other home_is here_is =
-    resized_law (retired d p) d e p home here other.before other.after other.rows other.initial other.current
-    kept.unbroken (sym home_is) (sym here_is)
-    (omega (arith, home_is, in_range d d.initial p kept.sound.initial.in_range other.there, machines_less d p))
-    (omega (arith, here_is, in_range d d.current p kept.sound.current.in_range other.there, machines_less d p))
+    grind (arith, common_steps, resized_law, in_range, machines_less)
 
 -- what it costs
 
@@ -207,25 +194,7 @@ pub record HasParts (d : Drafted) (parts : Parts) : Type 0 where
 pub parts_told : {d : Drafted} {parts : Parts} → IsKeptDraft d parts → Small (instance_of d) → HasParts d parts
 unfolding parts_of
 parts_told {d} {parts} kept small =
-    let i = instance_of d in
-    let well = kept.sound.well_formed in
-    let load : parts.load ≡ load_cost i d.current = cc (kept.parts_are) in
-    let balance : parts.balance ≡ balance_cost i d.current = cc (kept.parts_are) in
-    let process : parts.process ≡ process_cost i d.initial d.current = cc (kept.parts_are) in
-    let service : parts.service ≡ service_cost i d.initial d.current = cc (kept.parts_are) in
-    let machine : parts.machine ≡ machine_cost i d.initial d.current = cc (kept.parts_are) in
-    record {
-      load = load;
-      balance = balance;
-      process = process;
-      service = service;
-      machine = machine;
-      load_small = omega (arith, load, load_under i d.current well small);
-      balance_small = omega (arith, balance, balance_under i d.current well small);
-      process_small = omega (arith, process, process_under i d.initial d.current well small);
-      service_small = omega (arith, service, service_under i d.initial d.current well small);
-      machine_small = omega (arith, machine, machine_under i d.initial d.current well small);
-    }
+    grind (arith, common_steps, load_under, balance_under, process_under, service_under, machine_under)
 
 pub moved_same : {d e : Drafted} {p : ℕ} (s : ℕ) → OneMore d e p → machine_at e.initial p ≡ machine_at e.current p →
     moved_of (instance_of e) e.initial e.current s ≡ moved_of (instance_of d) d.initial d.current s
@@ -239,13 +208,7 @@ service_same : {d e : Drafted} {p : ℕ} → OneMore d e p → machine_at e.init
     service_cost (instance_of e) e.initial e.current ≡ service_cost (instance_of d) d.initial d.current
 unfolding service_cost
 service_same {d} {e} more home =
-    let counts : greatest (service_count (instance_of e)) (moved_of (instance_of e) e.initial e.current) ≡
-    greatest (service_count (instance_of d)) (moved_of (instance_of d) d.initial d.current) =
-    greatest_same (service_count (instance_of e)) (moved_of (instance_of e) e.initial e.current)
-    (moved_of (instance_of d) d.initial d.current) (λ s s_in. moved_same s more home)
-    ∙ ap (λ n. greatest n (moved_of (instance_of d) d.initial d.current))
-    (with_both d e service_count more.origin services_with) in
-    rw (with_both d e service_weight_of more.origin service_weight_in, counts) refl
+    grind (arith, common_steps, greatest_same, moved_same, with_both, services_with, service_weight_in)
 
 process_same : {d e : Drafted} {p : ℕ} → OneMore d e p → machine_at e.initial p ≡ machine_at e.current p →
     process_cost (instance_of e) e.initial e.current ≡ process_cost (instance_of d) d.initial d.current
@@ -264,28 +227,7 @@ pub come_parts : {d e : Drafted} {cost : Parts} {s m w : ℕ} {before after : Ma
     w ≡ machine_weight_of d.origin * way_cost_of d.origin m m →
     parts_with l b cost.process cost.service (cost.machine + w) ≡ parts_of (instance_of e) e.initial e.current
 come_parts {d} {e} {cost} {m} {w} {after} l b well has come before_is after_is l_is b_is w_is =
-    let more = come.more in
-    let origin = more.origin in
-    let n = length d.rows in
-    let home : machine_at e.initial n ≡ machine_at e.current n = come.home ∙ sym come.here in
-    let after_load : after.load ≡ row_load d.origin m (use_of (instance_of e) e.current m) = cc (after_is.load) in
-    let after_balance : after.balance ≡ row_balance d.origin m (use_of (instance_of e) e.current m) =
-    cc (after_is.balance) in
-    let way : machine_cost (instance_of e) e.initial e.current ≡ machine_cost (instance_of d) d.initial d.current
-    + machine_weight_of d.origin * way_cost_of d.origin m m = cc (way_more more, come.home, come.here) in
-    parts_from e l b cost.process cost.service (cost.machine + w)
-    (omega (arith, l_is, has.load, before_is.load, after_load, load_more d e n m more come.here come.machine_in))
-    (omega (
-      arith,
-      b_is,
-      has.balance,
-      before_is.balance,
-      after_balance,
-      balance_more d e n m well more come.here come.machine_in,
-    ))
-    (has.process ∙ sym (process_same more home))
-    (has.service ∙ sym (service_same more home))
-    (omega (arith, has.machine, way, w_is))
+    grind (arith, common_steps, way_more, parts_from, load_more, balance_more, process_same, service_same)
 
 -- a process has gone: what it added to the process cost and to the machine cost
 pub gone_process : {d e : Drafted} {p : ℕ} → HasGone d e p → process_cost (instance_of d) d.initial d.current ≡
@@ -308,24 +250,7 @@ pub gone_parts : {d e : Drafted} {cost : Parts} {p m s : ℕ} {before after : Ma
     w ≡ cost.machine - machine_weight_of d.origin * way_cost_of d.origin (machine_at d.initial p)
     (machine_at d.current p) → parts_with l b q s w ≡ parts_of (instance_of e) e.initial e.current
 gone_parts {d} {e} {p} {m} {s} {before} l b q w well has gone here m_in before_is after_is l_is b_is q_is s_is w_is =
-    let origin = gone.fewer.origin in
-    let low_in = rw origin at m_in in
-    let before_load : before.load ≡ row_load e.origin m (use_of (instance_of d) d.current m) = cc (before_is.load) in
-    let before_balance : before.balance ≡ row_balance e.origin m (use_of (instance_of d) d.current m) =
-    cc (before_is.balance) in
-    parts_from e l b q s w
-    (omega (arith, l_is, has.load, before_load, after_is.load, load_more e d p m gone.fewer (sym here) low_in))
-    (omega (
-      arith,
-      b_is,
-      has.balance,
-      before_balance,
-      after_is.balance,
-      balance_more e d p m (subst WellFormed origin well) gone.fewer (sym here) low_in,
-    ))
-    (omega (arith, q_is, has.process, gone_process gone))
-    s_is
-    (omega (arith, w_is, has.machine, gone_way gone))
+    grind (arith, common_steps, parts_from, load_more, balance_more, gone_process, gone_way)
 
 -- a process requires something else
 

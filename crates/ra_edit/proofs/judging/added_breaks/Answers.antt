@@ -1,4 +1,6 @@
 -- What is found first is what the definition finds first.
+use Rattle.std.proofs.Common.{arith}
+use Rattle.std.proofs.lemmas.Grind.{common_steps}
 use Rattle.std.proofs.Common.{◌∙◌, sym}
 use Rattle.ra_edit.specs.Touched.{added_breaks}
 use Rattle.ra_edit.proofs.TestLaws.{found_first, found_later}
@@ -27,9 +29,4 @@ returns-in-Some-conflict_test c = λ d e origin has come used between.
 
 pub returns : goal.returns
 unfolding added_breaks
-returns c = λ d e origin has come used between.
-    found_later (sym (c.row_capacity.ensures e (come.more.origin ∙ origin) used) ∙ c.in_default.is)
-    (found_later (sym (c.row_transient.ensures e (come.more.origin ∙ origin) between)
-    ∙ c.in_default-row_transient.is)
-    (found_later (sym (c.conflict_test.ensures d e has come) ∙ c.in_default-conflict_test.is)
-    (c.far_needs.ensures d e origin has come)))
+returns c = λ d e origin has come used between. grind (arith, common_steps, found_later)

@@ -1,5 +1,6 @@
 -- None of the service is left, and of another one as many as before.
-use Rattle.std.proofs.Common.{◌∙◌, sym, arith}
+use Rattle.std.proofs.lemmas.Grind.{common_steps}
+use Rattle.std.proofs.Common.{arith}
 use Rattle.ra_edit.proofs.ScanLaws.{near_told}
 use Rattle.ra_edit.proofs.TestLaws.{left_some, left_none}
 use Rattle.ra_edit.proofs.judging.left_alone.Goals as goal
@@ -9,13 +10,7 @@ returns-then-u-s c = λ d e has left. left_none e c.args.s.0 c.args.label c.args
     (cc (c.if-u-s.true, left.none)) (omega arith)
 
 pub returns-then-at-gt0 : goal.returns-then-at-gt0
-returns-then-at-gt0 c = λ d e has left.
-    left_some e c.args.s.0 c.args.label c.args.u.0 c.at.result left.none
-    (near_told d d.current c.args.u.0 c.args.label (c.at.ensures d has)
-    ∙ sym (left.others c.args.u.0 c.if-u-s.false)) (omega (arith, c.if-at-gt0.true))
+returns-then-at-gt0 c = λ d e has left. grind (arith, common_steps, left_some, near_told)
 
 pub returns-else-at-gt0 : goal.returns-else-at-gt0
-returns-else-at-gt0 c = λ d e has left.
-    left_none e c.args.s.0 c.args.label c.args.u.0 c.at.result
-    (near_told d d.current c.args.u.0 c.args.label (c.at.ensures d has)
-    ∙ sym (left.others c.args.u.0 c.if-u-s.false)) (omega (arith, c.if-at-gt0.false))
+returns-else-at-gt0 c = λ d e has left. grind (arith, common_steps, left_none, near_told)

@@ -1,5 +1,6 @@
 -- One resource after another.
-use Rattle.std.proofs.Common.{◌≡◌, ◌<◌, ◌∙◌, sym, ap, arith}
+use Rattle.std.proofs.lemmas.Grind.{common_steps}
+use Rattle.std.proofs.Common.{◌<◌, ◌∙◌, sym, ap, arith}
 use Rattle.ra_base.proofs.Searches.{first_none, first_more_none, first_found}
 use Rattle.ra_model.specs.Numbers.{resource_count}
 use Rattle.ra_model.specs.Broken.{row_capacity}
@@ -11,11 +12,7 @@ pub loop-r-init : goal.loop-r-init
 loop-r-init c = λ e same has. first_none _
 
 pub loop-r-preserved : goal.loop-r-preserved
-loop-r-preserved c = λ e same has.
-    let column : c.loop-r.r < resource_count e.origin =
-    omega (arith, c.loop-r-test.true, c.resources-r-end.ensures, ap resource_count same) in
-    first_more_none c.loop-r.r _ (c.loop-r.invariant e same has)
-    (sym (c.capacity_test.ensures e same (has.each c.loop-r.r column)) ∙ c.in_default.is)
+loop-r-preserved c = λ e same has. grind (arith, common_steps, first_more_none)
 
 pub returns-in-Some : goal.returns-in-Some
 unfolding row_capacity
@@ -29,14 +26,4 @@ returns-in-Some c = λ e same has.
 
 pub returns : goal.returns
 unfolding row_capacity
-returns c = λ e same has.
-    let all : c.loop-r.r ≡ resource_count (instance_of e) =
-    omega (
-      arith,
-      c.loop-r-test.false,
-      c.loop-r.auto.r-end,
-      c.resources-r-end.ensures,
-      resources_with e,
-      ap resource_count same,
-    ) in
-    sym (rw all at (c.loop-r.invariant e same has))
+returns c = λ e same has. grind (arith, common_steps, resources_with)

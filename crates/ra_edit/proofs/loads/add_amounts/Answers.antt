@@ -6,17 +6,6 @@ use Rattle.ra_edit.proofs.loads.add_amounts.Goals as goal
 pub loop-r-init : goal.loop-r-init
 loop-r-init c = part_none _ _ _ _
 
-pub add_to_cell-requires : goal.add_to_cell-requires
-add_to_cell-requires c = record {
-  place = omega (arith, c.requires.place, c.loop-r-test.true, c.loop-r.invariant.same_length);
-  fits = omega (
-    arith,
-    c.loop-r.invariant.rest c.args.at.0 c.loop-r.r c.loop-r-test.true (omega arith),
-    c.requires.below.each c.args.at.0 c.loop-r.r c.loop-r-test.true,
-    c.type_inv.amounts c.loop-r.r,
-  );
-}
-
 pub loop-r-preserved : goal.loop-r-preserved
 loop-r-preserved c = part_raised c.args.width c.loop-r.r c.args.at.0 _ (slice_index c.args.amounts.now)
     c.args.table.now.items c.loop-r.table.items c.add_to_cell.new.table.items c.loop-r-test.true

@@ -9,15 +9,6 @@ loop-r-init c = part_none _ _ _ _
 pub read_cell-requires : goal.read_cell-requires
 read_cell-requires c = omega (arith, c.requires.place, c.loop-r-test.true, c.loop-r.invariant.same_length)
 
-pub overflow_sub-rest : goal.overflow_sub-rest
-overflow_sub-rest c = omega (
-  arith,
-  c.read_cell.ensures,
-  c.loop-r.invariant.rest c.args.at.0 c.loop-r.r c.loop-r-test.true (omega arith),
-  c.requires.enough c.loop-r.r c.loop-r-test.true,
-  c.from.ensures,
-)
-
 pub loop-r-preserved : goal.loop-r-preserved
 loop-r-preserved c =
     let enough : c.from.result ≤ c.read_cell.result =

@@ -1,4 +1,5 @@
 -- The number of its service has grown by one if the process has moved.
+use Rattle.std.proofs.lemmas.Grind.{common_steps}
 use Rattle.std.proofs.Common.{◌∙◌, sym, ◌+◌, length-set, arith}
 use Rattle.std.proofs.lemmas.Bool.{not-true, not-false}
 use Rattle.ra_check.proofs.MovedLaws.{adds_moved_one, adds_moved_stays}
@@ -40,7 +41,4 @@ returns-then-ne-clause-slots c =
     cc (c.change.ensures.counts, length-set c.args.moved.now.counts c.service_of-s.result.0 (c.count-count.result + 1))
 
 pub returns-else-ne-clause-counted : goal.returns-else-ne-clause-counted
-returns-else-ne-clause-counted c =
-    adds_moved_stays (tables_with c.args.inst.now.tables c.args.lists.now) c.args.lists.now.initial.items
-    c.args.lists.now.current.items c.args.p.0 c.args.moved.now.counts (rw
-    (c.machine_of.ensures, c.machine_of-2.ensures) at (not-false _ (sym c.ne.ensures ∙ c.if-ne.false)))
+returns-else-ne-clause-counted c = grind (arith, common_steps, adds_moved_stays, not-false)

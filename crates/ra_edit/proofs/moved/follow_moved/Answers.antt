@@ -1,4 +1,6 @@
 -- Each kind of edit by itself.
+use Rattle.std.proofs.Common.{arith}
+use Rattle.std.proofs.lemmas.Grind.{common_steps}
 use Rattle.std.proofs.Common.{◌≡◌, ℕ, ⊎_elim}
 use Rattle.ra_base.specs.declared.ids.Machine.{Machine}
 use Rattle.ra_base.specs.declared.ids.Service.{Service}
@@ -16,11 +18,7 @@ returns-in-Add c = λ e asked edited.
     followed_other c.requires.moved (rw resized.1 at edited).0) c.in-Add.is
 
 pub follow_retired-requires : goal.follow_retired-requires
-follow_retired-requires c = record {
-  sound = c.requires.sound;
-  moved = c.requires.moved;
-  process = (free_retire _ _ (rw c.in-Retire.is at c.requires.free)).0;
-}
+follow_retired-requires c = grind (arith, common_steps, free_retire)
 
 pub returns-in-Retire : goal.returns-in-Retire
 returns-in-Retire c = rw c.in-Retire.is (λ e asked gone. c.follow_retired.ensures e gone)

@@ -1,38 +1,22 @@
 -- The counts begin as zeros, and each process is counted for its service.
-use Rattle.std.proofs.Common.{◌≡◌, ◌<◌, length, arith}
+use Rattle.std.proofs.lemmas.Grind.{common_steps}
+use Rattle.std.proofs.Common.{◌≡◌, length, arith}
 use Rattle.std.proofs.lemmas.List.{length-replicate}
 use Rattle.ra_check.proofs.MovedLaws.{moved_start, moved_next}
 use Rattle.ra_edit.proofs.MovedLaws.{moved_under, moved_counted}
 use Rattle.ra_edit.proofs.moved.moved_counts.Goals as goal
 
 pub loop-p-init : goal.loop-p-init
-loop-p-init c = record {
-  counted = moved_start _ _ _ _ _ c.in_ok-moved.ensures.counts;
-  slots = grind (arith, length-replicate, c.in_ok-moved.ensures.counts);
-  limit = c.in_ok-moved.ensures.limit;
-}
+loop-p-init c = grind (arith, common_steps, moved_start, length-replicate)
 
 pub count_moved-requires-clause-below : goal.count_moved-requires-clause-below
-count_moved-requires-clause-below c =
-    let under : c.loop-p.p < c.loop-p.moved.limit =
-    omega (
-      arith,
-      c.loop-p-test.true,
-      c.processes-p-end.ensures.value,
-      c.requires.few,
-      c.loop-p.invariant.limit,
-    ) in
-    moved_under under c.loop-p.invariant.counted
+count_moved-requires-clause-below c = grind (arith, common_steps, moved_under)
 
 pub count_moved-requires-clause-few : goal.count_moved-requires-clause-few
 count_moved-requires-clause-few c = omega (arith, c.loop-p.invariant.limit, c.args.inst.now.well_formed.few_processes)
 
 pub loop-p-preserved : goal.loop-p-preserved
-loop-p-preserved c = record {
-  counted = moved_next _ _ _ c.loop-p.p _ _ c.loop-p.invariant.counted c.count_moved.ensures.counted;
-  slots = omega arith;
-  limit = omega arith;
-}
+loop-p-preserved c = grind (arith, common_steps, moved_next)
 
 pub returns : goal.returns
 returns c =

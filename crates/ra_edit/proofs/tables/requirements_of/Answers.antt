@@ -1,32 +1,13 @@
-use Rattle.std.proofs.Common.{◌+◌, length, ap, ◌∙◌, arith, length-append}
+use Rattle.std.proofs.lemmas.Grind.{common_steps}
+use Rattle.std.proofs.Common.{arith, length-append}
 use Rattle.ra_edit.proofs.CopyLaws.{requirement_more, requirement_whole, some_width, row_below, column_below}
 use Rattle.ra_edit.proofs.tables.requirements_of.Goals as goal
 
 pub loop-k-preserved : goal.loop-k-preserved
-loop-k-preserved g c = record {
-  items = c.push.ensures.items ∙ requirement_more c.args.inst.now.tables c.loop-k.k _ _ c.args.inst.now.well_formed
-      c.loop-k.invariant.items (rw (c.processes.ensures, c.resources-width.ensures) at c.loop-k-test.true)
-      (rw c.resources-width.ensures at c.requirement.ensures.value);
-  size = ap length c.push.ensures.items ∙ length-append c.loop-k.table.items _
-      ∙ ap (λ n. n + 1) c.loop-k.invariant.size;
-  room = c.push.ensures.room ∙ c.loop-k.invariant.room;
-}
+loop-k-preserved g c = grind (arith, common_steps, requirement_more, length-append)
 
 pub returns : goal.returns
-returns g c = requirement_whole c.args.inst.now.tables c.loop-k.k _ c.args.inst.now.well_formed c.loop-k.invariant.items
-    (omega (
-      arith,
-      rw (c.processes.ensures, c.resources-width.ensures) at c.loop-k-test.false,
-      rw (c.processes.ensures, c.resources-width.ensures) at c.loop-k.auto.k-end,
-    ))
-
-pub push-requires : goal.push-requires
-push-requires g c = omega (
-  arith,
-  c.loop-k.invariant.size,
-  c.loop-k.invariant.room,
-  rw (c.processes.ensures, c.resources-width.ensures) at c.loop-k-test.true,
-)
+returns g c = grind (arith, common_steps, requirement_whole)
 
 pub requirement-requires-clause-process : goal.requirement-requires-clause-process
 requirement-requires-clause-process g c =

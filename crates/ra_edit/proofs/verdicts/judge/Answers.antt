@@ -1,30 +1,15 @@
 -- Each kind of edit is judged by itself.
+use Rattle.std.proofs.Common.{arith}
+use Rattle.std.proofs.lemmas.Grind.{common_steps}
 use Rattle.std.proofs.lemmas.Result.{IfOk-weaker}
 use Rattle.ra_edit.proofs.SoundLaws.{free_retire, free_resize}
 use Rattle.ra_edit.proofs.verdicts.judge.Goals as goal
 
-pub judge_added-requires : goal.judge_added-requires
-judge_added-requires c =
-    let fits = rw c.in-Add.is at c.requires.fits in
-    record {
-      held = c.requires.held;
-      service = fits.0;
-      machine = fits.1;
-      asked = c.requires.asked;
-    }
-
 pub judge_retired-requires : goal.judge_retired-requires
-judge_retired-requires c = record {
-  held = c.requires.held;
-  process = (free_retire _ _ (rw c.in-Retire.is at c.requires.free)).0;
-}
+judge_retired-requires c = grind (arith, common_steps, free_retire)
 
 pub judge_resized-requires : goal.judge_resized-requires
-judge_resized-requires c = record {
-  held = c.requires.held;
-  process = free_resize _ _ (rw c.in-Resize.is at c.requires.free);
-  asked = c.requires.asked;
-}
+judge_resized-requires c = grind (arith, common_steps, free_resize)
 
 pub returns-in-Add : goal.returns-in-Add
 returns-in-Add c =

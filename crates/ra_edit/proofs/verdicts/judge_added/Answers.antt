@@ -30,14 +30,6 @@ row_with-requires-2 c = record {
       (λ r. transient_under _ _ _ c.args.m.0 r c.requires.held.kept.sound.well_formed c.small.ensures);
 }
 
-pub added_breaks-requires : goal.added_breaks-requires
-added_breaks-requires c = record {
-  service = c.requires.service;
-  machine = c.requires.machine;
-  used = rw c.as_slice.ensures (c.in_ok-used.ensures.one_each ∙ c.use_row.ensures.one_each);
-  between = rw c.as_slice-2.ensures (c.in_ok-between.ensures.one_each ∙ c.transient_row.ensures.one_each);
-}
-
 -- the row of its machine after the edit, and what is broken then
 used_row : (c : After-added_breaks) → (e : Drafted) → HasCome (draft_in c.args.kept.now) e c.args.s.0 c.args.m.0 →
     Asks e (length c.args.kept.now.lists.rows.items) c.args.asked.now → IsUseRow e c.args.m.0 c.as_slice.result.now
@@ -58,14 +50,6 @@ broken_then c e come asks =
 
 pub returns-in-Some : goal.returns-in-Some
 returns-in-Some c = λ e come asks. broken_then (goal.at.returns-in-Some c).After-added_breaks e come asks ∙ c.in-Some.is
-
-pub costs_with-costs-requires : goal.costs_with-costs-requires
-costs_with-costs-requires c = record {
-  kept = c.requires.held.kept;
-  loads = c.requires.held.loads_are;
-  machine = c.requires.machine;
-  one_each = rw c.as_slice-3.ensures (c.in_ok-used.ensures.one_each ∙ c.use_row.ensures.one_each);
-}
 
 pub overflow_add-kept : goal.overflow_add-kept
 overflow_add-kept c = omega (

@@ -1,3 +1,5 @@
+use Rattle.std.proofs.Common.{arith}
+use Rattle.std.proofs.lemmas.Grind.{common_steps}
 use Rattle.std.proofs.Common.{◌≡◌, length, refl, ap, sym, ◌∙◌}
 use Rattle.ra_edit_read.specs.EditLists.{edit_at, row_of}
 use Rattle.ra_edit.specs.declared.replies.EditReply.TheVariants.{Done, Broken}
@@ -25,13 +27,7 @@ returns-in-Some-clause-after c =
     (c.edit-edit.ensures, c.barred.ensures, c.in-Some.is)))
 
 pub judge-requires : goal.judge-requires
-judge-requires c = record {
-  held = c.self.invariant;
-  free = sym c.barred.ensures ∙ c.in_default.is;
-  fits = next_fits c.args.i c.self.view_is c.requires.fits c.requires.edit c.edit-edit.ensures;
-  asked = next_width c.requirements_of-asked.result.now c.self.view_is
-      c.requires.fits c.requirements_of-asked.ensures.one_each;
-}
+judge-requires c = grind (arith, common_steps, next_fits, next_width)
 
 -- the edit breaks a constraint: what is answered, and what is left
 refused : (c : In-Refused) → let d = draft_in c.self.inside.kept in
@@ -50,49 +46,16 @@ pub returns-in-Refused-clause-after : goal.returns-in-Refused-clause-after
 returns-in-Refused-clause-after c = rw c.self.view_is at (refused c).1
 
 pub follow-requires : goal.follow-requires
-follow-requires c = record {
-  sound = c.self.invariant.kept.sound;
-  members = c.self.invariant.members_are;
-  free = sym c.barred.ensures ∙ c.in_default.is;
-  fits = next_fits c.args.i c.self.view_is c.requires.fits c.requires.edit c.edit-edit.ensures;
-}
+follow-requires c = grind (arith, common_steps, next_fits)
 
 pub follow-requires-in-Fine : goal.follow-requires-in-Fine
-follow-requires-in-Fine c = record {
-  sound = c.self.invariant.kept.sound;
-  loads = c.self.invariant.loads_are;
-  free = sym c.barred.ensures ∙ c.in_default.is;
-  fits = next_fits c.args.i c.self.view_is c.requires.fits c.requires.edit c.edit-edit.ensures;
-  asked = next_width c.requirements_of-asked.result.now c.self.view_is
-      c.requires.fits c.requirements_of-asked.ensures.one_each;
-}
+follow-requires-in-Fine c = grind (arith, common_steps, next_fits, next_width)
 
 pub follow_moved-requires : goal.follow_moved-requires
-follow_moved-requires c = record {
-  sound = c.self.invariant.kept.sound;
-  moved = c.self.invariant.moved_are;
-  free = sym c.barred.ensures ∙ c.in_default.is;
-}
+follow_moved-requires c = grind (arith, common_steps)
 
 pub edit-requires : goal.edit-requires
-edit-requires c = record {
-  sound = c.self.invariant.kept.sound;
-  room = c.self.invariant.room;
-  free = sym c.barred.ensures ∙ c.in_default.is;
-  width = next_width c.requirements_of-asked.result.now c.self.view_is
-      c.requires.fits c.requirements_of-asked.ensures.one_each;
-}
-
--- no memory for what is counted: nothing is changed
-pub invariant_of-self : goal.invariant_of-self
-invariant_of-self c = record {
-  kept = c.self.invariant.kept;
-  loads_are = c.self.invariant.loads_are;
-  members_are = c.in_err-follow-in-Fine.ensures.memory;
-  topology_is = c.self.invariant.topology_is;
-  moved_are = c.self.invariant.moved_are;
-  room = c.self.invariant.room;
-}
+edit-requires c = grind (arith, common_steps, next_width)
 
 -- the edit is done: the lists that are kept then are those of what it makes
 abbrev next : goal.After-parts-in-Fine-1 → Drafted

@@ -1,5 +1,6 @@
 -- Only the processes and what they require are other lists.
-use Rattle.std.proofs.Common.{refl}
+use Rattle.std.proofs.Common.{arith}
+use Rattle.std.proofs.lemmas.Grind.{common_steps}
 use Rattle.ra_model.specs.Numbers.{machine_count, closed_at, with_processes as processes_replaced}
 use Rattle.ra_model.specs.declared.raw.Tables.{Tables}
 use Rattle.ra_edit.specs.declared.edited.Left.{Left}
@@ -13,24 +14,7 @@ use Rattle.ra_edit.proofs.edited.Edited.of.Goals as goal
 same_lists : (i : Tables) (l : Left) →
     AreSameLists (instance_of (left_in i l)) (processes_replaced i l.rows l.requirements)
 unfolding with_process_rows closed_at machine_count
-same_lists i l = record {
-  lists = record {
-    resources = refl;
-    machines = refl;
-    capacities = refl;
-    safeties = refl;
-    move_costs = refl;
-    services = refl;
-    dependencies = refl;
-    processes = refl;
-    requirements = refl;
-    balances = refl;
-    process_weight = refl;
-    service_weight = refl;
-    machine_weight = refl;
-  };
-  closed = λ m within. refl;
-}
+same_lists i l = grind (arith, common_steps)
 
 pub with_processes-requires : goal.with_processes-requires
 with_processes-requires c = same_well (instance_of (left_in c.args.instance.tables c.args.left)) _

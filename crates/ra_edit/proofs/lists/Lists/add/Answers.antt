@@ -1,4 +1,4 @@
-use Rattle.std.proofs.Common.{◌∙◌, arith}
+use Rattle.std.proofs.Common.{arith}
 use Rattle.ra_edit.specs.Keeping.{drafted}
 use Rattle.ra_edit.proofs.SoundLaws.{few_of}
 use Rattle.ra_edit.proofs.ListLaws.{row_fits}
@@ -22,11 +22,3 @@ pub returns-clause-lists : goal.returns-clause-lists
 returns-clause-lists c = added_is (drafted c.args.inst.now.tables c.args.self.now) c.args.row c.args.machine
     c.args.requirements.now c.push.ensures.items c.extend_from_slice.ensures.items c.push-2.ensures.items
     c.push-3.ensures.items
-
-pub returns-clause-room : goal.returns-clause-room
-returns-clause-room c = record {
-  rows = c.push.ensures.room ∙ c.requires.room.rows;
-  requirements = c.extend_from_slice.ensures.room ∙ c.requires.room.requirements;
-  initial = c.push-2.ensures.room ∙ c.requires.room.initial;
-  current = c.push-3.ensures.room ∙ c.requires.room.current;
-}

@@ -1,4 +1,4 @@
-use Rattle.std.proofs.Common.{◌*◌, ◌∙◌}
+use Rattle.std.proofs.Common.{◌*◌}
 use Rattle.ra_edit.specs.Keeping.{drafted}
 use Rattle.ra_edit.proofs.SoundLaws.{few_of}
 use Rattle.ra_edit.proofs.ListLaws.{part_within}
@@ -13,11 +13,3 @@ pub returns-clause-lists : goal.returns-clause-lists
 returns-clause-lists c = resized_is (drafted c.args.inst.now.tables c.args.self.now) c.args.process
     (c.args.process * c.resources.result) c.args.requirements.now _ (cc (c.resources.ensures))
     c.requires.width c.write.ensures.items
-
-pub returns-clause-room : goal.returns-clause-room
-returns-clause-room c = record {
-  rows = c.requires.room.rows;
-  requirements = c.write.ensures.room ∙ c.requires.room.requirements;
-  initial = c.requires.room.initial;
-  current = c.requires.room.current;
-}

@@ -1,4 +1,4 @@
-use Rattle.std.proofs.Common.{◌≡◌, ◌*◌, ◌<◌, length, ◌∙◌, arith}
+use Rattle.std.proofs.Common.{◌≡◌, ◌*◌, ◌<◌, length, arith}
 use Rattle.ra_edit.specs.Editing.{process_of}
 use Rattle.ra_edit.specs.Keeping.{drafted}
 use Rattle.ra_edit.proofs.SoundLaws.{few_of, initial_read, current_read}
@@ -32,11 +32,3 @@ returns-clause-lists c =
     (omega (arith, c.requires.process, c.len-last.ensures.value)) c.swap_remove_part.ensures.items)
     c.resources-width.ensures c.len-last.ensures.value (c.swap_remove-2.ensures.items (record { 0 = 0 }))
     (c.swap_remove-3.ensures.items (record { 0 = 0 }))
-
-pub returns-clause-room : goal.returns-clause-room
-returns-clause-room c = record {
-  rows = c.swap_remove.ensures.room ∙ c.requires.room.rows;
-  requirements = c.swap_remove_part.ensures.room ∙ c.requires.room.requirements;
-  initial = c.swap_remove-2.ensures.room ∙ c.requires.room.initial;
-  current = c.swap_remove-3.ensures.room ∙ c.requires.room.current;
-}

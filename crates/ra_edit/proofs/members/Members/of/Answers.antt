@@ -1,13 +1,6 @@
 -- Nothing is counted at first, and then each process.
-use Rattle.std.proofs.Common.{◌≡◌, length, arith}
 use Rattle.ra_edit.proofs.MemberLaws.{members_none}
 use Rattle.ra_edit.proofs.members.Members.of.Goals as goal
 
 pub loop-p-init : goal.loop-p-init
 loop-p-init c = members_none c.new.ensures c.new-2.ensures c.in_ok-make.ensures.empty c.in_ok-make.ensures.numbered
-
-pub returns : goal.returns
-returns c =
-    let all : c.loop-p.p ≡ length c.args.lists.now.rows.items =
-    omega (arith, c.loop-p-test.false, c.loop-p.auto.p-end, c.processes-p-end.ensures.value) in
-    rw all at c.loop-p.invariant
