@@ -70,6 +70,7 @@ labels_few (suc n) size f at within none =
     (within n)
     (λ x x_in apart. ap (ltb 0) (omega (arith, total_suc n (λ p. f p x), none n x apart))) in
     omega (arith, changed, labels_few n size f at within none, one_most (ltb 0 (total (suc n) (λ p. f p (at n)))))
+
 -- the numbers kept
 
 pub numbered_none : {services : ℕ} {locations : Locations} → locations.numbers.items ≡ replicate services 0 →
